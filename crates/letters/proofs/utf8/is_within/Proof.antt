@@ -1,0 +1,20 @@
+use Rattle.base.specs.Pick.{and}
+use mathlib.Core.Path.{refl}
+use borrow.Author.Tests.{le-leb}
+use Rattle.letters.specs.Utf8.{within}
+use Rattle.base.specs.Pick.{cases}
+use Rattle.letters.proofs.utf8.is_within.Statement.{statement}
+use Rattle.letters.proofs.utf8.is_within.Tie as tie
+use Rattle.letters.proofs.utf8.is_within.Reads as reads
+use Rattle.letters.proofs.utf8.is_within.Lts as lts
+
+returns : tie.Need-returns
+unfolding within and
+returns c = rw (le-leb _ _ (c .if1 .taken)) refl
+
+returns-2 : tie.Need-returns-2
+unfolding within
+returns-2 c = search cases
+
+pub is-within-spec : {M : Type 1} → statement M
+is-within-spec = tie.close (tie.spec returns returns-2)
