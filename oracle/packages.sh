@@ -5,7 +5,7 @@ say() {
     echo "oracle: $*" >&2
 }
 
-# Those of the commands that are not there; each is in a package of its name.
+# Those of the commands that are not there.
 lacking() {
     for name; do
         command -v "$name" >/dev/null || echo "$name"

@@ -356,7 +356,8 @@ def first_match(held, word, place):
 # ---------------------------------------------------------------------------------------------------
 
 Guess = namedtuple("Guess", "accept mask written pattern")
-Pattern = namedtuple("Pattern", "first pieces last")    # a piece: its characters, and whether negated
+# a piece: its characters, and whether negated; needed: the characters without which nothing can match
+Pattern = namedtuple("Pattern", "first pieces last needed")
 NO_PIECE = frozenset("\\.+*?()|[]{}^$")
 NOT_IN_BOX = NO_PIECE | frozenset("-&~")
 
@@ -400,7 +401,9 @@ def guessing_pattern(written):
         raise Refusal(15)
     first = written.startswith("^")
     last = written[first:].endswith("$")
-    return Pattern(first, pieces_of(written[first:len(written) - last]), last)
+    pieces = pieces_of(written[first:len(written) - last])
+    needed = frozenset(listed for listed, negated in pieces if len(listed) == 1 and not negated)
+    return Pattern(first, pieces, last, needed)
 
 
 def stands_at(pattern, name, place):
@@ -429,8 +432,9 @@ def guess(pack, name):
     """01, Spelling, 1: "start with all listed, intersect or subtract for each matching rule in order;
     nothing left means Any"."""
     left = (1 << len(pack.names)) - 1
+    there = set(name)
     for rule in pack.guesses:
-        if guess_matches(rule.pattern, name):
+        if rule.pattern.needed <= there and guess_matches(rule.pattern, name):
             left = left & rule.mask if rule.accept else left & ~rule.mask
     return left if left else ANY
 
@@ -1099,9 +1103,12 @@ def text_of(field):
 
 
 def number_of(field, largest=MOST):
-    if re.fullmatch("[0-9]+", field) is None or int(field) > largest:
+    if re.fullmatch("0*[0-9]{1,10}", field) is None:
         raise NotACase
-    return int(field)
+    number = int(field[-10:])
+    if number > largest:
+        raise NotACase
+    return number
 
 
 def set_of(field):
@@ -1185,6 +1192,9 @@ class Cases:
     def on_order(self, one, other):
         return order(bytes_of(one), bytes_of(other))
 
+    def on_same(self, one, other):
+        return "%d" % (bytes_of(one) == bytes_of(other))
+
     def on_narrow(self, languages, by):
         return shown_set(narrow(set_of(languages), set_of(by)))
 
@@ -1193,6 +1203,12 @@ class Cases:
 
     def on_empty(self, languages):
         return "%d" % is_empty(set_of(languages))
+
+    def on_singleton(self, languages):
+        return "%d" % (single(set_of(languages)) is not None)
+
+    def on_subtract(self, bits, less):
+        return str(number_of(bits) & ~number_of(less))
 
     def on_single(self, languages):
         return shown_place(single(set_of(languages)))

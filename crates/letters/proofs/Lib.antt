@@ -3,3 +3,4 @@ pub mod Utf8Laws
 pub mod ReadingLaws
 pub mod LowerLaws
 pub mod CodeOrder
+pub mod CodesLaws

@@ -13,6 +13,7 @@ use lib.Seq.{sets, length-sets}
 use borrow.Author.Tests.{lt-ltb, le-ltb, le-leb, lt-leb}
 use Rattle.base.specs.Pick.{pick, pick-true, pick-false}
 use Rattle.base.proofs.Table.{at}
+use Rattle.base.proofs.One.{one as one-of}
 use Rattle.base.proofs.Stores.{sets-then}
 use Rattle.letters.specs.Utf8.{decodeAt, encode}
 use Rattle.letters.specs.Reading.{Piece, letter, stray, piecesOf}
@@ -223,3 +224,7 @@ no-room s out h =
     record { result = sym (pick-false _ _ _ f); buffer = sym (pick-false _ _ _ f) }
 
 pub ruleset lowering-laws = (lowering-start, lowering-room, lowering-four, lowering-on, lowering-ill, lowering-less, lowering-in, lowering-in-out, lowering-done, no-room)
+
+-- the promise of `lower_into` allows one answer and one buffer
+pub lowered-one : {s out o o′ : List ℕ} {r r′ : Lowered} → LoweredInto s out r o → LoweredInto s out r′ o′ → (r ≡ r′) × (o ≡ o′)
+lowered-one a b = (one-of (a .result) (b .result), one-of (a .buffer) (b .buffer))

@@ -10,7 +10,7 @@ use lib.Dec.{eqb}
 use lib.ListN.{length, drop, getD, drop-of-length-le}
 use lib.Seq.{drop-cons}
 use borrow.Author.Tests.{lt-ltb, le-ltb, eq-eqb, ne-eqb}
-use Rattle.base.specs.Pick.{pick, and}
+use Rattle.base.specs.Pick.{pick, and, and-no}
 use Rattle.letters.specs.Order.{orderOf, sameText}
 use Rattle.letters.specs.declared.order.Order.{Order}
 use Rattle.letters.specs.declared.order.Order.the-variants.{Less, Equal, Greater}
@@ -67,17 +67,12 @@ unfolding sameText and
 same-refl [] = refl
 same-refl (x ∷ xs) = rw (eq-eqb x x refl) (same-refl xs)
 
-and-false : (t u : Bool) → false ≡ u → false ≡ and t u
-unfolding and
-and-false true u e = e
-and-false false u e = refl
-
 pub same-not : (a b : List ℕ) → (length a ≡ length b → ⊥) → false ≡ sameText a b
 unfolding sameText
 same-not [] [] n = absurd (n refl)
 same-not [] (y ∷ ys) n = refl
 same-not (x ∷ xs) [] n = refl
-same-not (x ∷ xs) (y ∷ ys) n = and-false (eqb x y) (sameText xs ys) (same-not xs ys (λ e. n (ap suc e)))
+same-not (x ∷ xs) (y ∷ ys) n = and-no (eqb x y) (sameText xs ys) (same-not xs ys (λ e. n (ap suc e)))
 
 module _ {a b : List ℕ} {i : ℕ} (c : Left Bool sameText a b i) where
   pub same-next : i < length a → length a ≡ length b → getD a i 0 ≡ getD b i 0 → Left Bool sameText a b (i + 1)

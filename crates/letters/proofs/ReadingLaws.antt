@@ -31,7 +31,7 @@ past-end s p (Char k n) e h = let w = char-at s p k n e in absurd (omega arith)
 past-end s p Ill e h = let w = ill-in s p e in absurd (omega arith)
 past-end s p End e h = end e
 
-pieces-from : (f : ℕ) (s : List ℕ) (p : ℕ) → length s - p ≤ f → Pieces s p (piecesFrom f s p)
+pub pieces-from : (f : ℕ) (s : List ℕ) (p : ℕ) → length s - p ≤ f → Pieces s p (piecesFrom f s p)
 unfolding piecesFrom
 pieces-from zero s p h = past-end s p (decodeAt s p) refl (omega arith)
 pieces-from (suc f) s p h = pieces-by s p (decodeAt s p) f refl h (λ q g. pieces-from f s q g)

@@ -23,7 +23,6 @@ pub mod error {
         Space,
         Eof,
         MapOpt,
-        Alt,
     }
     #[derive(Debug, Clone, PartialEq, Eq)]
     pub struct Error<I> {

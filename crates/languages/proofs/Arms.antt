@@ -1,0 +1,8 @@
+-- A function of sets at an arm of a `match`: the arm knows which sets they are. Assumes nothing.
+use mathlib.Core.Path.{_≡_}
+
+pub told : {A B : Type 0} (f : A → B) (a a′ : A) (x : B) → a ≡ a′ → x ≡ f a′ → x ≡ f a
+told f a a′ x p e = rw p e
+
+pub told-both : {A B C : Type 0} (f : A → B → C) (a a′ : A) (b b′ : B) (x : C) → b ≡ b′ → a ≡ a′ → x ≡ f a′ b′ → x ≡ f a b
+told-both f a a′ b b′ x q p e = rw (p, q) e

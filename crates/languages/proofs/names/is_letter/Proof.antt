@@ -1,0 +1,17 @@
+use Rattle.languages.specs.Names.{isLetter}
+use Rattle.base.specs.Pick.{cases}
+use Rattle.languages.proofs.names.is_letter.Statement.{statement}
+use Rattle.languages.proofs.names.is_letter.Tie as tie
+use Rattle.languages.proofs.names.is_letter.Reads as reads
+use Rattle.languages.proofs.names.is_letter.Lts as lts
+
+returns : tie.Need-returns
+unfolding isLetter
+returns c = search cases
+
+returns-2 : tie.Need-returns-2
+unfolding isLetter
+returns-2 c = search cases
+
+pub is-letter-spec : {M : Type 1} → statement M
+is-letter-spec = tie.close (tie.spec returns returns-2)

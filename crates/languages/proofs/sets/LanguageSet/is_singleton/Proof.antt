@@ -1,0 +1,32 @@
+use Rattle.languages.proofs.Arms.{told}
+use Rattle.languages.specs.Sets.{isSingle}
+use borrow.Author.Needs.{needs}
+use Rattle.languages.proofs.sets.LanguageSet.is_singleton.Statement.{statement}
+use Rattle.languages.proofs.sets.LanguageSet.is_singleton.Tie as tie
+use Rattle.languages.proofs.sets.LanguageSet.is_singleton.Reads as reads
+use Rattle.languages.proofs.sets.LanguageSet.is_singleton.Lts as lts
+
+enum-told : tie.Need-enum-told
+enum-told c = search needs
+
+enum-told-2 : tie.Need-enum-told-2
+enum-told-2 c = search needs
+
+enum-known-self : tie.Need-enum-known-self
+enum-known-self c = search needs
+
+returns : tie.Need-returns
+unfolding isSingle
+returns c = search (told isSingle)
+
+returns-2 : tie.Need-returns-2
+unfolding isSingle
+returns-2 c = search (told isSingle)
+
+returns-3 : tie.Need-returns-3
+unfolding isSingle
+returns-3 c = search (told isSingle)
+
+pub is-singleton-spec : {M : Type 1} → statement M
+is-singleton-spec =
+    tie.close (tie.spec enum-told enum-told-2 enum-known-self returns returns-2 returns-3)

@@ -1,0 +1,58 @@
+-- Language names, and the bit of a listed one (01, Language sets; Bundle and pack).
+use Prim.Native.Nat.{ℕ, zero, suc, _+_, _-_, _^_, min}
+use mathlib.Core.Bool.{Bool, true, false}
+use mathlib.Core.List.{List, [], _∷_}
+use lib.Dec.{ltb, leb}
+use lib.ListN.{length, getD, take, drop}
+use Rattle.base.specs.Pick.{pick, and}
+use Rattle.letters.specs.Order.{sameText}
+use Rattle.languages.specs.declared.names.Listed.{Listed}
+use Rattle.languages.specs.declared.names.Listed.the-variants.{Bit, Unlisted}
+use Rattle.languages.specs.declared.names.Next.{Next}
+use Rattle.languages.specs.declared.names.Next.the-variants.{Whole, Cut}
+
+-- a letter `a` to `z`
+unfoldable pub isLetter : ℕ → Bool
+isLetter b = and (leb 97 b) (leb b 122)
+
+unfoldable pub allLetters : List ℕ → Bool
+allLetters [] = true
+allLetters (b ∷ t) = and (isLetter b) (allLetters t)
+
+-- the bytes of `common`
+abbrev pub common : List ℕ
+common = 99 ∷ 111 ∷ 109 ∷ 109 ∷ 111 ∷ 110 ∷ []
+
+-- names are 1 to 24 letters `a` to `z`, but not `common` (01, Language sets)
+unfoldable pub languageName : List ℕ → Bool
+languageName t = and (leb 1 (length t)) (and (leb (length t) 24) (pick (sameText t common) false (allLetters t)))
+
+-- strings follow their length byte (01, Bundle and pack), one after the other; one that is cut off ends the list
+unfoldable pub strings : ℕ → List ℕ → List (List ℕ)
+strings zero s = []
+strings (suc fuel) [] = []
+strings (suc fuel) (n ∷ s) = pick (leb n (length s)) (take n s ∷ strings fuel (drop n s)) []
+
+-- each string takes a byte or more, so the length is fuel enough
+unfoldable pub stringsOf : List ℕ → List (List ℕ)
+stringsOf s = strings (length s) s
+
+-- how many strings stand before the first that is the name: all of them, where none is
+unfoldable pub namePlace : List ℕ → List (List ℕ) → ℕ
+namePlace name [] = 0
+namePlace name (t ∷ ts) = pick (sameText t name) 0 (suc (namePlace name ts))
+
+-- the bit of a place, where there are so many
+unfoldable pub bitAt : ℕ → ℕ → Listed
+bitAt place places = pick (ltb place places) (Bit (2 ^ place)) Unlisted
+
+-- at most 32 listed languages, kept as a bit each, lowest bit for the first name (01, Language sets)
+unfoldable pub languageBit : List ℕ → List ℕ → Listed
+languageBit s name = bitAt (namePlace name (stringsOf s)) (min 32 (length (stringsOf s)))
+
+-- where the string at a place starts and ends
+unfoldable pub stringAt : List ℕ → ℕ → Next
+stringAt s at =
+    pick (ltb at (length s))
+    (pick (leb (getD s at 0) (length s - (at + 1))) (Whole (at + 1) (at + 1 + getD s at 0)) Cut)
+    Cut

@@ -1,0 +1,10 @@
+// Language sets and language names (`languages.rs`).
+mod names;
+mod sets;
+
+pub use names::Listed;
+pub use names::find_language;
+pub use names::is_language_name;
+pub use sets::LanguageSet;
+pub use sets::Single;
+pub use sets::subtract;

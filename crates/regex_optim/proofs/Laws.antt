@@ -1,0 +1,326 @@
+-- A law for each way that the code can go, and what the forms are made of. Assumes nothing.
+use mathlib.Core.Path.{_≡_, refl, sym, ap, ap₂, _∙_}
+use mathlib.Core.Bool.{Bool, true, false, not}
+use mathlib.Core.List.{List, [], _∷_, _++_}
+use Prim.Native.Nat.{ℕ, zero, suc, _+_, _-_, _≤_, _<_, zero-le}
+use native.Mathlib.Nat.{sub-zero}
+use native.Mathlib.Omega.{arith}
+use lib.Dec.{eqb, ltb, eqb·suc-zero}
+use lib.ListN.{length, getD, take, drop}
+use lib.Seq.{take-length}
+use borrow.Author.Tests.{lt-ltb, le-ltb, eq-eqb, ne-eqb}
+use Rattle.base.specs.Pick.{pick, and, pick-true, pick-false}
+use Rattle.letters.specs.Utf8.{decodeAt}
+use Rattle.letters.specs.Reading.{codesOf}
+use Rattle.letters.specs.Order.{sameText}
+use Rattle.letters.specs.declared.utf8.Step.{Step}
+use Rattle.letters.specs.declared.utf8.Step.the-variants.{Char, Ill, End}
+use Rattle.letters.proofs.Utf8Laws.{char-at, ill-in}
+use Rattle.letters.proofs.CodesLaws.{codes-char, codes-ill, codes-end}
+use Rattle.texts.specs.Parts.{tail, front, firstIs, lastIs, placeOf, has, prefixOf, suffixOf}
+use Rattle.texts.proofs.Laws.{tail-is, front-is, first-some-by, last-some-by}
+use Rattle.regex_optim.specs.Contexts.{caret, dollar, opening, closing, Form, always, empty, equals, starts, ends, only, first, last, outside, literalForm, boxForm, withoutCaret, withoutDollar, boxInner, boxed, formIn, formOf, leftForm, rightForm, kindOf, memberOf, codeAt, firstChar, codeOf, backChar, wholeChar, orElse, lastChar, charFits, fits}
+use Rattle.regex_optim.specs.Steps.{boxChar, boxFits, literalFits, boxKind, literalKind}
+use Rattle.regex_optim.specs.declared.Letter.{Letter}
+use Rattle.regex_optim.specs.declared.Letter.the-variants.{Code, Absent}
+use Rattle.regex_optim.specs.declared.OptimizedRegex.{OptimizedRegex}
+use Rattle.regex_optim.specs.declared.OptimizedRegex.the-variants.{AllStringsMatcher, IsEmpty, Equals, StartsWith, EndsWith, EqualsChar, StartsWithChar, EndsWithChar, Outside}
+
+-- ---- the characters of a box, as far as place p
+
+pub record Seeking (k : ℕ) (l : List ℕ) (p : ℕ) : Type 0 where
+  pub is : memberOf k (codesOf l) ≡ memberOf k (codesOf (drop p l))
+
+pub seeking-start : (k : ℕ) (l : List ℕ) → Seeking k l 0
+seeking-start k l = record { is = refl }
+
+module _ {k : ℕ} {l : List ℕ} {p : ℕ} (w : Seeking k l p) (r : Step) (e : r ≡ decodeAt l p) where
+  pub seeking-next : (c n : ℕ) → r ≡ Char c n → (c ≡ k → ⊥) → Seeking k l (p + n)
+  unfolding memberOf
+  seeking-next c n q h = record { is = w .is ∙ ap (memberOf k) (codes-char l p c n (sym e ∙ q)) ∙ pick-false _ _ _ (ne-eqb c k h) }
+
+  pub seeking-found : (c n : ℕ) → r ≡ Char c n → c ≡ k → true ≡ memberOf k (codesOf l)
+  unfolding memberOf
+  seeking-found c n q h = sym (w .is ∙ ap (memberOf k) (codes-char l p c n (sym e ∙ q)) ∙ pick-true _ _ _ (eq-eqb c k h))
+
+  pub seeking-past : r ≡ Ill → Seeking k l (p + 1)
+  seeking-past q = record { is = w .is ∙ ap (memberOf k) (codes-ill l p (sym e ∙ q)) }
+
+  pub seeking-none : r ≡ End → false ≡ memberOf k (codesOf l)
+  unfolding memberOf
+  seeking-none q = sym (w .is ∙ ap (memberOf k) (codes-end l p (sym e ∙ q)))
+
+  pub seeking-end : (c n : ℕ) → r ≡ Char c n → p + n ≤ length l
+  seeking-end c n q = char-at l p c n (sym e ∙ q) .end
+
+  pub seeking-less : (c n : ℕ) → r ≡ Char c n → length l - (p + n) < length l - p
+  seeking-less c n q = let b = char-at l p c n (sym e ∙ q) in omega arith
+
+  pub seeking-in : r ≡ Ill → p < length l
+  seeking-in q = ill-in l p (sym e ∙ q)
+
+  pub seeking-less-ill : r ≡ Ill → length l - (p + 1) < length l - p
+  seeking-less-ill q = let b = ill-in l p (sym e ∙ q) in omega arith
+
+pub ruleset seeking-laws = (seeking-start, seeking-next, seeking-found, seeking-past, seeking-none, seeking-less, seeking-less-ill)
+
+-- ---- one character
+
+module _ (x : List ℕ) (r : Step) (e : r ≡ decodeAt x 0) where
+  pub first-code : (k n : ℕ) → r ≡ Char k n → Code k ≡ firstChar x
+  unfolding firstChar codeAt
+  first-code k n q = sym (ap codeAt (sym e ∙ q))
+
+  pub first-ill : r ≡ Ill → Absent ≡ firstChar x
+  unfolding firstChar codeAt
+  first-ill q = sym (ap codeAt (sym e ∙ q))
+
+  pub first-end : r ≡ End → Absent ≡ firstChar x
+  unfolding firstChar codeAt
+  first-end q = sym (ap codeAt (sym e ∙ q))
+
+pub back-short : (x : List ℕ) (n : ℕ) → length x < n → Absent ≡ backChar x n
+unfolding backChar
+back-short x n h = sym (pick-true _ _ _ (lt-ltb _ _ h))
+
+module _ (x : List ℕ) (n : ℕ) (h : n ≤ length x) (r : Step) (e : r ≡ decodeAt x (length x - n)) where
+  back-by : (y : Step) → r ≡ y → backChar x n ≡ codeOf n y
+  unfolding backChar
+  back-by y q = pick-false _ _ _ (le-ltb _ _ h) ∙ ap (codeOf n) (sym e ∙ q)
+
+  pub back-code : (k m : ℕ) → r ≡ Char k m → m ≡ n → Code k ≡ backChar x n
+  unfolding codeOf
+  back-code k m q f = sym (back-by (Char k m) q ∙ pick-true _ _ _ (eq-eqb m n f))
+
+  pub back-other : (k m : ℕ) → r ≡ Char k m → (m ≡ n → ⊥) → Absent ≡ backChar x n
+  unfolding codeOf
+  back-other k m q f = sym (back-by (Char k m) q ∙ pick-false _ _ _ (ne-eqb m n f))
+
+  pub back-ill : r ≡ Ill → Absent ≡ backChar x n
+  unfolding codeOf
+  back-ill q = sym (back-by Ill q)
+
+  pub back-end : r ≡ End → Absent ≡ backChar x n
+  unfolding codeOf
+  back-end q = sym (back-by End q)
+
+pub whole-by : (x : List ℕ) (r : Letter) → r ≡ backChar x (length x) → r ≡ wholeChar x
+unfolding wholeChar
+whole-by x r e = e
+
+pub else-code : (a b : Letter) (r : Letter) (k : ℕ) → r ≡ a → r ≡ Code k → Code k ≡ orElse a b
+unfolding orElse
+else-code a b r k e q = sym (ap (λ (y : Letter). orElse y b) (sym e ∙ q))
+
+pub else-absent : (a b : Letter) (r s : Letter) → r ≡ a → r ≡ Absent → s ≡ b → s ≡ orElse a b
+unfolding orElse
+else-absent a b r s e q f = f ∙ sym (ap (λ (y : Letter). orElse y b) (sym e ∙ q))
+
+pub ruleset char-laws = (first-code, first-ill, first-end, back-short, back-code, back-other, back-ill, back-end, whole-by)
+
+-- ---- parts of a context
+
+module _ (c : List ℕ) (t : Bool) where
+  pub caret-off : t ≡ firstIs caret c → t ≡ true → take (length c - 1) (drop 1 c) ≡ withoutCaret c
+  unfolding withoutCaret
+  caret-off e q = tail-is c ∙ sym (pick-true _ _ _ (sym e ∙ q))
+
+  pub caret-none : t ≡ firstIs caret c → t ≡ false → c ≡ withoutCaret c
+  unfolding withoutCaret
+  caret-none e q = sym (pick-false _ _ _ (sym e ∙ q))
+
+  pub dollar-off : t ≡ lastIs dollar c → t ≡ true → take (length c - 1 - 0) c ≡ withoutDollar c
+  unfolding withoutDollar
+  dollar-off e q = ap (λ (n : ℕ). take n c) (sub-zero (length c - 1)) ∙ front-is c ∙ sym (pick-true _ _ _ (sym e ∙ q))
+
+  pub dollar-none : t ≡ lastIs dollar c → t ≡ false → c ≡ withoutDollar c
+  unfolding withoutDollar
+  dollar-none e q = sym (pick-false _ _ _ (sym e ∙ q))
+
+pub inner-none : (t : List ℕ) → length t < 2 → [] ≡ boxInner t
+unfolding boxInner tail front
+inner-none [] h = refl
+inner-none (x ∷ []) h = refl
+inner-none (x ∷ y ∷ t) h = absurd (omega arith)
+
+pub inner-some : (t : List ℕ) → 2 ≤ length t → take (length t - 1 - 1) (drop 1 t) ≡ boxInner t
+unfolding boxInner tail
+inner-some [] h = absurd (omega arith)
+inner-some (x ∷ t) h = let e : suc (length t) - 1 - 1 ≡ length t - 1 = omega arith in ap (λ (n : ℕ). take n t) e ∙ front-is t
+
+pub has-by : (b : ℕ) (t : List ℕ) (n : ℕ) → n ≡ placeOf b t → ltb n (length t) ≡ has b t
+unfolding has
+has-by b t n e = ap (λ (i : ℕ). ltb i (length t)) e
+
+module _ (t : List ℕ) (f : Bool) (e : f ≡ firstIs opening t) where
+  pub boxed-not : f ≡ false → false ≡ boxed t
+  unfolding boxed and
+  boxed-not q = rw (← e, q) refl
+
+  module _ (l : Bool) (g : l ≡ lastIs closing t) where
+    pub boxed-open : f ≡ true → l ≡ false → false ≡ boxed t
+    unfolding boxed and
+    boxed-open q h = rw (← e, q, ← g, h) refl
+
+    pub boxed-by : (i : List ℕ) (u : Bool) → i ≡ boxInner t → u ≡ has opening i → f ≡ true → l ≡ true → not u ≡ boxed t
+    unfolding boxed and
+    boxed-by i u j w q h = rw (← e, q, ← g, h, ← j, ← w) refl
+
+-- ---- the forms, by their anchors
+
+kind-literal : (s e : Bool) (t : List ℕ) → kindOf (literalForm s e t) ≡ literalKind (length t) s e
+unfolding kindOf literalForm literalKind pick
+kind-literal true true [] = refl
+kind-literal true true (x ∷ t) = rw (eqb·suc-zero (length t)) refl
+kind-literal true false [] = refl
+kind-literal true false (x ∷ t) = rw (eqb·suc-zero (length t)) refl
+kind-literal false true [] = refl
+kind-literal false true (x ∷ t) = rw (eqb·suc-zero (length t)) refl
+kind-literal false false t = refl
+
+kind-box : (s e hit : Bool) (l : List ℕ) → kindOf (boxForm s e hit l) ≡ boxKind s e
+unfolding kindOf boxForm boxKind pick
+kind-box true true hit l = refl
+kind-box true false hit l = refl
+kind-box false true hit l = refl
+kind-box false false hit l = refl
+
+suffix-nil : (x : List ℕ) → suffixOf [] x ≡ true
+unfolding suffixOf prefixOf
+suffix-nil x = pick-false _ _ _ (le-ltb (length x) 0 zero-le)
+
+nil-same : (x : List ℕ) → eqb (length x) 0 ≡ sameText [] x
+unfolding sameText
+nil-same [] = refl
+nil-same (y ∷ x) = ne-eqb (suc (length x)) 0 (λ e. omega arith)
+
+fits-literal : (s e : Bool) (t x : List ℕ) → fits (literalForm s e t) x ≡ literalFits t s e x
+unfolding fits literalForm literalFits pick prefixOf
+fits-literal true true [] x = nil-same x
+fits-literal true true (y ∷ t) x = refl
+fits-literal true false [] x = refl
+fits-literal true false (y ∷ t) x = refl
+fits-literal false true [] x = sym (suffix-nil x)
+fits-literal false true (y ∷ t) x = refl
+fits-literal false false t x = refl
+
+fits-box : (s e hit : Bool) (l x : List ℕ) → fits (boxForm s e hit l) x ≡ charFits hit l (boxChar s e x)
+unfolding fits boxForm boxChar pick charFits
+fits-box true true hit l x = refl
+fits-box true false hit l x = refl
+fits-box false true hit l x = refl
+fits-box false false hit l x = refl
+
+module _ (s e : Bool) (t : List ℕ) (h : Bool) (g : h ≡ has opening t) where
+  in-literal : h ≡ false → formIn s e t ≡ literalForm s e t
+  unfolding formIn
+  in-literal q = pick-false _ _ _ (sym g ∙ q)
+
+  pub kind-by-literal : (r : OptimizedRegex) → h ≡ false → r ≡ literalKind (length t) s e → r ≡ kindOf (formIn s e t)
+  kind-by-literal r q f = f ∙ sym (ap kindOf (in-literal q) ∙ kind-literal s e t)
+
+  pub fits-by-literal : (x : List ℕ) (r : Bool) → h ≡ false → r ≡ literalFits t s e x → r ≡ fits (formIn s e t) x
+  fits-by-literal x r q f = f ∙ sym (ap (λ (y : Form). fits y x) (in-literal q) ∙ fits-literal s e t x)
+
+  module _ (u : Bool) (b : u ≡ boxed t) where
+    in-box : h ≡ true → u ≡ true → formIn s e t ≡ boxForm s e (not (firstIs caret (boxInner t))) (withoutCaret (boxInner t))
+    unfolding formIn
+    in-box q v = pick-true _ _ _ (sym g ∙ q) ∙ pick-true _ _ _ (sym b ∙ v)
+
+    in-none : h ≡ true → u ≡ false → formIn s e t ≡ outside
+    unfolding formIn
+    in-none q v = pick-true _ _ _ (sym g ∙ q) ∙ pick-false _ _ _ (sym b ∙ v)
+
+    pub kind-by-box : (r : OptimizedRegex) → h ≡ true → u ≡ true → r ≡ boxKind s e → r ≡ kindOf (formIn s e t)
+    kind-by-box r q v f = f ∙ sym (ap kindOf (in-box q v) ∙ kind-box s e _ _)
+
+    pub kind-by-none : h ≡ true → u ≡ false → Outside ≡ kindOf (formIn s e t)
+    unfolding kindOf
+    kind-by-none q v = sym (ap kindOf (in-none q v))
+
+    pub fits-by-box : (i x : List ℕ) (r : Bool) → h ≡ true → u ≡ true → i ≡ boxInner t → r ≡ boxFits i s e x → r ≡ fits (formIn s e t) x
+    unfolding boxFits
+    fits-by-box i x r q v j f =
+        f ∙ ap (λ (y : List ℕ). boxFits y s e x) j ∙ sym (ap (λ (y : Form). fits y x) (in-box q v) ∙ fits-box s e _ _ x)
+
+    pub fits-by-none : (x : List ℕ) → h ≡ true → u ≡ false → false ≡ fits (formIn s e t) x
+    unfolding fits
+    fits-by-none x q v = sym (ap (λ (y : Form). fits y x) (in-none q v))
+
+-- ---- anchors put on and taken off again
+
+first-snoc : (c : List ℕ) → firstIs caret (c ++ (dollar ∷ [])) ≡ firstIs caret c
+unfolding firstIs
+first-snoc [] = refl
+first-snoc (x ∷ c) = refl
+
+last-snoc : (c : List ℕ) → lastIs dollar (c ++ (dollar ∷ [])) ≡ true
+unfolding lastIs
+last-snoc [] = refl
+last-snoc (x ∷ []) = refl
+last-snoc (x ∷ y ∷ c) = last-snoc (y ∷ c)
+
+front-snoc : (c : List ℕ) (b : ℕ) → front (c ++ (b ∷ [])) ≡ c
+unfolding front
+front-snoc [] b = refl
+front-snoc (x ∷ []) b = refl
+front-snoc (x ∷ y ∷ c) b = ap (λ (l : List ℕ). x ∷ l) (front-snoc (y ∷ c) b)
+
+caret-snoc : (c : List ℕ) → withoutCaret (c ++ (dollar ∷ [])) ≡ withoutCaret c ++ (dollar ∷ [])
+unfolding withoutCaret firstIs tail pick
+caret-snoc [] = refl
+caret-snoc (x ∷ c) = over (eqb x caret)
+  where
+    over : (t : Bool) → pick t (c ++ (dollar ∷ [])) (x ∷ c ++ (dollar ∷ [])) ≡ pick t c (x ∷ c) ++ (dollar ∷ [])
+    over true = refl
+    over false = refl
+
+pub left-is : (c : List ℕ) → leftForm c ≡ formIn (firstIs caret c) true (withoutCaret c)
+unfolding leftForm formOf withoutDollar
+left-is c =
+    ap (λ (b : Bool). formIn b (lastIs dollar (c ++ (dollar ∷ []))) (withoutDollar (withoutCaret (c ++ (dollar ∷ []))))) (first-snoc c)
+    ∙ ap₂ (λ (b : Bool) (l : List ℕ). formIn (firstIs caret c) b (withoutDollar l)) (last-snoc c) (caret-snoc c)
+    ∙ ap (formIn (firstIs caret c) true) (pick-true _ _ _ (last-snoc (withoutCaret c)) ∙ front-snoc (withoutCaret c) dollar)
+
+last-cons : (c : List ℕ) → lastIs dollar (caret ∷ c) ≡ lastIs dollar c
+unfolding lastIs
+last-cons [] = refl
+last-cons (x ∷ c) = refl
+
+pub right-is : (c : List ℕ) → rightForm c ≡ formIn true (lastIs dollar c) (withoutDollar c)
+unfolding rightForm formOf withoutCaret firstIs tail pick
+right-is c = ap (λ (b : Bool). formIn true b (withoutDollar c)) (last-cons c)
+
+module _ (c : List ℕ) (b : Bool) (l : List ℕ) where
+  pub left-kind : (r : OptimizedRegex) → b ≡ firstIs caret c → l ≡ withoutCaret c → r ≡ kindOf (formIn b true l) → r ≡ kindOf (leftForm c)
+  left-kind r p q e = e ∙ ap₂ (λ (x : Bool) (y : List ℕ). kindOf (formIn x true y)) p q ∙ sym (ap kindOf (left-is c))
+
+  pub right-kind : (r : OptimizedRegex) → b ≡ lastIs dollar c → l ≡ withoutDollar c → r ≡ kindOf (formIn true b l) → r ≡ kindOf (rightForm c)
+  right-kind r p q e = e ∙ ap₂ (λ (x : Bool) (y : List ℕ). kindOf (formIn true x y)) p q ∙ sym (ap kindOf (right-is c))
+
+  pub left-fit : (x : List ℕ) (r : Bool) → b ≡ firstIs caret c → l ≡ withoutCaret c → r ≡ fits (formIn b true l) x → r ≡ fits (leftForm c) x
+  left-fit x r p q e = e ∙ ap₂ (λ (z : Bool) (y : List ℕ). fits (formIn z true y) x) p q ∙ sym (ap (λ (f : Form). fits f x) (left-is c))
+
+  pub right-fit : (x : List ℕ) (r : Bool) → b ≡ lastIs dollar c → l ≡ withoutDollar c → r ≡ fits (formIn true b l) x → r ≡ fits (rightForm c) x
+  right-fit x r p q e = e ∙ ap₂ (λ (z : Bool) (y : List ℕ). fits (formIn true z y) x) p q ∙ sym (ap (λ (f : Form). fits f x) (right-is c))
+
+pub box-fit : (i l x : List ℕ) (n : Bool) (a : Letter) (s e r : Bool) → n ≡ firstIs caret i → l ≡ withoutCaret i → a ≡ boxChar s e x → r ≡ charFits (not n) l a → r ≡ boxFits i s e x
+unfolding boxFits
+box-fit i l x n a s e r p q w f = rw (← p, ← q, ← w) f
+
+module _ (hit : Bool) (l : List ℕ) (a : Letter) (k : ℕ) (t : Bool) where
+  pub char-member : a ≡ Code k → t ≡ memberOf k (codesOf l) → t ≡ true → hit ≡ charFits hit l a
+  unfolding charFits
+  char-member e m q = sym (ap (charFits hit l) e ∙ pick-true _ _ _ (sym m ∙ q))
+
+  pub char-other : a ≡ Code k → t ≡ memberOf k (codesOf l) → t ≡ false → not hit ≡ charFits hit l a
+  unfolding charFits
+  char-other e m q = sym (ap (charFits hit l) e ∙ pick-false _ _ _ (sym m ∙ q))
+
+pub char-absent : (hit : Bool) (l : List ℕ) (a : Letter) → a ≡ Absent → false ≡ charFits hit l a
+unfolding charFits
+char-absent hit l a e = sym (ap (charFits hit l) e)
+
+pub ruleset part-laws = (first-some-by, last-some-by, caret-off, caret-none, dollar-off, dollar-none, inner-none, inner-some, has-by, boxed-not, boxed-open, boxed-by, else-code, else-absent)
+
+pub ruleset form-laws = (kind-by-literal, kind-by-box, kind-by-none, fits-by-literal, fits-by-box, fits-by-none, left-kind, right-kind, left-fit, right-fit, box-fit, char-member, char-other, char-absent)

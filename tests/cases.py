@@ -1,0 +1,279 @@
+#!/usr/bin/env python3
+"""Case lines for the port's program `ask`, made anew from a seed, and what the original may answer to each.
+
+A case is the line for the port, the line for the original's `bm-answers` (None where the original has no such thing), and the
+function that turns the original's answer into the answers that the port may give (None: any).
+"""
+import itertools
+import random
+
+ANY = None
+
+
+def hex_of(data):
+    return data.hex() or "-"
+
+
+def same(answer):
+    return (answer,)
+
+
+def case(line, ask=ANY, allowed=same):
+    return line, (line if ask is ANY else ask), allowed
+
+
+def unasked(line):
+    return line, None, same
+
+
+# ---- letters
+
+RANGE = [c for c in range(0x20, 0x180) if (c <= 0x7E or c >= 0xA1) and c != 0x130]
+EDGES = [0x00, 0x41, 0x7F, 0x80, 0x8F, 0x90, 0x9F, 0xA0, 0xBF, 0xC0, 0xC1, 0xC2, 0xC3, 0xDF, 0xE0, 0xE1, 0xEC, 0xED, 0xEE, 0xEF,
+         0xF0, 0xF1, 0xF3, 0xF4, 0xF5, 0xFF]
+
+
+def sequences():
+    """All sequences of one byte and two, and those of three and four bytes at the edges of RFC 3629's table."""
+    yield b""
+    for length in (1, 2):
+        for bytes_ in itertools.product(range(256), repeat=length):
+            yield bytes(bytes_)
+    for length in (3, 4):
+        for bytes_ in itertools.product(EDGES, repeat=length):
+            yield bytes(bytes_)
+
+
+def name(rng, most=24):
+    return "".join(chr(rng.choice(RANGE)) for _ in range(rng.randrange(most))).encode()
+
+
+def damaged(rng):
+    data = bytearray(rng.choice((name(rng), bytes(rng.randrange(256) for _ in range(rng.randrange(12))),
+                                 "".join(chr(rng.choice((0x7F, 0x80, 0x7FF, 0x800, 0xD7FF, 0xE000, 0xFFFF, 0x10000, 0x10FFFF, 0x3A9)))
+                                         for _ in range(rng.randrange(5))).encode())))
+    for _ in range(rng.randrange(3)):
+        if data:
+            place = rng.randrange(len(data))
+            change = rng.randrange(3)
+            if change == 0:
+                data[place] = rng.randrange(256)
+            elif change == 1:
+                del data[place]
+            else:
+                data.insert(place, rng.choice(EDGES))
+    return bytes(data)
+
+
+def texts_of(rng):
+    one = rng.choice((name, damaged))(rng)
+    other = one[:rng.randrange(len(one) + 1)] + rng.choice((b"", name(rng, 4))) if rng.randrange(2) else name(rng)
+    return (one, other) if rng.randrange(2) else (other, one)
+
+
+def letters_all():
+    for data in sequences():
+        yield case("decode " + hex_of(data))
+        yield case("outside " + hex_of(data))
+    for code in RANGE:
+        yield case("lower " + hex_of(chr(code).encode()))
+
+
+def letters_random(rng, count):
+    for _ in range(count):
+        data = damaged(rng)
+        yield case("decode " + hex_of(data))
+        yield case("outside " + hex_of(data))
+        yield unasked("lower " + hex_of(data))
+        yield case("lower " + hex_of(name(rng)))
+        one, other = texts_of(rng)
+        yield case("order %s %s" % (hex_of(one), hex_of(other)), allowed=lambda a: None if a == "!" else (a,))
+        yield unasked("same %s %s" % (hex_of(one), hex_of(other)))
+
+
+# ---- languages
+
+def set_word(mask):
+    return mask if isinstance(mask, str) else "some:%d" % mask
+
+
+def pairs_of(sets):
+    for one, other in itertools.product(sets, repeat=2):
+        for word in ("narrow", "merge"):
+            yield case("%s %s %s" % (word, set_word(one), set_word(other)))
+    for one in sets:
+        yield case("empty " + set_word(one))
+        yield case("single " + set_word(one))
+        yield unasked("singleton " + set_word(one))
+
+
+def languages_all():
+    yield from pairs_of(["any", "none"] + list(range(64)) + [2 ** 31, 2 ** 32 - 1, 2 ** 31 + 1, 2 ** 16])
+
+
+WORDS = [b"", b"a", b"any", b"common", b"commons", b"z" * 24, b"z" * 25, b"A", b"a1", b"french", b"\xc3\xa9"]
+
+
+def strings(names):
+    return b"".join(bytes([len(n)]) + n for n in names)
+
+
+def languages_random(rng, count):
+    for _ in range(count):
+        sets = [rng.choice(("any", "none", rng.randrange(2 ** 32), 2 ** rng.randrange(32))) for _ in range(2)]
+        yield from pairs_of(sets)
+        yield unasked("subtract %d %d" % (rng.randrange(2 ** 32), rng.randrange(2 ** 32)))
+        word = rng.choice(WORDS + [bytes(rng.choice(b"abcz{`") for _ in range(rng.randrange(27)))])
+        yield unasked("name " + hex_of(word))
+        names = strings([b"n%d" % i for i in range(rng.choice((0, 1, 5, 31, 32, 33, 40)))] + [rng.choice(WORDS)])
+        if rng.randrange(4) == 0:
+            names = names[:rng.randrange(len(names) + 1)]
+        yield unasked("listed %s %s" % (hex_of(names), hex_of(rng.choice(WORDS + [b"n0", b"n31", b"n32", b"n39"]))))
+
+
+# ---- contexts, expressions, guessing patterns, rules
+
+SIGNS = ["^", "$", "[", "]", "a", "b", "é", "-"]
+CONTEXT_TEXTS = ["", "a", "b", "é", "-", "^", "$", "[", "]", "ab", "ba", "aé", "éa", "éé", "a-", "]b", "^a", "a$", "[a]", "aba"]
+
+
+def by_form(answer):
+    return ("15",) if answer.startswith("Regex") or answer == "Refused" else (answer,)
+
+
+def contexts_of(context, texts):
+    for side in ("left", "right"):
+        for text in texts:
+            yield case("%s %s %s" % (side, hex_of(context.encode()), hex_of(text.encode())), allowed=by_form)
+
+
+def words_over(signs, most):
+    for length in range(most + 1):
+        for word in itertools.product(signs, repeat=length):
+            yield "".join(word)
+
+
+def contexts_all():
+    for context in words_over(SIGNS, 4):
+        yield from contexts_of(context, CONTEXT_TEXTS)
+
+
+LETTERS = ["a", "b", "c", "é", "ł", "ω", "😀", "-", "^", "$", "]", "'", " "]
+
+
+def contexts_random(rng, count):
+    for _ in range(count):
+        context = "".join(rng.choice(LETTERS) for _ in range(rng.randrange(7)))
+        if rng.randrange(3):
+            context = rng.choice(("", "^")) + "[" + rng.choice(("", "^")) + context + "]" + rng.choice(("", "$"))
+        texts = ["".join(rng.choice(LETTERS) for _ in range(rng.randrange(5))) for _ in range(2)]
+        texts.append(context.strip("^$[]"))
+        yield from contexts_of(context, texts)
+
+
+NAMES = ["a", "any", "b", "french", "z"]
+NAMES_FIELD = hex_of(strings([n.encode() for n in NAMES]))
+
+
+def by_alternatives(answer):
+    if answer == "Refused":
+        return ("14",)
+    shown = ["ok"]
+    for part in answer.split(" ")[1:]:
+        text, _, languages = part.partition(":")
+        if languages == "any":
+            shown.append(text + ":any")
+            continue
+        mask = 0
+        for word in languages.split("+"):
+            word = bytes.fromhex(word[1:]).decode() if word.startswith("=") else word
+            if word not in NAMES:
+                return ("16",)
+            mask |= 1 << NAMES.index(word)
+        shown.append("%s:some:%d" % (text, mask))
+    return (" ".join(shown),)
+
+
+def expression_case(expression):
+    field = hex_of(expression.encode())
+    return "expr %s %s" % (field, NAMES_FIELD), "expr " + field, by_alternatives
+
+
+def expressions_all():
+    for expression in words_over(["(", ")", "|", "[", "]", "+", "a", "é"], 5):
+        yield expression_case(expression)
+
+
+def expressions_random(rng, count):
+    for _ in range(count):
+        parts = []
+        for _ in range(rng.randrange(6)):
+            part = "".join(rng.choice(("a", "é", "x", "]", "+")) for _ in range(rng.randrange(4)))
+            if rng.randrange(2):
+                part += "[" + "+".join(rng.choice(NAMES + ["any"] + (["zz", ""] if rng.randrange(5) == 0 else []))
+                                       for _ in range(rng.randrange(1, 5))) + ("]" if rng.randrange(12) else "")
+            parts.append(part)
+        expression = "|".join(parts)
+        yield expression_case("(" + expression + ")" if rng.randrange(5) else expression)
+
+
+def by_guess(answer):
+    return ("15",) if answer == "Refused" else (answer, "15")
+
+
+def guessing_case(pattern, text):
+    pattern, text = hex_of(pattern.encode()), hex_of(text.encode())
+    return "guessing %s %s" % (pattern, text), "guess %s %s" % (pattern, text), by_guess
+
+
+GUESS_TEXTS = ["", "a", "b", "é", "ab", "ba", "aé", "éa", "aba", "bab", "-", "a-b"]
+
+
+def guessing_all():
+    for pattern in words_over(["^", "$", "[", "]", "a", "b", "é", "-", "."], 4):
+        for text in GUESS_TEXTS:
+            yield guessing_case(pattern, text)
+
+
+def guessing_random(rng, count):
+    for _ in range(count):
+        pattern = rng.choice(("", "", "^"))
+        for _ in range(rng.randrange(6)):
+            pattern += rng.choice(("a", "b", "c", "é", "ł", "[ab]", "[^a]", "[éa]", "[^éł]", "[b]", "[", "/", "#"))
+        pattern += rng.choice(("", "", "$"))
+        text = "".join(rng.choice("abcéł") for _ in range(rng.randrange(9)))
+        yield guessing_case(pattern, text)
+
+
+def by_rule(answer):
+    return ("15",) if answer == "Refused" else (answer, "15")
+
+
+def rules_random(rng, count):
+    for _ in range(count):
+        text = "".join(rng.choice("abéł") for _ in range(rng.randrange(7)))
+        place = rng.randrange(len(text) + 1)
+        pattern = text[place:place + rng.randrange(1, 3)] if rng.randrange(3) else rng.choice("abéł")
+        if not pattern:
+            continue
+        left = rng.choice(("", "^", "a", "[ab]", "[^ab]", "é", "^b", "[é]", text[max(0, place - 1):place], "[ab]c"))
+        right = rng.choice(("", "$", "a", "[ab]", "[^ab]", "é", "b$", "[é]$", "[ab]$"))
+        line = "rule %s %d" % (" ".join(hex_of(x.encode()) for x in (pattern, left, right, text)), len(text[:place].encode()))
+        yield case(line, allowed=by_rule)
+
+
+LAYERS = {
+    "letters": (letters_all, letters_random),
+    "languages": (languages_all, languages_random),
+    "contexts": (contexts_all, contexts_random),
+    "expressions": (expressions_all, expressions_random),
+    "guessing": (guessing_all, guessing_random),
+    "rules": (None, rules_random),
+}
+
+
+def cases_of(layer, seed, count, exhaustive=True):
+    every, some = LAYERS[layer]
+    if exhaustive and every:
+        yield from every()
+    yield from some(random.Random("%s %d" % (layer, seed)), count)

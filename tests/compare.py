@@ -1,0 +1,101 @@
+#!/usr/bin/env python3
+"""Holds the port's program `ask` against the second check and against the original, on the same cases.
+
+    tests/compare.py LAYER.. [--seed N] [--count N] [--sample N] [--no-original]
+    tests/compare.py --stored
+
+LAYER is one of those in cases.py, or `all`. Without --sample every short input of the layer is tried, and --count random ones.
+`--stored` writes crates/ask/stdin and crates/ask/stdout: a sample of the cases, with the original's answers where it has one.
+The original is built by oracle/build.
+"""
+import argparse
+import os
+import random
+import subprocess
+import sys
+
+HERE = os.path.dirname(os.path.abspath(__file__))
+ROOT = os.path.dirname(HERE)
+sys.path.insert(0, HERE)
+import cases  # noqa: E402
+
+ASK = [os.path.join(ROOT, "bin", "ask")]
+SECOND = [sys.executable, os.path.join(HERE, "second.py")]
+ORIGINAL = [os.path.join(ROOT, "oracle", "work", "bin", "bm-answers")]
+STORED = {"letters": 900, "languages": 300, "contexts": 700, "expressions": 500, "guessing": 500, "rules": 300}
+
+
+def run(command, lines):
+    done = subprocess.run(command, input="".join(line + "\n" for line in lines).encode(), stdout=subprocess.PIPE, check=True)
+    answers = done.stdout.decode().split("\n")[:-1]
+    if len(answers) != len(lines):
+        sys.exit("%s: %d answers to %d cases" % (command[-1], len(answers), len(lines)))
+    return answers
+
+
+def original_of(some):
+    """What the original permits for each case: a tuple of answers, or None."""
+    asked = [place for place, (_, ask, _) in enumerate(some) if ask is not None]
+    answers = run(ORIGINAL, [some[place][1] for place in asked])
+    permitted = [None] * len(some)
+    for place, answer in zip(asked, answers):
+        permitted[place] = some[place][2](answer)
+    return permitted
+
+
+def compare(layer, some, original):
+    lines = [line for line, _, _ in some]
+    port, second = run(ASK, lines), run(SECOND, lines)
+    permitted = original_of(some) if original else [None] * len(some)
+    differ = 0
+    for line, one, other, may in zip(lines, port, second, permitted):
+        if one != other or (may is not None and one not in may):
+            differ += 1
+            if differ <= 20:
+                print("%s\n  port %s\n  second %s\n  original %s" % (line, one, other, may))
+    held = sum(may is not None for may in permitted)
+    print("%s: %d cases, %d of them held against the original, %d differ" % (layer, len(lines), held, differ))
+    return differ
+
+
+def sampled(layer, seed, count, sample):
+    some = list(cases.cases_of(layer, seed, count))
+    if sample and sample < len(some):
+        some = random.Random(seed).sample(some, sample)
+    return some
+
+
+def store(layers):
+    lines, answers = [], []
+    for layer in layers:
+        some = sampled(layer, 1, 2000, STORED[layer])
+        second = run(SECOND, [line for line, _, _ in some])
+        for (line, _, _), other, may in zip(some, second, original_of(some)):
+            if may is not None and other not in may:
+                sys.exit("the second check and the original differ: " + line)
+            lines.append(line)
+            answers.append(other)
+    for name, content in (("stdin", lines), ("stdout", answers)):
+        with open(os.path.join(ROOT, "crates", "ask", name), "w") as file:
+            file.write("".join(line + "\n" for line in content))
+    print("%d cases stored" % len(lines))
+
+
+def main():
+    parser = argparse.ArgumentParser(usage=__doc__)
+    parser.add_argument("layers", nargs="*")
+    parser.add_argument("--seed", type=int, default=2)
+    parser.add_argument("--count", type=int, default=20000)
+    parser.add_argument("--sample", type=int, default=0)
+    parser.add_argument("--no-original", action="store_true")
+    parser.add_argument("--stored", action="store_true")
+    given = parser.parse_args()
+    layers = list(cases.LAYERS) if given.layers in ([], ["all"]) else given.layers
+    if given.stored:
+        return store(layers)
+    differ = sum(compare(layer, sampled(layer, given.seed, given.count, given.sample), not given.no_original) for layer in layers)
+    sys.exit(1 if differ else 0)
+
+
+if __name__ == "__main__":
+    main()
