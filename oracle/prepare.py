@@ -119,17 +119,17 @@ def closed(text):
     return re.sub(r"\bpub(\((crate|super)\))? ", "", text)
 
 
-def main(checked, work):
+def main(checked, made):
     original = {name: read(checked, "src", name) for name in FILES}
     for block in OTHER_MODULES:
         change(original, LIB, "\n" + block + "\n", "\n", 1)
-    put(original, work, "original")
+    put(original, made, "original")
 
     counted = dict(original)
     for name, place, lines in COUNTING:
         change(counted, name, place, lines + place, 1)
     counted["probe.rs"] = read(HERE, "counted", "probe.rs")
-    put(counted, work, "counted")
+    put(counted, made, "counted")
 
     opened = dict(original)
     for name, old, new, times in OPENING:
@@ -137,7 +137,7 @@ def main(checked, work):
     for name in FILES:
         if closed(opened[name]) != closed(original[name]):
             sys.exit("prepare.py: more than visibility changed in %s" % name)
-    put(opened, work, "opened")
+    put(opened, made, "opened")
 
 
 if __name__ == "__main__":

@@ -7,6 +7,8 @@ function that turns the original's answer into the answers that the port may giv
 import itertools
 import random
 
+import second
+
 ANY = None
 
 
@@ -262,6 +264,88 @@ def rules_random(rng, count):
         yield case(line, allowed=by_rule)
 
 
+# ---- packs
+
+PAPER_PACK = bytes.fromhex("0103616e790000050001016100" + "00016f") + bytes(8)        # example 13
+
+
+def rules_of(rng, names, most):
+    found = []
+    for _ in range(rng.randrange(most + 1)):
+        languages = "[%s]" % "+".join(rng.choice(names) for _ in range(rng.randrange(1, 3)))
+        expression = rng.choice(("o", "", "(a|b%s)" % languages, "x" + languages, "(|e)", "()"))
+        left = rng.choice(("", "^", "a", "[ab]", "[^é]", "^b"))
+        right = rng.choice(("", "$", "b", "[ab]$", "[^a]", "é"))
+        found.append((rng.choice(("a", "b", "é", "ab", "c", "ł", "ba")), left, right, expression))
+    return sorted(found, key=lambda rule: rule[0][0])
+
+
+def small_pack(rng):
+    names = sorted({"any"} | {rng.choice(("de", "fr", "zz", "english", "a")) for _ in range(rng.randrange(3))})
+    guesses = [(rng.randrange(2), rng.randrange(1, 1 << len(names)), rng.choice(("a", "^b", "[ab]$", "é", "[^a]b", "^", "$")))
+               for _ in range(rng.randrange(4))]
+    return second.pack_bytes(names, guesses, [rules_of(rng, names, 2) for _ in range(3 * len(names) + 2)])
+
+
+def pack_cases(data, texts=()):
+    """The verdict, and for an accepted pack what it guesses."""
+    yield unasked("pack %s\ncheck" % hex_of(data))
+    for text in texts:
+        yield unasked("pack %s\nguess %s" % (hex_of(data), hex_of(text.encode())))
+
+
+def bounds():
+    """Counts at their bounds and one over."""
+    names = ["any"] + sorted("a" * (n // 26) + chr(98 + n % 24) + "b" * (n // 24) for n in range(40))
+    for count in (1, 2, 31, 32, 33, 40):
+        some = sorted(set(names[:count]) | {"any"})
+        yield second.pack_bytes(some, [], [[] for _ in range(3 * len(some) + 2)])
+    for count in (4095, 4096, 4097):
+        yield second.pack_bytes(["any"], [(1, 1, "a")] * count, [[] for _ in range(5)])
+        yield second.pack_bytes(["any"], [], [[("a", "", "", "")] * count] + [[] for _ in range(4)])
+    for length in (254, 255):
+        yield second.pack_bytes(["any"], [(0, 1, "a" * length)], [[("a" * length, "", "", "b" * length)], [], [], [], []])
+    for lists in (4, 5, 6):
+        yield second.pack_bytes(["any"], [], [[] for _ in range(lists)])
+    for mask in (0, 1, 2, 2 ** 31):
+        yield second.pack_bytes(["any"], [(1, mask, "a")], [[] for _ in range(5)])
+    for name in WORDS:
+        some = sorted({b"any", name})
+        yield bytes([len(some)]) + strings(some) + bytes(2) + bytes([3 * len(some) + 2]) + bytes(2 * (3 * len(some) + 2))
+
+
+def packs_all():
+    rng = random.Random("packs")
+    good = [PAPER_PACK, PAPER_PACK + bytes(1)] + [small_pack(rng) for _ in range(4)]
+    for data in good:
+        for length in range(len(data) + 1):
+            yield from pack_cases(data[:length])
+    for data in good[:3]:
+        for place, value in itertools.product(range(len(data)), range(256)):
+            yield from pack_cases(data[:place] + bytes([value]) + data[place + 1:])
+    for data in bounds():
+        yield from pack_cases(data)
+
+
+def packs_random(rng, count):
+    for _ in range(count):
+        data = small_pack(rng)
+        texts = ["".join(rng.choice("abé-") for _ in range(rng.randrange(5))) for _ in range(3)]
+        yield from pack_cases(data, texts)
+        for _ in range(2):
+            broken = bytearray(data)
+            for _ in range(rng.randrange(1, 4)):
+                place = rng.randrange(len(broken))
+                if rng.randrange(2):
+                    broken[place] = rng.choice((0, 1, broken[place] ^ 1, rng.randrange(256)))
+                elif rng.randrange(2):
+                    del broken[place]
+                else:
+                    broken.insert(place, rng.randrange(256))
+            yield from pack_cases(bytes(broken), texts[:1])
+        yield from pack_cases(bytes(rng.randrange(256) for _ in range(rng.randrange(12))))
+
+
 LAYERS = {
     "letters": (letters_all, letters_random),
     "languages": (languages_all, languages_random),
@@ -269,6 +353,7 @@ LAYERS = {
     "expressions": (expressions_all, expressions_random),
     "guessing": (guessing_all, guessing_random),
     "rules": (None, rules_random),
+    "packs": (packs_all, packs_random),
 }
 
 

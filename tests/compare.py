@@ -21,8 +21,10 @@ import cases  # noqa: E402
 
 ASK = [os.path.join(ROOT, "bin", "ask")]
 SECOND = [sys.executable, os.path.join(HERE, "second.py")]
-ORIGINAL = [os.path.join(ROOT, "oracle", "work", "bin", "bm-answers")]
-STORED = {"letters": 900, "languages": 300, "contexts": 700, "expressions": 500, "guessing": 500, "rules": 300}
+ORIGINAL = [os.path.join(ROOT, "oracle", "made", "bin", "bm-answers")]
+STORED = 260            # how many cases of each kind are stored
+NO_CASES = ["", " ", "foo", "decode", "decode 6", "decode 6g", "decode 61 62", "DECODE 61", "lower 6A", "narrow any", "empty some:",
+            "single some:4294967296", "subtract 1", "name", "listed 00", "left 61", "rule 61 - - 61", "rule 61 - - 61 x", "expr 61"]
 
 
 def run(command, lines):
@@ -65,10 +67,19 @@ def sampled(layer, seed, count, sample):
     return some
 
 
+def stored(layer):
+    """Some cases of each kind, by the last line's word."""
+    kinds = {}
+    for case in cases.cases_of(layer, 1, 2000):
+        kinds.setdefault(case[0].split("\n")[-1].split(" ")[0], []).append(case)
+    rng = random.Random(layer)
+    return [case for word, kind in kinds.items() for case in rng.sample(kind, min(700 if word == "lower" else STORED, len(kind)))]
+
+
 def store(layers):
-    lines, answers = [], []
+    lines, answers = list(NO_CASES), ["?"] * len(NO_CASES)
     for layer in layers:
-        some = sampled(layer, 1, 2000, STORED[layer])
+        some = stored(layer)
         second = run(SECOND, [line for line, _, _ in some])
         for (line, _, _), other, may in zip(some, second, original_of(some)):
             if may is not None and other not in may:

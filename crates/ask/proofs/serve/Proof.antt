@@ -1,0 +1,99 @@
+use Prim.Native.Nat.{_≤_}
+use mathlib.Core.Path.{_≡_}
+use lib.ListN.{length}
+use Rattle.ask.specs.Lines.{Stands}
+use borrow.Author.Needs.{needs}
+use Rattle.ask.proofs.serve.Statement.{statement}
+use Rattle.ask.proofs.serve.Tie as tie
+use Rattle.ask.proofs.serve.Reads as reads
+use Rattle.ask.proofs.serve.Lts as lts
+use Rattle.ask.proofs.input.next.Reads as next-reads
+use Rattle.ask.proofs.input.start.Reads as start-reads
+use Rattle.ask.proofs.out.flush.Reads as flush-reads
+use Rattle.ask.proofs.said.say.Reads as say-reads
+use Rattle.ask.proofs.said_of.Reads as said-of-reads
+
+abbrev Inv-loop : tie.InvT-loop
+Inv-loop buf₀ given₀ made₀ out₀ s₀ used₀ turns₀ buf given made out s used turns = Stands s (length buf) × (used ≤ length out) × (length buf ≡ length buf₀) × (length given ≡ length given₀) × (length made ≡ length made₀) × (length out ≡ length out₀)
+
+abbrev μ-loop : tie.MeasureT-loop
+μ-loop buf₀ given₀ made₀ out₀ s₀ used₀ turns₀ buf given made out s used turns = turns
+
+start-requires : tie.Need-start-requires Inv-loop μ-loop
+start-requires c κs = search needs
+
+next-requires : tie.Need-next-requires Inv-loop μ-loop
+next-requires c κs = search needs
+
+loop-holds : tie.Need-loop-holds Inv-loop μ-loop
+loop-holds c = search needs
+
+sub-said-of : tie.Need-sub-said-of Inv-loop μ-loop
+sub-said-of c = search needs
+
+part-said-of-start : tie.Need-part-said-of-start Inv-loop μ-loop
+part-said-of-start c = search needs
+
+part-said-of-end : tie.Need-part-said-of-end Inv-loop μ-loop
+part-said-of-end c = search needs
+
+said-of-requires : tie.Need-said-of-requires Inv-loop μ-loop
+said-of-requires c κs = search needs
+
+say-requires : tie.Need-say-requires Inv-loop μ-loop
+say-requires c κs = search needs
+
+next-requires-2 : tie.Need-next-requires-2 Inv-loop μ-loop
+next-requires-2 c κs = search needs
+
+sub-turns : tie.Need-sub-turns Inv-loop μ-loop
+sub-turns c = search needs
+
+loop-less : tie.Need-loop-less Inv-loop μ-loop
+loop-less c = search needs
+
+loop-again : tie.Need-loop-again Inv-loop μ-loop
+loop-again c = search needs
+
+flush-requires : tie.Need-flush-requires Inv-loop μ-loop
+flush-requires c κs = search needs
+
+same-length : tie.Need-same-length Inv-loop μ-loop
+same-length c = search needs
+
+same-length-2 : tie.Need-same-length-2 Inv-loop μ-loop
+same-length-2 c = search needs
+
+same-length-3 : tie.Need-same-length-3 Inv-loop μ-loop
+same-length-3 c = search needs
+
+same-length-4 : tie.Need-same-length-4 Inv-loop μ-loop
+same-length-4 c = search needs
+
+returns : tie.Need-returns Inv-loop μ-loop
+returns c = search needs
+
+pub serve-spec : {M : Type 1} → statement M
+serve-spec =
+    tie.close
+    (tie.spec
+    Inv-loop
+    μ-loop
+    start-requires
+    next-requires
+    loop-holds
+    sub-said-of
+    part-said-of-start
+    part-said-of-end
+    said-of-requires
+    say-requires
+    next-requires-2
+    sub-turns
+    loop-less
+    loop-again
+    flush-requires
+    same-length
+    same-length-2
+    same-length-3
+    same-length-4
+    returns)

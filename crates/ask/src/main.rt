@@ -1,0 +1,56 @@
+// Answers cases: for each line of standard input that is a case, a line of what the port says of it, and `?` for any
+// other line. A case is a word and its fields, parted by blanks.
+mod fields;
+mod input;
+mod languages_cases;
+mod letters_cases;
+mod out;
+mod rules_cases;
+mod said;
+
+use said::Said;
+
+// What is said of a line. `given` is for the bytes of its fields, `made` for what the port writes.
+fn said_of(line: &[u8], given: &mut [u8], made: &mut [u8]) -> Said {
+    let f = fields::next(line, 0);
+    let from = f.from;
+    let to = f.to;
+    let word = &line[from..to];
+    let rest = &line[to..];
+    if letters_cases::knows(word) {
+        return letters_cases::said_of(word, rest, given, made);
+    }
+    if languages_cases::knows(word) {
+        return languages_cases::said_of(word, rest, given);
+    }
+    if rules_cases::knows(word) {
+        return rules_cases::said_of(word, rest, given);
+    }
+    Said::NoCase
+}
+
+// Answers every line of the input. The turns are counted down, from a number that no run uses up, since a proved loop
+// ends.
+fn serve(buf: &mut [u8], given: &mut [u8], made: &mut [u8], out: &mut [u8]) {
+    let mut s = input::next(buf, input::start());
+    let mut used: usize = 0;
+    let mut turns = u64::MAX;
+    while turns > 0 && s.open {
+        let from = s.from;
+        let to = s.to;
+        let said = said_of(&buf[from..to], given, made);
+        used = said::say(said, given, made, out, used);
+        s = input::next(buf, s);
+        turns -= 1;
+    }
+    out::flush(out, used);
+}
+
+fn main() {
+    // a line of 200,000 bytes and its line feed, and the bytes that such a line can give in hex
+    let mut buf = [0u8; 200001];
+    let mut given = [0u8; 100000];
+    let mut made = [0u8; 100000];
+    let mut out = io::large_buffer();
+    serve(&mut buf, &mut given, &mut made, &mut out);
+}

@@ -1,0 +1,68 @@
+-- Document 01's first examples: what the definitions compute, beside what the paper says.
+use Prim.Native.Nat.{ℕ, _+_, _^_}
+use mathlib.Core.Path.{_≡_}
+use mathlib.Core.Bool.{Bool, true, false}
+use mathlib.Core.List.{List, [], _∷_, map, _++_}
+use Rattle.languages.specs.Sets.{narrowed, merged}
+use Rattle.languages.specs.declared.sets.LanguageSet.{LanguageSet}
+use Rattle.languages.specs.declared.sets.LanguageSet.the-variants.{Any, SomeLanguages}
+use Rattle.rule.specs.Expressions.{piecesIn, textOf, setOf, checkedOf}
+use Rattle.rule.specs.declared.answers.Expression.{Expression}
+use Rattle.rule.specs.declared.answers.Expression.the-variants.{Good, Malformed, Stranger}
+use Rattle.regex_optim.specs.Contexts.{leftForm, fits}
+
+-- what an example shows
+pub data Answer : Type 0 where
+  refusal : ℕ → Answer
+  alternatives : List (record { text : List ℕ; set : LanguageSet }) → Answer
+  fitting : Bool → Answer
+  languages : LanguageSet → Answer
+
+pub record Row : Type 0 where
+  pub computed : Answer
+  pub expected : Answer
+
+abbrev pub row : Answer → Answer → Row
+row c e = record { computed = c; expected = e }
+
+-- the names de, fr, each behind its length byte: de is bit 0, fr bit 1
+abbrev pub names : List ℕ
+names = 2 ∷ 100 ∷ 101 ∷ 2 ∷ 102 ∷ 114 ∷ []
+
+abbrev pub alternative : List ℕ → LanguageSet → record { text : List ℕ; set : LanguageSet }
+alternative t s = record { text = t; set = s }
+
+-- an expression's alternatives, or 14 or 16
+unfoldable pub told : Expression → List ℕ → Answer
+told (Good n) e = alternatives (map (λ (a : List ℕ). alternative (textOf a) (setOf names a)) (piecesIn e))
+told Malformed e = refusal 14
+told Stranger e = refusal 16
+
+unfoldable pub expression : List ℕ → Answer
+expression e = told (checkedOf names e) e
+
+-- a left context against the text before a place
+unfoldable pub left : List ℕ → List ℕ → Answer
+left c before = fitting (fits (leftForm c) before)
+
+-- in bytes: `a` 97, `b` 98, `(` 40, `)` 41, `|` 124, `[` 91, `]` 93, `+` 43, `^` 94, `-` 45
+unfoldable pub table : List Row
+table =
+    row (expression (97 ∷ 91 ∷ 102 ∷ 114 ∷ 43 ∷ 100 ∷ 101 ∷ 93 ∷ [])) (alternatives (alternative (97 ∷ []) (SomeLanguages 3) ∷ []))
+    ∷ row (expression (40 ∷ 124 ∷ 97 ∷ 41 ∷ [])) (alternatives (alternative [] Any ∷ alternative (97 ∷ []) Any ∷ alternative [] Any ∷ []))
+    ∷ row (expression (40 ∷ 41 ∷ [])) (alternatives (alternative [] Any ∷ []))
+    ∷ row (expression (97 ∷ 124 ∷ 98 ∷ [])) (alternatives (alternative (97 ∷ 124 ∷ 98 ∷ []) Any ∷ []))
+    ∷ row (expression (40 ∷ 97 ∷ [])) (refusal 14)
+    ∷ row (expression (97 ∷ 91 ∷ 102 ∷ 114 ∷ [])) (refusal 14)
+    ∷ row (left (94 ∷ []) []) (fitting true)
+    ∷ row (left (94 ∷ []) (97 ∷ [])) (fitting false)
+    ∷ row (left (91 ∷ 97 ∷ 45 ∷ 99 ∷ 93 ∷ []) (45 ∷ [])) (fitting true)
+    ∷ row (left (91 ∷ 97 ∷ 45 ∷ 99 ∷ 93 ∷ []) (98 ∷ [])) (fitting false)
+    ∷ row (languages (narrowed Any (SomeLanguages 2))) (languages (SomeLanguages 2))
+    ∷ row (languages (merged Any (SomeLanguages 2))) (languages Any)
+    ∷ []
+
+-- each row's two sides are the same
+abbrev pub AllSame : List Row → Type 0
+AllSame [] = Unit {0}
+AllSame (r ∷ rs) = (r .computed ≡ r .expected) × AllSame rs

@@ -1,0 +1,52 @@
+use Rattle.base.specs.Pick.{cases}
+use Rattle.lang.specs.Patterns.{framed}
+use borrow.Author.Needs.{needs}
+use Rattle.lang.proofs.Forms.{framed-laws}
+use Rattle.lang.proofs.is_framed.Statement.{statement}
+use Rattle.lang.proofs.is_framed.Tie as tie
+use Rattle.lang.proofs.is_framed.Reads as reads
+use Rattle.lang.proofs.is_framed.Lts as lts
+use Rattle.texts.proofs.find_byte.Reads as find-byte-reads
+use Rattle.texts.proofs.first_is.Reads as first-is-reads
+
+first-is-requires : tie.Need-first-is-requires
+first-is-requires c κs = search (framed-laws, needs)
+
+first-is-requires-2 : tie.Need-first-is-requires-2
+first-is-requires-2 c κs = search (framed-laws, needs)
+
+find-byte-requires : tie.Need-find-byte-requires
+find-byte-requires c κs = search (framed-laws, needs)
+
+returns : tie.Need-returns
+unfolding framed
+returns c = search (framed-laws, cases) depth 9
+
+returns-2 : tie.Need-returns-2
+unfolding framed
+returns-2 c = search (framed-laws, cases) depth 9
+
+returns-3 : tie.Need-returns-3
+unfolding framed
+returns-3 c = search (framed-laws, cases) depth 9
+
+returns-4 : tie.Need-returns-4
+unfolding framed
+returns-4 c = search (framed-laws, cases) depth 9
+
+returns-5 : tie.Need-returns-5
+unfolding framed
+returns-5 c = search (framed-laws, cases) depth 9
+
+pub is-framed-spec : {M : Type 1} → statement M
+is-framed-spec =
+    tie.close
+    (tie.spec
+    first-is-requires
+    first-is-requires-2
+    find-byte-requires
+    returns
+    returns-2
+    returns-3
+    returns-4
+    returns-5)

@@ -1,0 +1,21 @@
+use Rattle.base.specs.Pick.{cases}
+use Rattle.rule.specs.Matching.{plainCode}
+use Rattle.rule.proofs.matching.is_plain.Statement.{statement}
+use Rattle.rule.proofs.matching.is_plain.Tie as tie
+use Rattle.rule.proofs.matching.is_plain.Reads as reads
+use Rattle.rule.proofs.matching.is_plain.Lts as lts
+
+returns : tie.Need-returns
+unfolding plainCode
+returns c = search cases
+
+returns-2 : tie.Need-returns-2
+unfolding plainCode
+returns-2 c = search cases
+
+returns-3 : tie.Need-returns-3
+unfolding plainCode
+returns-3 c = search cases
+
+pub is-plain-spec : {M : Type 1} → statement M
+is-plain-spec = tie.close (tie.spec returns returns-2 returns-3)

@@ -1,0 +1,72 @@
+// What a rule's string may hold, and whether a rule matches at a place of a text.
+ghost use mathlib.Core.Path.{_≡_};
+ghost use Rattle.rule.specs.Matching.{plainCode, ruleText, firstCode, ruleMatches};
+use letters::Step;
+
+// Whether a rule's string may hold the code point: no control, no double quote.
+fn is_plain(code: u32) -> bool
+    ensures { λ r. ⌜ r ≡ plainCode code ⌝ }
+{
+    if code < 0x20 {
+        false
+    } else if code == 0x22 {
+        false
+    } else {
+        code != 0x7F
+    }
+}
+
+// Whether s is a text that a rule or guessing line may hold (12 otherwise).
+pub fn is_rule_text(s: &[u8]) -> bool
+    ensures { λ r. ⌜ r ≡ ruleText (now (s .entry)) ⌝ }
+{
+    let mut p: usize = 0;
+    loop {
+        match letters::decode(s, p) {
+            Step::Char { code, len } => {
+                if is_plain(code) {
+                    p += len;
+                } else {
+                    return false;
+                }
+            }
+            Step::Ill => {
+                return false;
+            }
+            Step::End => {
+                return true;
+            }
+        }
+    }
+}
+
+// The first character of a pattern, and 0 where there is none.
+pub fn first_code(s: &[u8]) -> u32
+    ensures { λ r. ⌜ r ≡ firstCode (now (s .entry)) ⌝ }
+{
+    match letters::decode(s, 0) {
+        Step::Char { code, len: _ } => code,
+        Step::Ill => 0,
+        Step::End => 0,
+    }
+}
+
+// Whether a rule of this pattern, left and right context matches at a place of text.
+pub fn rule_matches(pattern: &[u8], left: &[u8], right: &[u8], text: &[u8], at: usize) -> bool
+    ensures { λ r. ⌜ r ≡ ruleMatches (now (pattern .entry)) (now (left .entry)) (now (right .entry)) (now (text .entry)) at ⌝ }
+{
+    let n = text.len();
+    if n < at {
+        return false;
+    }
+    if n - at < pattern.len() {
+        return false;
+    }
+    let end = at + pattern.len();
+    if letters::same(&text[at..end], pattern) {
+        if regex_optim::right_fits(right, &text[end..n]) {
+            return regex_optim::left_fits(left, &text[0..at]);
+        }
+    }
+    false
+}
