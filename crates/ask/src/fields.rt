@@ -47,6 +47,11 @@ pub fn last(line: &[u8], at: usize) -> Field
     f
 }
 
+// Whether there is no field.
+pub fn none(rest: &[u8]) -> bool {
+    past_blanks(rest, 0) == rest.len()
+}
+
 // The value of a digit of hex, and 16 for any other byte.
 fn digit(b: u8) -> u8
     ensures { λ r. ⌜ r ≤ 16 ⌝ }

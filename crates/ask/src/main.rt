@@ -5,13 +5,16 @@ mod input;
 mod languages_cases;
 mod letters_cases;
 mod out;
+mod packs_cases;
 mod rules_cases;
 mod said;
 
+ghost use Prim.Native.Nat.{_≤_};
+ghost use lib.ListN.{length};
 use said::Said;
 
-// What is said of a line. `given` is for the bytes of its fields, `made` for what the port writes.
-fn said_of(line: &[u8], given: &mut [u8], made: &mut [u8]) -> Said {
+// What is said of a line. `given` is for the bytes of its fields, `made` for what the port writes, `kept` is the pack.
+fn said_of(line: &[u8], given: &mut [u8], made: &mut [u8], kept: &[u8]) -> Said {
     let f = fields::next(line, 0);
     let from = f.from;
     let to = f.to;
@@ -26,19 +29,43 @@ fn said_of(line: &[u8], given: &mut [u8], made: &mut [u8]) -> Said {
     if rules_cases::knows(word) {
         return rules_cases::said_of(word, rest, given);
     }
+    if packs_cases::knows(word) {
+        return packs_cases::said_of(word, rest, given, kept);
+    }
     Said::NoCase
+}
+
+// Keeps a pack that a line gave, and answers how long the one that is kept now is.
+fn keep(said: Said, given: &[u8], pack: &mut [u8], held: usize) -> usize
+    requires { ⌜ held ≤ length (now pack) ⌝ }
+    ensures { λ r. ⌜ r ≤ length (now (pack .exit)) ⌝ }
+{
+    match said {
+        Said::Pack(n) => {
+            if n <= given.len() {
+                if n <= pack.len() {
+                    bytes::copy(&given[0..n], pack);
+                    return n;
+                }
+            }
+            held
+        }
+        _ => held,
+    }
 }
 
 // Answers every line of the input. The turns are counted down, from a number that no run uses up, since a proved loop
 // ends.
-fn serve(buf: &mut [u8], given: &mut [u8], made: &mut [u8], out: &mut [u8]) {
+fn serve(buf: &mut [u8], given: &mut [u8], made: &mut [u8], pack: &mut [u8], out: &mut [u8]) {
     let mut s = input::next(buf, input::start());
     let mut used: usize = 0;
+    let mut held: usize = 0;
     let mut turns = u64::MAX;
     while turns > 0 && s.open {
         let from = s.from;
         let to = s.to;
-        let said = said_of(&buf[from..to], given, made);
+        let said = said_of(&buf[from..to], given, made, &pack[0..held]);
+        held = keep(said, given, pack, held);
         used = said::say(said, given, made, out, used);
         s = input::next(buf, s);
         turns -= 1;
@@ -51,6 +78,7 @@ fn main() {
     let mut buf = [0u8; 200001];
     let mut given = [0u8; 100000];
     let mut made = [0u8; 100000];
+    let mut pack = [0u8; 98304];
     let mut out = io::large_buffer();
-    serve(&mut buf, &mut given, &mut made, &mut out);
+    serve(&mut buf, &mut given, &mut made, &mut pack, &mut out);
 }

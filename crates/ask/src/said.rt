@@ -8,7 +8,8 @@ use regex_optim::OptimizedRegex;
 use rule::Alternative;
 
 // `Codes` is the code points of so many bytes of `given`, `Hex` so many bytes of `made`; `Alternatives` is so many of the
-// expression that `given` has up to the second number, with the names from there up to the third.
+// expression that `given` has up to the second number, with the names from there up to the third; `Pack` is so many bytes
+// of `given` to keep, and prints nothing.
 pub enum Said {
     NoCase,
     Dash,
@@ -21,6 +22,9 @@ pub enum Said {
     Set(LanguageSet),
     Form(OptimizedRegex, bool),
     Alternatives(usize, usize, usize),
+    Pack(usize),
+    Five(usize),
+    Guessed(LanguageSet),
 }
 
 // The first n bytes of s, or all where there are fewer.
@@ -115,6 +119,17 @@ fn set_line(s: LanguageSet, out: &mut [u8], used: usize) -> usize
     out::put(out, used, b"\n")
 }
 
+// Puts the line of a set that was guessed.
+fn guessed_line(s: LanguageSet, out: &mut [u8], used: usize) -> usize
+    requires { ⌜ used ≤ length (now out) ⌝ }
+    ensures { λ r. ⌜ r ≤ length (now (out .exit)) ⌝ }
+{
+    match s {
+        LanguageSet::SomeLanguages(bits) => labelled(b"some ", bits as u64, out, used),
+        _ => set_line(s, out, used),
+    }
+}
+
 // Puts the name of a form.
 fn put_form(form: OptimizedRegex, out: &mut [u8], used: usize) -> usize
     requires { ⌜ used ≤ length (now out) ⌝ }
@@ -202,6 +217,9 @@ pub fn say(s: Said, given: &[u8], made: &[u8], out: &mut [u8], used: usize) -> u
         Said::Hex(n) => out::hex_line(out, used, front(made, n)),
         Said::Order(o) => order_line(o, out, used),
         Said::Set(set) => set_line(set, out, used),
+        Said::Pack(_) => used,
+        Said::Five(place) => labelled(b"5 ", place as u64, out, used),
+        Said::Guessed(set) => guessed_line(set, out, used),
         Said::Form(form, fits) => form_line(form, fits, out, used),
         Said::Alternatives(n, middle, end) => alternatives_line(
             n,

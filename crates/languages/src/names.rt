@@ -9,7 +9,7 @@ pub enum Listed {
 }
 
 // What stands at a place of a list of strings: a string from start up to end, or no whole one.
-enum Next {
+pub enum Next {
     Whole { start: usize, end: usize },
     Cut,
 }
@@ -52,7 +52,7 @@ pub fn is_language_name(s: &[u8]) -> bool
 }
 
 // The string at a place of `names`: a length byte and as many bytes.
-fn string_at(names: &[u8], at: usize) -> Next
+pub fn string_at(names: &[u8], at: usize) -> Next
     ensures { λ r. ⌜ r ≡ stringAt (now (names .entry)) at ⌝ }
 {
     if names.len() <= at {

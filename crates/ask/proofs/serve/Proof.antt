@@ -9,15 +9,18 @@ use Rattle.ask.proofs.serve.Reads as reads
 use Rattle.ask.proofs.serve.Lts as lts
 use Rattle.ask.proofs.input.next.Reads as next-reads
 use Rattle.ask.proofs.input.start.Reads as start-reads
+use Rattle.ask.proofs.keep.Reads as keep-reads
 use Rattle.ask.proofs.out.flush.Reads as flush-reads
 use Rattle.ask.proofs.said.say.Reads as say-reads
 use Rattle.ask.proofs.said_of.Reads as said-of-reads
 
 abbrev Inv-loop : tie.InvT-loop
-Inv-loop buf₀ given₀ made₀ out₀ s₀ used₀ turns₀ buf given made out s used turns = Stands s (length buf) × (used ≤ length out) × (length buf ≡ length buf₀) × (length given ≡ length given₀) × (length made ≡ length made₀) × (length out ≡ length out₀)
+Inv-loop buf₀ given₀ made₀ pack₀ out₀ s₀ used₀ held₀ turns₀ buf given made pack out s used held turns =
+    Stands s (length buf) × (used ≤ length out) × (held ≤ length pack) × (length buf ≡ length buf₀) × (length given ≡ length given₀) × (length made ≡ length made₀) × (length pack ≡ length pack₀) × (length out ≡ length out₀)
 
 abbrev μ-loop : tie.MeasureT-loop
-μ-loop buf₀ given₀ made₀ out₀ s₀ used₀ turns₀ buf given made out s used turns = turns
+μ-loop buf₀ given₀ made₀ pack₀ out₀ s₀ used₀ held₀ turns₀ buf given made pack out s used held turns =
+    turns
 
 start-requires : tie.Need-start-requires Inv-loop μ-loop
 start-requires c κs = search needs
@@ -37,8 +40,20 @@ part-said-of-start c = search needs
 part-said-of-end : tie.Need-part-said-of-end Inv-loop μ-loop
 part-said-of-end c = search needs
 
+sub-said-of-2 : tie.Need-sub-said-of-2 Inv-loop μ-loop
+sub-said-of-2 c = search needs
+
+part-said-of-start-2 : tie.Need-part-said-of-start-2 Inv-loop μ-loop
+part-said-of-start-2 c = search needs
+
+part-said-of-end-2 : tie.Need-part-said-of-end-2 Inv-loop μ-loop
+part-said-of-end-2 c = search needs
+
 said-of-requires : tie.Need-said-of-requires Inv-loop μ-loop
 said-of-requires c κs = search needs
+
+keep-requires : tie.Need-keep-requires Inv-loop μ-loop
+keep-requires c κs = search needs
 
 say-requires : tie.Need-say-requires Inv-loop μ-loop
 say-requires c κs = search needs
@@ -70,6 +85,9 @@ same-length-3 c = search needs
 same-length-4 : tie.Need-same-length-4 Inv-loop μ-loop
 same-length-4 c = search needs
 
+same-length-5 : tie.Need-same-length-5 Inv-loop μ-loop
+same-length-5 c = search needs
+
 returns : tie.Need-returns Inv-loop μ-loop
 returns c = search needs
 
@@ -85,7 +103,11 @@ serve-spec =
     sub-said-of
     part-said-of-start
     part-said-of-end
+    sub-said-of-2
+    part-said-of-start-2
+    part-said-of-end-2
     said-of-requires
+    keep-requires
     say-requires
     next-requires-2
     sub-turns
@@ -96,4 +118,5 @@ serve-spec =
     same-length-2
     same-length-3
     same-length-4
+    same-length-5
     returns)

@@ -1,0 +1,107 @@
+-- Laws of sets as numbers: narrowing is `&`, merging is `|`, and a set is empty where nothing stands below bit 32. Assumes nothing.
+use mathlib.Core.Path.{_≡_, refl, sym, ap, ap₂, _∙_}
+use Prim.Native.Nat.{ℕ, _+_, _-_, _*_, _^_, _%_, _<_}
+use native.Mathlib.Omega.{arith}
+use lib.Bits.{bitAnd, bitOr, and-block, or-block, and-mask, and-comm, or-comm, and-zero-l, and-zero-r, or-zero-l, or-zero-r, or-add-and}
+use lib.Dec.{eqb}
+use borrow.Author.Tests.{lt-ltb, le-ltb}
+use Rattle.base.specs.Pick.{pick}
+use Rattle.languages.specs.Sets.{narrowed, merged, isEmpty, BitsBelow}
+use Rattle.languages.specs.Coded.{coded, decoded, IsCode}
+use Rattle.languages.specs.declared.sets.LanguageSet.{LanguageSet}
+use Rattle.languages.specs.declared.sets.LanguageSet.the-variants.{Any, NoLanguages, SomeLanguages}
+use Rattle.languages.proofs.Laws.{narrow-below, merge-below}
+
+-- ---- the parts below bit 32 and from there on
+
+all-ones : (x : ℕ) → x < 2 ^ 32 → bitAnd x (2 ^ 32 - 1) ≡ x
+all-ones x h = and-mask x 32 ∙ omega arith
+
+module _ (a b x y : ℕ) (hx : x < 2 ^ 32) (hy : y < 2 ^ 32) where
+  and-parts : bitAnd (a * 2 ^ 32 + x) (b * 2 ^ 32 + y) ≡ bitAnd a b * 2 ^ 32 + bitAnd x y
+  and-parts = and-block 32 a b x y hx hy
+
+  or-parts : bitOr (a * 2 ^ 32 + x) (b * 2 ^ 32 + y) ≡ bitOr a b * 2 ^ 32 + bitOr x y
+  or-parts = or-block 32 a b x y hx hy
+
+or-ones : (x : ℕ) → x < 2 ^ 32 → bitOr x (2 ^ 32 - 1) ≡ 2 ^ 32 - 1
+or-ones x h = omega (arith, or-add-and x (2 ^ 32 - 1), all-ones x h)
+
+-- ---- the laws
+
+pub and-coded : (a b : LanguageSet) → BitsBelow 32 a → BitsBelow 32 b → coded (narrowed a b) ≡ bitAnd (coded a) (coded b)
+unfolding BitsBelow narrowed coded
+and-coded Any Any p q = refl
+and-coded NoLanguages Any p q = sym (and-zero-l (2 ^ 34 - 1))
+and-coded (SomeLanguages x) Any p q = sym (and-parts 1 3 x (2 ^ 32 - 1) p (omega arith) ∙ ap (λ (n : ℕ). 2 ^ 32 + n) (all-ones x p))
+and-coded a NoLanguages p q = sym (and-zero-r (coded a))
+and-coded Any (SomeLanguages y) p q =
+    sym (and-comm (2 ^ 34 - 1) (2 ^ 32 + y) ∙ and-parts 1 3 y (2 ^ 32 - 1) q (omega arith) ∙ ap (λ (n : ℕ). 2 ^ 32 + n) (all-ones y q))
+and-coded NoLanguages (SomeLanguages y) p q = sym (and-zero-l (2 ^ 32 + y))
+and-coded (SomeLanguages x) (SomeLanguages y) p q = sym (and-parts 1 1 x y p q)
+
+pub or-coded : (a b : LanguageSet) → BitsBelow 32 a → BitsBelow 32 b → coded (merged a b) ≡ bitOr (coded a) (coded b)
+unfolding BitsBelow merged coded
+or-coded Any Any p q = refl
+or-coded NoLanguages Any p q = refl
+or-coded (SomeLanguages x) Any p q = sym (or-parts 1 3 x (2 ^ 32 - 1) p (omega arith) ∙ ap (λ (n : ℕ). 3 * 2 ^ 32 + n) (or-ones x p))
+or-coded a NoLanguages p q = sym (or-zero-r (coded a))
+or-coded Any (SomeLanguages y) p q =
+    sym (or-comm (2 ^ 34 - 1) (2 ^ 32 + y) ∙ or-parts 1 3 y (2 ^ 32 - 1) q (omega arith) ∙ ap (λ (n : ℕ). 3 * 2 ^ 32 + n) (or-ones y q))
+or-coded NoLanguages (SomeLanguages y) p q = sym (or-zero-l (2 ^ 32 + y))
+or-coded (SomeLanguages x) (SomeLanguages y) p q = sym (or-parts 1 1 x y p q)
+
+mod-coded : (x : ℕ) → x < 2 ^ 32 → (2 ^ 32 + x) % 2 ^ 32 ≡ x
+mod-coded x h = omega arith
+
+pub empty-coded : (a : LanguageSet) → BitsBelow 32 a → isEmpty a ≡ eqb (coded a % 2 ^ 32) 0
+unfolding BitsBelow isEmpty coded
+empty-coded Any p = refl
+empty-coded NoLanguages p = refl
+empty-coded (SomeLanguages x) p = ap (λ (n : ℕ). eqb n 0) (sym (mod-coded x p))
+
+pub decoded-coded : (a : LanguageSet) → BitsBelow 32 a → decoded (coded a) ≡ a
+unfolding BitsBelow coded decoded pick
+decoded-coded Any p = refl
+decoded-coded NoLanguages p = refl
+decoded-coded (SomeLanguages x) p =
+    let high : 2 ^ 32 + x < 2 ^ 33 = omega arith in
+    let rest : 2 ^ 32 + x - 2 ^ 32 ≡ x = omega arith in
+    simp (le-ltb (2 ^ 32 + x) (2 ^ 32) (omega arith), lt-ltb (2 ^ 32 + x) (2 ^ 33) high, rest)
+
+-- ---- the same of numbers that stand for sets
+
+pub is-code : (a : LanguageSet) → BitsBelow 32 a → IsCode (coded a)
+is-code a p = record { set = a; below = p; is = refl }
+
+decoded-is : {x : ℕ} (c : IsCode x) → decoded x ≡ c .set
+decoded-is c = ap decoded (c .is) ∙ decoded-coded (c .set) (c .below)
+
+module _ {x y : ℕ} (c : IsCode x) (d : IsCode y) where
+  pub and-code : IsCode (bitAnd x y)
+  and-code = record {
+    set = narrowed (c .set) (d .set);
+    below = narrow-below 32 (c .set) (d .set) _ refl (c .below) (d .below);
+    is = ap₂ bitAnd (c .is) (d .is) ∙ sym (and-coded (c .set) (d .set) (c .below) (d .below));
+  }
+
+  pub or-code : IsCode (bitOr x y)
+  or-code = record {
+    set = merged (c .set) (d .set);
+    below = merge-below 32 (c .set) (d .set) _ refl (c .below) (d .below);
+    is = ap₂ bitOr (c .is) (d .is) ∙ sym (or-coded (c .set) (d .set) (c .below) (d .below));
+  }
+
+  -- narrowing is `&`
+  pub and-decoded : decoded (bitAnd x y) ≡ narrowed (decoded x) (decoded y)
+  unfolding and-code
+  and-decoded = decoded-is and-code ∙ sym (ap₂ narrowed (decoded-is c) (decoded-is d))
+
+  -- merging is `|`
+  pub or-decoded : decoded (bitOr x y) ≡ merged (decoded x) (decoded y)
+  unfolding or-code
+  or-decoded = decoded-is or-code ∙ sym (ap₂ merged (decoded-is c) (decoded-is d))
+
+-- empty is "nothing below bit 32"
+pub empty-decoded : {x : ℕ} → IsCode x → isEmpty (decoded x) ≡ eqb (x % 2 ^ 32) 0
+empty-decoded c = ap isEmpty (decoded-is c) ∙ empty-coded (c .set) (c .below) ∙ ap (λ (n : ℕ). eqb (n % 2 ^ 32) 0) (sym (c .is))

@@ -1,0 +1,338 @@
+-- A guessing rule by its places, the test of one, the loop over the section, and guessing. Assumes nothing.
+use Prim.{Unit}
+use mathlib.Core.Path.{_≡_, refl, sym, ap, ap₂, _∙_}
+use mathlib.Core.Bool.{Bool, true, false, not}
+use mathlib.Core.List.{List, [], _∷_}
+use Prim.Native.Nat.{ℕ, zero, suc, _+_, _-_, _*_, _%_, _^_, _≤_, _<_, min}
+use native.Mathlib.Nat.{one-mul, not-suc-le-zero}
+use native.Mathlib.Omega.{arith}
+use lib.Dec.{eqb, ltb, lit<}
+use lib.Pow.{shl-exact, pow-pos}
+use lib.ListN.{length, getD, take, drop, length-take, length-drop}
+use lib.Seq.{drop-drop}
+use borrow.Author.Tests.{le-leb, lt-leb, lt-ltb, le-ltb, eq-eqb, ne-eqb}
+use Rattle.base.specs.Pick.{pick, and, and-first, and-second}
+use Rattle.languages.specs.Names.{stringAt}
+use Rattle.languages.specs.declared.names.Next.{Next}
+use Rattle.languages.specs.declared.names.Next.the-variants as next
+use Rattle.languages.specs.declared.sets.LanguageSet.{LanguageSet}
+use Rattle.rule.specs.Matching.{ruleText}
+use Rattle.lang.specs.Patterns.{inForms}
+use Rattle.pack.specs.Reading.{Read, cut, got, andThen, readByte, readNumber, readText, readMany}
+use Rattle.pack.specs.Packs.{Guess, guess, readGuess, readGuesses, all, guessGood, guessesGood, placeIn}
+use Rattle.pack.specs.Guessing.{narrowedBy, narrowedByAll, leftOver, allListed, guessed, behind, readSome, guessesAt, guessedAt}
+use Rattle.pack.specs.Walks.{ByteIs, numberAt, judge, endIn, run, guessesFrom, placedGuess, guessAt}
+use Rattle.pack.specs.declared.reading.Number.{Number}
+use Rattle.pack.specs.declared.reading.Number.the-variants as number
+use Rattle.pack.specs.declared.reading.Section.{Section}
+use Rattle.pack.specs.declared.reading.Section.the-variants.{End, Bad}
+use Rattle.pack.specs.declared.guessing.GuessAt.{GuessAt}
+use Rattle.pack.specs.declared.guessing.GuessAt.the-variants as guesses
+use Rattle.pack.proofs.Readers.{clash, EndOf, end-here, place-drop, then-inv, many-length, byte-ends, number-ends, guess-ends, byte-some, byte-none, count-of, count-cut, mask-of, mask-cut, text-is, text-cut, TextThen, reads-on, text-then}
+use Rattle.pack.proofs.Walks.{Faulty, runs-out, fails, section-ends, section-faulty, judge-fine, judge-faulty, judge-same, walk-on, walk-off, walk-end}
+
+-- ---- a guessing rule at a place
+
+pub guess-none : (s : List ℕ) (at : ℕ) → length s ≤ at → guesses.Cut ≡ guessAt s at
+unfolding guessAt placedGuess readGuess andThen
+guess-none s at h = rw (byte-none s at h) refl
+
+module _ (s : List ℕ) (at : ℕ) (h : at < length s) (y : Number) (g : y ≡ numberAt 4 s (at + 1)) where
+  pub guess-cut-mask : y ≡ number.Cut → guesses.Cut ≡ guessAt s at
+  unfolding guessAt placedGuess readGuess andThen
+  guess-cut-mask q = rw (byte-some s at h, mask-cut s (at + 1) y g q) refl
+
+  module _ (m d : ℕ) (q : y ≡ number.Of m d) where
+    mask-reads : readNumber 4 (drop (at + 1) s) ≡ got m (drop d s)
+    mask-reads = mask-of s (at + 1) y m d g q .reads
+
+    module _ (x : Next) (f : x ≡ stringAt s d) where
+      pub guess-cut-text : x ≡ next.Cut → guesses.Cut ≡ guessAt s at
+      unfolding guessAt placedGuess readGuess andThen
+      guess-cut-text p = rw (byte-some s at h, mask-reads, text-cut s d x f p) refl
+
+      pub guess-whole : (a e b : ℕ) → x ≡ next.Whole a e → ByteIs s at b → guesses.At b m a e ≡ guessAt s at
+      unfolding guessAt placedGuess readGuess andThen
+      guess-whole a e b p k =
+          let w = text-is s d x f a e p in
+          let accept : b ≡ getD s at 0 = k .is in
+          let end : e ≡ placeIn s (drop e s) = sym (place-drop s e (w .fits)) in
+          let start : a ≡ placeIn s (drop e s) - length (take (e - a) (drop a s)) =
+          omega (arith, place-drop s e (w .fits), length-take (e - a) (drop a s), length-drop a s, w .fits, w .size) in
+          rw (byte-some s at h, mask-reads, w .reads) (cc)
+
+pub ruleset guess-at-laws = (guess-none, guess-cut-mask, guess-cut-text, guess-whole)
+
+-- what stands there
+pub record GuessIs (s : List ℕ) (at b m a e : ℕ) : Type 0 where
+  pub order : a ≤ e
+  pub fits : e ≤ length s
+  pub reads : readGuess (drop at s) ≡ got (guess b m (take (e - a) (drop a s))) (drop e s)
+
+guess-is-3 : (s : List ℕ) (at d x n : ℕ) (g : Guess) (q : List ℕ) (b m a e : ℕ) → readGuess (drop at s) ≡ got g q
+    → TextThen s d (λ p t. got (guess x n p) t) g q → placedGuess s (got g q) ≡ guesses.At b m a e → GuessIs s at b m a e
+unfolding placedGuess
+guess-is-3 s at d x n g q b m a e r (reads-on p w h) k =
+    let rest : drop (d + 1 + length p) s ≡ q = cc in
+    let is : guess x n p ≡ g = cc in
+    let accept : g .accept ≡ b = cc in
+    let mask : g .mask ≡ m = cc in
+    let pattern : p ≡ g .pattern = ap (λ (y : Guess). y .pattern) is in
+    let end : placeIn s q ≡ e = cc in
+    let start : placeIn s q - length (g .pattern) ≡ a = cc in
+    let place : placeIn s q ≡ d + 1 + length p = sym (ap (placeIn s) rest) ∙ place-drop s (d + 1 + length p) (w .fits) in
+    let size : length p ≡ length (g .pattern) = ap length pattern in
+    let from : a ≡ d + 1 = omega (arith, start, place, size) in
+    let n : e - a ≡ length p = omega (arith, end, place, from) in
+    let text : g .pattern ≡ take (e - a) (drop a s) = sym pattern ∙ sym (w .text) ∙ ap₂ (λ (i j : ℕ). take i (drop j s)) (sym n) (sym from) in
+    let to : d + 1 + length p ≡ e = sym place ∙ end in
+    record {
+      order = omega (arith, n, from, to);
+      fits = omega (arith, w .fits, to);
+      reads = r ∙ ap₂ (λ (y : Guess) (l : List ℕ). got y l) (λ i. record { accept = accept i; mask = mask i; pattern = text i }) (sym rest ∙ ap (λ (i : ℕ). drop i s) to);
+    }
+
+rest-drop : (s r q : List ℕ) (d : ℕ) → r ≡ drop d s → (v : EndOf r q) → q ≡ drop (d + v .at) s
+rest-drop s r q d e v = v .is ∙ ap (drop (v .at)) e ∙ drop-drop (v .at) d s
+
+module _ (s : List ℕ) (at : ℕ) (g : Guess) (q : List ℕ) (b m a e : ℕ) (r : readGuess (drop at s) ≡ got g q) (k : placedGuess s (got g q) ≡ guesses.At b m a e) where
+  guess-is-2 : (x : ℕ) (l : List ℕ) (d : ℕ) → l ≡ drop d s → (n : ℕ) (l₂ : List ℕ) → readNumber 4 l ≡ got n l₂ → andThen (readText l₂) (λ p t. got (guess x n p) t) ≡ got g q → GuessIs s at b m a e
+  guess-is-2 x l d h n l₂ i j =
+      let v : EndOf l l₂ = number-ends 4 l n l₂ i in
+      let f : l₂ ≡ drop (d + v .at) s = rest-drop s l l₂ d h v in
+      let o : andThen (readText (drop (d + v .at) s)) (λ p t. got (guess x n p) t) ≡ got g q =
+      ap (λ (y : List ℕ). andThen (readText y) (λ p t. got (guess x n p) t)) (sym f) ∙ j in
+      guess-is-3 s at (d + v .at) x n g q b m a e r (text-then s (d + v .at) (λ p t. got (guess x n p) t) g q o) k
+
+  guess-is-1 : (x : ℕ) (l : List ℕ) → readByte (drop at s) ≡ got x l → andThen (readNumber 4 l) (λ n t. andThen (readText t) (λ p u. got (guess x n p) u)) ≡ got g q → GuessIs s at b m a e
+  guess-is-1 x l i j =
+      let o = then-inv (readNumber 4 l) _ g q j in
+      let v : EndOf (drop at s) l = byte-ends (drop at s) x l i in
+      guess-is-2 x l (at + v .at) (rest-drop s (drop at s) l at refl v) (o .0) (o .1) (o .2) (o .3)
+
+  guess-is-0 : GuessIs s at b m a e
+  unfolding readGuess
+  guess-is-0 = let o = then-inv (readByte (drop at s)) _ g q r in guess-is-1 (o .0) (o .1) (o .2) (o .3)
+
+is-by : (s : List ℕ) (at b m a e : ℕ) (x : Read Guess) → readGuess (drop at s) ≡ x → placedGuess s x ≡ guesses.At b m a e → GuessIs s at b m a e
+unfolding placedGuess
+is-by s at b m a e cut g h = clash (cc)
+is-by s at b m a e (got r q) g h = guess-is-0 s at r q b m a e g h
+
+cut-by : (s : List ℕ) (at : ℕ) (x : Read Guess) → readGuess (drop at s) ≡ x → placedGuess s x ≡ guesses.Cut → readGuess (drop at s) ≡ cut
+unfolding placedGuess
+cut-by s at cut g h = g
+cut-by s at (got r q) g h = clash (cc)
+
+module _ (s : List ℕ) (at : ℕ) (x : GuessAt) (g : x ≡ guessAt s at) where
+  pub guess-is : (b m a e : ℕ) → x ≡ guesses.At b m a e → GuessIs s at b m a e
+  unfolding guessAt
+  guess-is b m a e q = is-by s at b m a e _ refl (sym g ∙ q)
+
+  pub guess-cut : x ≡ guesses.Cut → readGuess (drop at s) ≡ cut
+  unfolding guessAt
+  guess-cut q = cut-by s at _ refl (sym g ∙ q)
+
+-- ---- the listed bits, and the test of a guessing rule
+
+pub listed-full : (n : ℕ) → 32 ≤ n → 4294967295 ≡ allListed (min 32 n)
+unfolding allListed
+listed-full n h = let e : min 32 n ≡ 32 = omega arith in sym (ap (λ (k : ℕ). 2 ^ k - 1) e)
+
+one-bit : (n : ℕ) → n < 32 → (1 * 2 ^ n) % 2 ^ 32 ≡ 2 ^ n
+one-bit n h = shl-exact 1 n 32 (lit< tt) (omega arith) ∙ one-mul (2 ^ n)
+
+pub listed-room : (n : ℕ) → n < 32 → 1 ≤ (1 * 2 ^ n) % 2 ^ 32
+listed-room n h = rw (one-bit n h) (pow-pos n)
+
+pub listed-some : (n : ℕ) → n < 32 → (1 * 2 ^ n) % 2 ^ 32 - 1 ≡ allListed (min 32 n)
+unfolding allListed
+listed-some n h = let e : min 32 n ≡ n = omega arith in ap (λ (k : ℕ). k - 1) (one-bit n h) ∙ sym (ap (λ (k : ℕ). 2 ^ k - 1) e)
+
+pub ruleset listed-laws = (listed-full, listed-room, listed-some)
+
+listed-is : (n x : ℕ) → n ≤ 32 → x ≡ allListed (min 32 n) → x ≡ 2 ^ n - 1
+unfolding allListed
+listed-is n x h p = let e : min 32 n ≡ n = omega arith in p ∙ ap (λ (k : ℕ). 2 ^ k - 1) e
+
+not-zero : (m : ℕ) → (m ≡ 0 → ⊥) → not (eqb m 0) ≡ true
+not-zero m h = ap not (ne-eqb m 0 h)
+
+module _ (n b m : ℕ) (p : List ℕ) where
+  pub guess-accept : 1 < b → false ≡ guessGood n (guess b m p)
+  unfolding guessGood
+  guess-accept h = sym (and-first _ _ (lt-leb _ _ h))
+
+  pub guess-zero : b ≤ 1 → m ≡ 0 → false ≡ guessGood n (guess b m p)
+  unfolding guessGood
+  guess-zero h e = sym (and-second _ _ (le-leb _ _ h) (and-first _ _ (ap not (eq-eqb m 0 e))))
+
+  module _ (x : ℕ) (h : b ≤ 1) (e : m ≡ 0 → ⊥) (few : n ≤ 32) (l : x ≡ allListed (min 32 n)) where
+    pub guess-unlisted : x < m → false ≡ guessGood n (guess b m p)
+    unfolding guessGood
+    guess-unlisted o =
+        let high : 2 ^ n ≤ m = omega (arith, listed-is n x few l, pow-pos n) in
+        sym (and-second _ _ (le-leb _ _ h) (and-second _ _ (not-zero m e) (and-first _ _ (le-ltb _ _ high))))
+
+    low : m ≤ x → ltb m (2 ^ n) ≡ true
+    low o = let below : m < 2 ^ n = omega (arith, listed-is n x few l, pow-pos n) in lt-ltb _ _ below
+
+    module _ (o : m ≤ x) (t : Bool) (q : t ≡ ruleText p) where
+      pub guess-no-text : t ≡ false → false ≡ guessGood n (guess b m p)
+      unfolding guessGood
+      guess-no-text v = sym (and-second _ _ (le-leb _ _ h) (and-second _ _ (not-zero m e) (and-second _ _ (low o) (and-first _ _ (sym q ∙ v)))))
+
+      pub guess-all : (u : Bool) → t ≡ true → u ≡ inForms p → u ≡ guessGood n (guess b m p)
+      unfolding guessGood and
+      guess-all u v f = rw (le-leb b 1 h, not-zero m e, low o, sym q ∙ v) f
+
+pub ruleset guess-test-laws = (guess-accept, guess-zero, guess-unlisted, guess-no-text, guess-all)
+
+-- ---- one after the other
+
+module _ (s : List ℕ) (at n : ℕ) (x : GuessAt) (g : x ≡ guessAt s at) where
+  pub next-guess-cut : x ≡ guesses.Cut → Bad ≡ endIn s (guessGood n) (readGuess (drop at s))
+  unfolding endIn
+  next-guess-cut q = sym (judge-faulty _ _ _ _ (runs-out (guess-cut s at x g q)))
+
+  module _ (b m a e : ℕ) (q : x ≡ guesses.At b m a e) where
+    pub guess-order : a ≤ e
+    guess-order = guess-is s at x g b m a e q .order
+
+    pub guess-fits : e ≤ length s
+    guess-fits = guess-is s at x g b m a e q .fits
+
+    module _ (t : Bool) (k : t ≡ guessGood n (guess b m (take (e - a) (drop a s)))) where
+      pub next-guess-bad : t ≡ false → Bad ≡ endIn s (guessGood n) (readGuess (drop at s))
+      unfolding endIn
+      next-guess-bad v = sym (judge-faulty _ _ _ _ (fails _ _ (guess-is s at x g b m a e q .reads) (sym k ∙ v)))
+
+      pub next-guess-good : t ≡ true → End e ≡ endIn s (guessGood n) (readGuess (drop at s))
+      unfolding endIn
+      next-guess-good v =
+          let w = guess-is s at x g b m a e q in
+          sym (judge-fine _ _ _ _ _ _ (w .reads) (sym k ∙ v) ∙ ap End (place-drop s e (w .fits)))
+
+pub ruleset next-guess-laws = (next-guess-cut, guess-order, guess-fits, next-guess-bad, next-guess-good)
+
+pub record Guessing (s : List ℕ) (n start count at left : ℕ) : Type 0 where
+  pub within : at ≤ length s
+  pub is : endIn s (guessesFrom n) (readMany readGuess count (drop start s)) ≡ endIn s (guessesFrom n) (readMany readGuess left (drop at s))
+
+pub guessing-start : (s : List ℕ) (n start count : ℕ) → start ≤ length s → Guessing s n start count start count
+guessing-start s n start count h = record { within = h; is = refl }
+
+module _ {s : List ℕ} {n start count at left : ℕ} (w : Guessing s n start count at left) where
+  module _ (x : Section) (g : x ≡ endIn s (guessGood n) (readGuess (drop at s))) (h : 0 < left) where
+    pub guessing-next : (e : ℕ) → x ≡ End e → Guessing s n start count e (left - 1)
+    unfolding guessesFrom
+    guessing-next e q =
+        let o = section-ends s (guessGood n) readGuess (drop at s) x g guess-ends (end-here s at (w .within)) e q in
+        record {
+          within = o .fits;
+          is = w .is ∙ walk-on s readGuess (λ (u : Unit {0}) y. guessGood n y) (λ u y. u) (λ u. true) tt left _ (o .value) _ h (o .reads) (o .passes);
+        }
+
+    pub guessing-bad : x ≡ Bad → Bad ≡ endIn s (guessesFrom n) (readMany readGuess count (drop start s))
+    unfolding guessesFrom
+    guessing-bad q =
+        sym (w .is ∙ walk-off s readGuess (λ (u : Unit {0}) y. guessGood n y) (λ u y. u) (λ u. true) tt left _ h (section-faulty s (guessGood n) readGuess (drop at s) x g q))
+
+  pub guessing-done : left ≤ 0 → End at ≡ endIn s (guessesFrom n) (readMany readGuess count (drop start s))
+  unfolding guessesFrom pick
+  guessing-done h = sym (w .is ∙ walk-end s readGuess (λ (u : Unit {0}) y. guessGood n y) (λ u y. u) (λ u. true) tt left at h (w .within))
+
+pub ruleset guessing-laws = (guessing-start, guessing-next, guessing-bad, guessing-done)
+
+-- ---- the section
+
+guesses-are : (n : ℕ) (gs : List Guess) → guessesFrom n gs ≡ all (guessGood n) gs
+unfolding guessesFrom run all
+guesses-are n [] = refl
+guesses-are n (x ∷ xs) = ap (and (guessGood n x)) (guesses-are n xs)
+
+section-is : (n : ℕ) (gs : List Guess) → length gs ≤ 4096 → guessesGood n gs ≡ guessesFrom n gs
+unfolding guessesGood and
+section-is n gs h = rw (le-leb (length gs) 4096 h) (sym (guesses-are n gs))
+
+section-not : (n : ℕ) (gs : List Guess) → 4096 < length gs → guessesGood n gs ≡ false
+unfolding guessesGood
+section-not n gs h = and-first _ _ (lt-leb _ _ h)
+
+much-by : (n : ℕ) (l : List ℕ) (k : ℕ) (x : Read (List Guess)) → readMany readGuess k l ≡ x → 4096 < k → Faulty (guessesGood n) x
+much-by n l k cut e h = runs-out refl
+much-by n l k (got gs q) e h = let long : 4096 < length gs = omega (arith, many-length readGuess k l gs q e) in fails gs q refl (section-not n gs long)
+
+module _ (s : List ℕ) (n at : ℕ) (r : Number) (p : r ≡ numberAt 2 s at) where
+  pub guesses-cut : r ≡ number.Cut → Bad ≡ endIn s (guessesGood n) (readGuesses (drop at s))
+  unfolding endIn readGuesses andThen judge
+  guesses-cut q = rw (count-cut s at r p q) refl
+
+  module _ (k d : ℕ) (q : r ≡ number.Of k d) where
+    guesses-reads : readGuesses (drop at s) ≡ readMany readGuess k (drop d s)
+    unfolding readGuesses andThen
+    guesses-reads = rw (count-of s at r k d p q .reads) refl
+
+    pub guesses-much : 4096 < k → Bad ≡ endIn s (guessesGood n) (readGuesses (drop at s))
+    unfolding endIn
+    guesses-much h = sym (ap (endIn s (guessesGood n)) guesses-reads ∙ judge-faulty _ _ _ _ (much-by n _ k _ refl h))
+
+    pub guesses-start : d ≤ length s
+    guesses-start = count-of s at r k d p q .fits
+
+    pub guesses-many : (x : Section) → k ≤ 4096 → x ≡ endIn s (guessesFrom n) (readMany readGuess k (drop d s)) → x ≡ endIn s (guessesGood n) (readGuesses (drop at s))
+    unfolding endIn
+    guesses-many x h e =
+        e ∙ sym (ap (endIn s (guessesGood n)) guesses-reads
+        ∙ judge-same _ _ _ _ _ (λ gs t g. let few : length gs ≤ 4096 = omega (arith, many-length readGuess k (drop d s) gs t g) in section-is n gs few))
+
+pub ruleset guesses-laws = (guesses-cut, guesses-much, guesses-start, guesses-many)
+
+-- ---- guessing: the rules from a place on narrow what is left
+
+pub record Narrowing (s name : List ℕ) (start count whole at left mask : ℕ) : Type 0 where
+  pub is : narrowedByAll name (readSome readGuess count (drop start s)) whole ≡ narrowedByAll name (readSome readGuess left (drop at s)) mask
+
+pub narrowing-start : (s name : List ℕ) (start count whole : ℕ) → Narrowing s name start count whole start count whole
+narrowing-start s name start count whole = record { is = refl }
+
+pub some-one : {A : Type 0} (f : List ℕ → Read A) (n : ℕ) (l : List ℕ) (a : A) (r : List ℕ) → 0 < n → f l ≡ got a r → readSome f n l ≡ a ∷ readSome f (n - 1) r
+unfolding readSome behind
+some-one f zero l a r h e = absurd (not-suc-le-zero h)
+some-one f (suc n) l a r h e = let m : suc n - 1 ≡ n = omega arith in rw (e, m) refl
+
+some-cut : {A : Type 0} (f : List ℕ → Read A) (n : ℕ) (l : List ℕ) → f l ≡ cut → readSome f n l ≡ []
+unfolding readSome behind
+some-cut f zero l e = refl
+some-cut f (suc n) l e = rw e refl
+
+module _ {s name : List ℕ} {start count whole at left mask : ℕ} (w : Narrowing s name start count whole at left mask) where
+  module _ (x : GuessAt) (g : x ≡ guessAt s at) where
+    pub narrowing-next : (b m a e k : ℕ) → 0 < left → x ≡ guesses.At b m a e → k ≡ narrowedBy name (guess b m (take (e - a) (drop a s))) mask
+        → Narrowing s name start count whole e (left - 1) k
+    unfolding narrowedByAll
+    narrowing-next b m a e k h q f = record {
+      is = w .is ∙ ap (λ (l : List Guess). narrowedByAll name l mask) (some-one readGuess left _ _ _ h (guess-is s at x g b m a e q .reads))
+          ∙ ap (narrowedByAll name (readSome readGuess (left - 1) (drop e s))) (sym f);
+    }
+
+    pub narrowing-cut : x ≡ guesses.Cut → mask ≡ narrowedByAll name (readSome readGuess count (drop start s)) whole
+    unfolding narrowedByAll
+    narrowing-cut q = sym (w .is ∙ ap (λ (l : List Guess). narrowedByAll name l mask) (some-cut readGuess left _ (guess-cut s at x g q)))
+
+  pub narrowing-done : left ≤ 0 → mask ≡ narrowedByAll name (readSome readGuess count (drop start s)) whole
+  unfolding narrowedByAll readSome
+  narrowing-done h = let none : left ≡ 0 = omega arith in sym (w .is ∙ ap (λ (n : ℕ). narrowedByAll name (readSome readGuess n (drop at s)) mask) none)
+
+pub ruleset narrowing-laws = (narrowing-start, guess-order, guess-fits, narrowing-next, narrowing-cut, narrowing-done)
+
+module _ (s name : List ℕ) (place n whole : ℕ) (r : Number) (p : r ≡ numberAt 2 s place) (l : whole ≡ allListed (min 32 n)) (x : LanguageSet) where
+  pub guessed-none : r ≡ number.Cut → x ≡ leftOver whole → x ≡ guessedAt s place n name
+  unfolding guessedAt guessed guessesAt behind narrowedByAll
+  guessed-none q e = e ∙ rw (count-cut s place r p q) (ap leftOver l)
+
+  pub guessed-many : (k d m : ℕ) → r ≡ number.Of k d → m ≡ narrowedByAll name (readSome readGuess k (drop d s)) whole → x ≡ leftOver m → x ≡ guessedAt s place n name
+  unfolding guessedAt guessed guessesAt behind
+  guessed-many k d m q f e = e ∙ rw (count-of s place r k d p q .reads) (ap leftOver (f ∙ ap (narrowedByAll name (readSome readGuess k (drop d s))) l))
+
+pub ruleset guessed-laws = (guessed-none, guessed-many)

@@ -1,0 +1,6 @@
+pub mod Readers
+pub mod Walks
+pub mod RuleLaws
+pub mod GuessLaws
+pub mod SectionLaws
+pub mod Laws

@@ -1,0 +1,476 @@
+-- A rule by its places, the test of one, and the loop over a list. Assumes nothing.
+use mathlib.Core.Path.{_≡_, refl, sym, ap, ap₂, subst, _∙_}
+use mathlib.Core.Bool.{Bool, true, false}
+use mathlib.Core.List.{List, [], _∷_}
+use Prim.Native.Nat.{ℕ, _+_, _-_, _≤_, _<_, zero-le}
+use native.Mathlib.Omega.{arith}
+use lib.Dec.{leb, ltb}
+use lib.ListN.{length, take, drop, length-take, length-drop}
+use borrow.Author.Tests.{le-leb, lt-leb, lt-ltb, le-ltb}
+use Rattle.base.specs.Pick.{pick, and, pick-true, pick-false, and-yes, and-first, and-second}
+use Rattle.regex_optim.specs.Contexts.{leftForm, rightForm, kindOf}
+use Rattle.regex_optim.specs.declared.OptimizedRegex.{OptimizedRegex}
+use Rattle.rule.specs.Matching.{firstCode}
+use Rattle.rule.specs.Expressions.{checkedOf}
+use Rattle.rule.specs.declared.answers.Expression.{Expression}
+use Rattle.rule.specs.declared.answers.Expression.the-variants.{Good, Malformed, Stranger}
+use Rattle.languages.specs.Names.{stringAt}
+use Rattle.languages.specs.declared.names.Next.{Next}
+use Rattle.languages.specs.declared.names.Next.the-variants as next
+use Rattle.pack.specs.Reading.{Read, cut, got, andThen, readText, readMany}
+use Rattle.pack.specs.Packs.{Rule, rule, readRule, readList, all, isForm, isGood, ruleGood, ordered, listGood, placeIn}
+use Rattle.pack.specs.Places.{placedFrom, placedRule, ruleAt, countIn, ruleCount}
+use Rattle.pack.specs.Walks.{numberAt, judge, endIn, run, textsGood, ruleFits, rulesFrom, ruledAs, ruledIn}
+use Rattle.pack.specs.declared.reading.Number.{Number}
+use Rattle.pack.specs.declared.reading.Number.the-variants as number
+use Rattle.pack.specs.declared.reading.Section.{Section}
+use Rattle.pack.specs.declared.reading.Section.the-variants.{End, Bad}
+use Rattle.pack.specs.declared.rules.RuleAt.{RuleAt}
+use Rattle.pack.specs.declared.rules.RuleAt.the-variants as rules
+use Rattle.pack.specs.declared.rules.Ruled.{Ruled}
+use Rattle.pack.specs.declared.rules.Ruled.the-variants as ruled
+use Rattle.pack.proofs.Readers.{clash, end-here, end-then, end-is, end-within, place-drop, many-length, rule-ends, count-of, count-cut, TextIs, text-is, text-cut, TextRead, TextThen, reads-on, text-then}
+use Rattle.pack.proofs.Walks.{Faulty, runs-out, fails, Judged, fine, faulty, judged, judge-faulty, judge-same, walk-on, walk-off, walk-end}
+
+-- ---- the strings of a rule, one after the other
+
+part-length : (s : List ℕ) (p a e : ℕ) → TextIs s p a e → length (take (e - a) (drop a s)) ≡ e - a
+part-length s p a e w = omega (arith, length-take (e - a) (drop a s), length-drop a s, w .fits, w .size)
+
+module _ (s : List ℕ) (place : ℕ) (x₁ : Next) (g₁ : x₁ ≡ stringAt s place) where
+  pub rule-cut-1 : x₁ ≡ next.Cut → rules.Cut ≡ ruleAt s place
+  unfolding ruleAt placedRule readRule andThen
+  rule-cut-1 q = rw (text-cut s place x₁ g₁ q) refl
+
+  module _ (a b : ℕ) (q₁ : x₁ ≡ next.Whole a b) (x₂ : Next) (g₂ : x₂ ≡ stringAt s b) where
+    pub rule-cut-2 : x₂ ≡ next.Cut → rules.Cut ≡ ruleAt s place
+    unfolding ruleAt placedRule readRule andThen
+    rule-cut-2 q = let w = text-is s place x₁ g₁ a b q₁ in rw (w .reads, text-cut s b x₂ g₂ q) refl
+
+    module _ (a₂ c : ℕ) (q₂ : x₂ ≡ next.Whole a₂ c) (x₃ : Next) (g₃ : x₃ ≡ stringAt s c) where
+      pub rule-cut-3 : x₃ ≡ next.Cut → rules.Cut ≡ ruleAt s place
+      unfolding ruleAt placedRule readRule andThen
+      rule-cut-3 q =
+          let w = text-is s place x₁ g₁ a b q₁ in
+          let v = text-is s b x₂ g₂ a₂ c q₂ in
+          rw (w .reads, v .reads, text-cut s c x₃ g₃ q) refl
+
+      module _ (a₃ d : ℕ) (q₃ : x₃ ≡ next.Whole a₃ d) (x₄ : Next) (g₄ : x₄ ≡ stringAt s d) where
+        pub rule-cut-4 : x₄ ≡ next.Cut → rules.Cut ≡ ruleAt s place
+        unfolding ruleAt placedRule readRule andThen
+        rule-cut-4 q =
+            let w = text-is s place x₁ g₁ a b q₁ in
+            let v = text-is s b x₂ g₂ a₂ c q₂ in
+            let u = text-is s c x₃ g₃ a₃ d q₃ in
+            rw (w .reads, v .reads, u .reads, text-cut s d x₄ g₄ q) refl
+
+        pub rule-whole : (a₄ e : ℕ) → x₄ ≡ next.Whole a₄ e → rules.At a b a₂ c a₃ d a₄ e ≡ ruleAt s place
+        unfolding ruleAt placedRule placedFrom readRule andThen
+        rule-whole a₄ e q₄ =
+            let w = text-is s place x₁ g₁ a b q₁ in
+            let v = text-is s b x₂ g₂ a₂ c q₂ in
+            let u = text-is s c x₃ g₃ a₃ d q₃ in
+            let t = text-is s d x₄ g₄ a₄ e q₄ in
+            let l₁ = part-length s place a b w in
+            let l₂ = part-length s b a₂ c v in
+            let l₃ = part-length s c a₃ d u in
+            let l₄ = part-length s d a₄ e t in
+            let p : ℕ = length (take (b - a) (drop a s)) in
+            let l : ℕ = length (take (c - a₂) (drop a₂ s)) in
+            let r : ℕ = length (take (d - a₃) (drop a₃ s)) in
+            let f₁ : b ≡ place + 1 + p = omega (arith, l₁, w .begins, w .size) in
+            let f₂ : c ≡ place + 2 + p + l = omega (arith, f₁, l₂, v .begins, v .size) in
+            let f₃ : d ≡ place + 3 + p + l + r = omega (arith, f₂, l₃, u .begins, u .size) in
+            let f₄ : e ≡ place + 4 + p + l + r + length (take (e - a₄) (drop a₄ s)) = omega (arith, f₃, l₄, t .begins, t .size) in
+            let g₁ : a ≡ place + 1 = w .begins in
+            let g₂ : a₂ ≡ place + 2 + p = omega (arith, f₁, v .begins) in
+            let g₃ : a₃ ≡ place + 3 + p + l = omega (arith, f₂, u .begins) in
+            let g₄ : a₄ ≡ place + 4 + p + l + r = omega (arith, f₃, t .begins) in
+            rw (w .reads, v .reads, u .reads, t .reads) (cc)
+
+pub ruleset rule-at-laws = (rule-cut-1, rule-cut-2, rule-cut-3, rule-cut-4, rule-whole)
+
+-- a rule that is read, by its texts
+pub record RuleRead (s : List ℕ) (at : ℕ) (r : Rule) (q : List ℕ) : Type 0 where
+  pub pattern : TextRead s at (r .pattern)
+  pub left : TextRead s (at + 1 + length (r .pattern)) (r .left)
+  pub right : TextRead s (at + 1 + length (r .pattern) + 1 + length (r .left)) (r .right)
+  pub expression : TextRead s (at + 1 + length (r .pattern) + 1 + length (r .left) + 1 + length (r .right)) (r .expression)
+  pub rest : q ≡ drop (at + 1 + length (r .pattern) + 1 + length (r .left) + 1 + length (r .right) + 1 + length (r .expression)) s
+
+module _ (s : List ℕ) (at : ℕ) (x : Rule) (q : List ℕ) where
+  read-4 : (p f r : List ℕ) → TextRead s at p → TextRead s (at + 1 + length p) f → TextRead s (at + 1 + length p + 1 + length f) r
+      → TextThen s (at + 1 + length p + 1 + length f + 1 + length r) (λ e d. got (rule p f r e) d) x q → RuleRead s at x q
+  read-4 p f r w v u (reads-on e t g) =
+      let is : rule p f r e ≡ x = cc in
+      let rest : drop (at + 1 + length p + 1 + length f + 1 + length r + 1 + length e) s ≡ q = cc in
+      let one : RuleRead s at (rule p f r e) q = record { pattern = w; left = v; right = u; expression = t; rest = sym rest } in
+      subst (λ (y : Rule). RuleRead s at y q) is one
+
+  read-3 : (p f : List ℕ) → TextRead s at p → TextRead s (at + 1 + length p) f
+      → TextThen s (at + 1 + length p + 1 + length f) (λ r c. andThen (readText c) (λ e d. got (rule p f r e) d)) x q → RuleRead s at x q
+  read-3 p f w v (reads-on r u g) = read-4 p f r w v u (text-then s _ _ x q g)
+
+  read-2 : (p : List ℕ) → TextRead s at p
+      → TextThen s (at + 1 + length p) (λ f b. andThen (readText b) (λ r c. andThen (readText c) (λ e d. got (rule p f r e) d))) x q → RuleRead s at x q
+  read-2 p w (reads-on f v g) = read-3 p f w v (text-then s _ _ x q g)
+
+  read-1 : TextThen s at (λ p a. andThen (readText a) (λ f b. andThen (readText b) (λ r c. andThen (readText c) (λ e d. got (rule p f r e) d)))) x q → RuleRead s at x q
+  read-1 (reads-on p w g) = read-2 p w (text-then s _ _ x q g)
+
+  pub rule-read : readRule (drop at s) ≡ got x q → RuleRead s at x q
+  unfolding readRule
+  rule-read g = read-1 (text-then s at _ x q g)
+
+-- a rule at a place, by its places
+pub record RuleIs (s : List ℕ) (at a b c d e f g h : ℕ) : Type 0 where
+  pub value : Rule
+  pub reads : readRule (drop at s) ≡ got value (drop h s)
+  pub begins : at < a
+  pub one : a ≤ b
+  pub two : b < c
+  pub three : c ≤ d
+  pub four : d < e
+  pub five : e ≤ f
+  pub six : f < g
+  pub seven : g ≤ h
+  pub fits : h ≤ length s
+  pub pattern : take (b - a) (drop a s) ≡ value .pattern
+  pub left : take (d - c) (drop c s) ≡ value .left
+  pub right : take (f - e) (drop e s) ≡ value .right
+  pub expression : take (h - g) (drop g s) ≡ value .expression
+
+-- the part that a text is, by where it starts and ends
+part-is : (s : List ℕ) (p a e : ℕ) (t : List ℕ) → TextRead s p t → a ≡ p + 1 → e ≡ p + 1 + length t → take (e - a) (drop a s) ≡ t
+part-is s p a e t w f g = let n : e - a ≡ length t = omega (arith, f, g) in ap₂ (λ (x y : ℕ). take x (drop y s)) n f ∙ w .text
+
+placed : (s : List ℕ) (at a b c d e f g h : ℕ) (r : Rule) (q : List ℕ) → readRule (drop at s) ≡ got r q → placedRule at (got r q) ≡ rules.At a b c d e f g h → RuleIs s at a b c d e f g h
+unfolding placedRule placedFrom
+placed s at a b c d e f g h r q o k =
+    let w = rule-read s at r q o in
+    let ea : at + 1 ≡ a = cc in
+    let eb : at + 1 + length (r .pattern) ≡ b = cc in
+    let ec : at + 2 + length (r .pattern) ≡ c = cc in
+    let ed : at + 2 + length (r .pattern) + length (r .left) ≡ d = cc in
+    let ee : at + 3 + length (r .pattern) + length (r .left) ≡ e = cc in
+    let ef : at + 3 + length (r .pattern) + length (r .left) + length (r .right) ≡ f = cc in
+    let eg : at + 4 + length (r .pattern) + length (r .left) + length (r .right) ≡ g = cc in
+    let eh : at + 4 + length (r .pattern) + length (r .left) + length (r .right) + length (r .expression) ≡ h = cc in
+    let fh : at + 1 + length (r .pattern) + 1 + length (r .left) + 1 + length (r .right) + 1 + length (r .expression) ≡ h = omega (arith, eh) in
+    record {
+      value = r;
+      reads = o ∙ ap (got r) (w .rest ∙ ap (λ (n : ℕ). drop n s) fh);
+      begins = omega (arith, ea);
+      one = omega (arith, ea, eb);
+      two = omega (arith, eb, ec);
+      three = omega (arith, ec, ed);
+      four = omega (arith, ed, ee);
+      five = omega (arith, ee, ef);
+      six = omega (arith, ef, eg);
+      seven = omega (arith, eg, eh);
+      fits = omega (arith, w .expression .fits, fh);
+      pattern = part-is s at a b (r .pattern) (w .pattern) (sym ea) (sym eb);
+      left = part-is s _ c d (r .left) (w .left) (omega (arith, ec)) (omega (arith, ed));
+      right = part-is s _ e f (r .right) (w .right) (omega (arith, ee)) (omega (arith, ef));
+      expression = part-is s _ g h (r .expression) (w .expression) (omega (arith, eg)) (omega (arith, eh));
+    }
+
+is-by : (s : List ℕ) (at a b c d e f g h : ℕ) (x : Read Rule) → readRule (drop at s) ≡ x → placedRule at x ≡ rules.At a b c d e f g h → RuleIs s at a b c d e f g h
+unfolding placedRule
+is-by s at a b c d e f g h cut o k = clash (cc)
+is-by s at a b c d e f g h (got r q) o k = placed s at a b c d e f g h r q o k
+
+cut-by : (s : List ℕ) (at : ℕ) (x : Read Rule) → readRule (drop at s) ≡ x → placedRule at x ≡ rules.Cut → readRule (drop at s) ≡ cut
+unfolding placedRule placedFrom
+cut-by s at cut g h = g
+cut-by s at (got r q) g h = clash (cc)
+
+module _ (s : List ℕ) (at : ℕ) (x : RuleAt) (o : x ≡ ruleAt s at) where
+  pub rule-is : (a b c d e f g h : ℕ) → x ≡ rules.At a b c d e f g h → RuleIs s at a b c d e f g h
+  unfolding ruleAt
+  rule-is a b c d e f g h q = is-by s at a b c d e f g h _ refl (sym o ∙ q)
+
+  pub rule-cut : x ≡ rules.Cut → readRule (drop at s) ≡ cut
+  unfolding ruleAt
+  rule-cut q = cut-by s at _ refl (sym o ∙ q)
+
+-- ---- the count of a list
+
+pub rules-many : (s : List ℕ) (at n d : ℕ) (r : Number) → r ≡ numberAt 2 s at → r ≡ number.Of n d → n ≡ ruleCount s at
+unfolding ruleCount countIn
+rules-many s at n d r p q = sym (ap countIn (count-of s at r n d p q .reads))
+
+pub rules-none : (s : List ℕ) (at : ℕ) (r : Number) → r ≡ numberAt 2 s at → r ≡ number.Cut → 0 ≡ ruleCount s at
+unfolding ruleCount countIn
+rules-none s at r p q = sym (ap countIn (count-cut s at r p q))
+
+pub ruleset count-laws = (rules-many, rules-none)
+
+-- ---- the test of a rule
+
+pub form-yes : (x y : OptimizedRegex) → isForm y ≡ true → x ≡ y → true ≡ isForm x
+form-yes x y p e = sym (ap isForm e ∙ p)
+
+pub form-no : (x y : OptimizedRegex) → isForm y ≡ false → x ≡ y → false ≡ isForm x
+form-no x y p e = sym (ap isForm e ∙ p)
+
+pub ruleset form-laws = (form-yes, form-no)
+
+module _ (l r : List ℕ) (x : OptimizedRegex) (t : Bool) (p : x ≡ kindOf (leftForm l)) (q : t ≡ isForm x) where
+  left-by : t ≡ isForm (kindOf (leftForm l))
+  left-by = q ∙ ap isForm p
+
+  pub contexts-left : t ≡ false → false ≡ and (isForm (kindOf (leftForm l))) (isForm (kindOf (rightForm r)))
+  contexts-left f = sym (and-first _ _ (sym left-by ∙ f))
+
+  pub contexts-both : (y : OptimizedRegex) (u : Bool) → t ≡ true → y ≡ kindOf (rightForm r) → u ≡ isForm y
+      → u ≡ and (isForm (kindOf (leftForm l))) (isForm (kindOf (rightForm r)))
+  unfolding and
+  contexts-both y u f g h = rw (sym left-by ∙ f) (h ∙ ap isForm g)
+
+module _ (names e : List ℕ) (x : Expression) (p : x ≡ checkedOf names e) where
+  pub expression-good : (n : ℕ) → x ≡ Good n → true ≡ isGood (checkedOf names e)
+  unfolding isGood
+  expression-good n q = sym (ap isGood (sym p ∙ q))
+
+  pub expression-malformed : x ≡ Malformed → false ≡ isGood (checkedOf names e)
+  unfolding isGood
+  expression-malformed q = sym (ap isGood (sym p ∙ q))
+
+  pub expression-stranger : x ≡ Stranger → false ≡ isGood (checkedOf names e)
+  unfolding isGood
+  expression-stranger q = sym (ap isGood (sym p ∙ q))
+
+and-assoc : (a b c : Bool) → and (and a b) c ≡ and a (and b c)
+unfolding and
+and-assoc true b c = refl
+and-assoc false b c = refl
+
+rule-good-is : (names : List ℕ) (r : Rule) → ruleGood names r
+    ≡ and (textsGood r) (and (ltb 0 (length (r .pattern)))
+    (and (and (isForm (kindOf (leftForm (r .left)))) (isForm (kindOf (rightForm (r .right))))) (isGood (checkedOf names (r .expression)))))
+unfolding ruleGood textsGood
+rule-good-is names r =
+    ap (λ (x : Bool). and (textsGood r) (and (ltb 0 (length (r .pattern))) x)) (sym (and-assoc (isForm (kindOf (leftForm (r .left)))) (isForm (kindOf (rightForm (r .right)))) (isGood (checkedOf names (r .expression)))))
+
+module _ (names p l r e : List ℕ) (t : Bool) (g : t ≡ textsGood (rule p l r e)) where
+  pub rule-texts : t ≡ false → false ≡ ruleGood names (rule p l r e)
+  rule-texts q = sym (rule-good-is names (rule p l r e) ∙ and-first _ _ (sym g ∙ q))
+
+  pub rule-empty : t ≡ true → length p ≤ 0 → false ≡ ruleGood names (rule p l r e)
+  rule-empty q h = sym (rule-good-is names (rule p l r e) ∙ and-second _ _ (sym g ∙ q) (and-first _ _ (le-ltb _ _ h)))
+
+  module _ (u : Bool) (k : u ≡ and (isForm (kindOf (leftForm l))) (isForm (kindOf (rightForm r)))) where
+    pub rule-contexts : t ≡ true → 0 < length p → u ≡ false → false ≡ ruleGood names (rule p l r e)
+    rule-contexts q h v = sym (rule-good-is names (rule p l r e) ∙ and-second _ _ (sym g ∙ q) (and-second _ _ (lt-ltb _ _ h) (and-first _ _ (sym k ∙ v))))
+
+    pub rule-all : (x : Bool) → t ≡ true → 0 < length p → u ≡ true → x ≡ isGood (checkedOf names e) → x ≡ ruleGood names (rule p l r e)
+    unfolding and
+    rule-all x q h v y = y ∙ sym (rule-good-is names (rule p l r e) ∙ rw (sym g ∙ q, lt-ltb 0 (length p) h, sym k ∙ v) refl)
+
+pub ruleset rule-test-laws = (contexts-left, contexts-both, expression-good, expression-malformed, expression-stranger, rule-texts, rule-empty, rule-contexts, rule-all)
+
+-- ---- a rule behind another
+
+module _ (names : List ℕ) (least end : ℕ) (p l r e : List ℕ) (code : ℕ) (h : code ≡ firstCode p) where
+  pub behind-below : code < least → ruled.Bad ≡ ruledAs names least end (rule p l r e)
+  unfolding ruledAs ruleFits
+  behind-below o = let low : firstCode p < least = omega (arith, h) in sym (pick-false _ _ _ (and-first _ _ (lt-leb _ _ low)))
+
+  module _ (t : Bool) (k : t ≡ ruleGood names (rule p l r e)) (o : least ≤ code) where
+    high : leb least (firstCode p) ≡ true
+    high = let up : least ≤ firstCode p = omega (arith, h) in le-leb _ _ up
+
+    pub behind-bad : t ≡ false → ruled.Bad ≡ ruledAs names least end (rule p l r e)
+    unfolding ruledAs ruleFits
+    behind-bad v = sym (pick-false _ _ _ (and-second _ _ high (sym k ∙ v)))
+
+    pub behind-good : t ≡ true → ruled.Next end code ≡ ruledAs names least end (rule p l r e)
+    unfolding ruledAs ruleFits
+    behind-good v = ap (ruled.Next end) h ∙ sym (pick-true _ _ _ (and-yes _ _ high (sym k ∙ v)))
+
+pub ruleset behind-laws = (behind-below, behind-bad, behind-good)
+
+module _ (s : List ℕ) (at : ℕ) (x : RuleAt) (o : x ≡ ruleAt s at) where
+  pub next-cut : (names : List ℕ) (least : ℕ) → x ≡ rules.Cut → ruled.Bad ≡ ruledIn s names least (readRule (drop at s))
+  unfolding ruledIn
+  next-cut names least q = sym (judge-faulty _ _ _ _ (runs-out (rule-cut s at x o q)))
+
+  module _ (a b c d e f g h : ℕ) (q : x ≡ rules.At a b c d e f g h) where
+    here : RuleIs s at a b c d e f g h
+    here = rule-is s at x o a b c d e f g h q
+
+    pub pattern-order : a ≤ b
+    pattern-order = here .one
+
+    pub pattern-fits : b ≤ length s
+    pattern-fits = let w = here in omega (arith, w .two, w .three, w .four, w .five, w .six, w .seven, w .fits)
+
+    pub left-order : c ≤ d
+    left-order = here .three
+
+    pub left-fits : d ≤ length s
+    left-fits = let w = here in omega (arith, w .four, w .five, w .six, w .seven, w .fits)
+
+    pub right-order : e ≤ f
+    right-order = here .five
+
+    pub right-fits : f ≤ length s
+    right-fits = let w = here in omega (arith, w .six, w .seven, w .fits)
+
+    pub expression-order : g ≤ h
+    expression-order = here .seven
+
+    pub expression-fits : h ≤ length s
+    expression-fits = here .fits
+
+    -- the rule that the parts make
+    parts : here .value ≡ rule (take (b - a) (drop a s)) (take (d - c) (drop c s)) (take (f - e) (drop e s)) (take (h - g) (drop g s))
+    parts = let w = here in λ i. record { pattern = sym (w .pattern) i; left = sym (w .left) i; right = sym (w .right) i; expression = sym (w .expression) i }
+
+    pub next-rule : (names : List ℕ) (least : ℕ) (y : Ruled)
+        → y ≡ ruledAs names least h (rule (take (b - a) (drop a s)) (take (d - c) (drop c s)) (take (f - e) (drop e s)) (take (h - g) (drop g s)))
+        → y ≡ ruledIn s names least (readRule (drop at s))
+    unfolding ruledIn ruledAs judge
+    next-rule names least y k =
+        k ∙ ap (ruledAs names least h) (sym parts)
+        ∙ ap (λ (n : ℕ). ruledAs names least n (here .value)) (sym (place-drop s h (here .fits)))
+        ∙ sym (ap (ruledIn s names least) (here .reads))
+
+pub ruleset next-rule-laws = (next-cut, pattern-order, pattern-fits, left-order, left-fits, right-order, right-fits, expression-order, expression-fits, next-rule)
+
+-- ---- the rules of a list
+
+pub record Listing (s names : List ℕ) (start count at left least : ℕ) : Type 0 where
+  pub within : at ≤ length s
+  pub is : endIn s (rulesFrom names 0) (readMany readRule count (drop start s)) ≡ endIn s (rulesFrom names least) (readMany readRule left (drop at s))
+
+pub listing-start : (s names : List ℕ) (start count : ℕ) → start ≤ length s → Listing s names start count start count 0
+listing-start s names start count h = record { within = h; is = refl }
+
+-- what was ruled, taken apart
+record Ruling (s names : List ℕ) (at least e code : ℕ) : Type 0 where
+  value : Rule
+  reads : readRule (drop at s) ≡ got value (drop e s)
+  passes : ruleFits names least value ≡ true
+  first : firstCode (value .pattern) ≡ code
+  fits : e ≤ length s
+
+ruling-by : (s names : List ℕ) (at least e code : ℕ) → at ≤ length s
+    → Judged ruled.Bad (ruleFits names least) (readRule (drop at s)) (λ r q. ruled.Next (placeIn s q) (firstCode (r .pattern))) (ruled.Next e code) → Ruling s names at least e code
+ruling-by s names at least e code w (faulty x y) = clash (cc)
+ruling-by s names at least e code w (fine r q g h y) =
+    let o = end-then (end-here s at w) (rule-ends _ r q g) in
+    let place : placeIn s q ≡ e = cc in
+    record {
+      value = r;
+      reads = g ∙ ap (got r) (end-is o ∙ ap (λ (n : ℕ). drop n s) place);
+      passes = h;
+      first = cc;
+      fits = omega (arith, place, end-within o);
+    }
+
+off-by : (s names : List ℕ) (at least : ℕ)
+    → Judged ruled.Bad (ruleFits names least) (readRule (drop at s)) (λ r q. ruled.Next (placeIn s q) (firstCode (r .pattern))) ruled.Bad → Faulty (ruleFits names least) (readRule (drop at s))
+off-by s names at least (faulty x y) = x
+off-by s names at least (fine r q g h y) = clash (cc)
+
+module _ {s names : List ℕ} {start count at left least : ℕ} (w : Listing s names start count at left least) where
+  module _ (x : Ruled) (g : x ≡ ruledIn s names least (readRule (drop at s))) (h : 0 < left) where
+    pub listing-next : (e code : ℕ) → x ≡ ruled.Next e code → Listing s names start count e (left - 1) code
+    unfolding ruledIn rulesFrom
+    listing-next e code q =
+        let o = ruling-by s names at least e code (w .within) (judged _ _ _ _ _ (sym g ∙ q)) in
+        record {
+          within = o .fits;
+          is = w .is ∙ walk-on s readRule (ruleFits names) (λ m r. firstCode (r .pattern)) (λ m. true) least left _ (o .value) _ h (o .reads) (o .passes)
+              ∙ ap (λ (m : ℕ). endIn s (rulesFrom names m) (readMany readRule (left - 1) (drop e s))) (o .first);
+        }
+
+    pub listing-bad : x ≡ ruled.Bad → Bad ≡ endIn s (rulesFrom names 0) (readMany readRule count (drop start s))
+    unfolding ruledIn rulesFrom
+    listing-bad q =
+        sym (w .is ∙ walk-off s readRule (ruleFits names) (λ m r. firstCode (r .pattern)) (λ m. true) least left _ h (off-by s names at least (judged _ _ _ _ _ (sym g ∙ q))))
+
+  pub listing-done : left ≤ 0 → End at ≡ endIn s (rulesFrom names 0) (readMany readRule count (drop start s))
+  unfolding rulesFrom pick
+  listing-done h = sym (w .is ∙ walk-end s readRule (ruleFits names) (λ m r. firstCode (r .pattern)) (λ m. true) least left at h (w .within))
+
+pub ruleset listing-laws = (listing-start, listing-next, listing-bad, listing-done)
+
+-- ---- a list is good where each of its rules is, behind the one before
+
+unfoldable firstFits : ℕ → List Rule → Bool
+firstFits least [] = true
+firstFits least (x ∷ xs) = leb least (firstCode (x .pattern))
+
+ordered-is : (x : Rule) (xs : List Rule) → ordered (x ∷ xs) ≡ and (firstFits (firstCode (x .pattern)) xs) (ordered xs)
+unfolding ordered firstFits and
+ordered-is x [] = refl
+ordered-is x (y ∷ xs) = refl
+
+swap : (l g a o : Bool) → and (and l g) (and a o) ≡ and (and g a) (and l o)
+unfolding and
+swap true true a o = refl
+swap true false a o = refl
+swap false true true o = refl
+swap false true false o = refl
+swap false false a o = refl
+
+rules-nil : (names : List ℕ) (least : ℕ) → rulesFrom names least [] ≡ and (all (ruleGood names) []) (and (firstFits least []) (ordered []))
+unfolding rulesFrom run all firstFits ordered and
+rules-nil names least = refl
+
+rules-cons : (names : List ℕ) (least : ℕ) (x : Rule) (xs : List Rule)
+    → rulesFrom names (firstCode (x .pattern)) xs ≡ and (all (ruleGood names) xs) (and (firstFits (firstCode (x .pattern)) xs) (ordered xs))
+    → rulesFrom names least (x ∷ xs) ≡ and (all (ruleGood names) (x ∷ xs)) (and (firstFits least (x ∷ xs)) (ordered (x ∷ xs)))
+unfolding rulesFrom run all firstFits ruleFits
+rules-cons names least x xs ih =
+    ap (and (ruleFits names least x)) (ih ∙ ap (and (all (ruleGood names) xs)) (sym (ordered-is x xs)))
+    ∙ swap (leb least (firstCode (x .pattern))) (ruleGood names x) (all (ruleGood names) xs) (ordered (x ∷ xs))
+
+rules-are : (names : List ℕ) (least : ℕ) (rs : List Rule) → rulesFrom names least rs ≡ and (all (ruleGood names) rs) (and (firstFits least rs) (ordered rs))
+rules-are names least [] = rules-nil names least
+rules-are names least (x ∷ xs) = rules-cons names least x xs (rules-are names (firstCode (x .pattern)) xs)
+
+first-fits : (rs : List Rule) → firstFits 0 rs ≡ true
+unfolding firstFits
+first-fits [] = refl
+first-fits (x ∷ xs) = le-leb 0 (firstCode (x .pattern)) zero-le
+
+list-is : (names : List ℕ) (rs : List Rule) → length rs ≤ 4096 → listGood names rs ≡ rulesFrom names 0 rs
+unfolding listGood and
+list-is names rs h = rw (le-leb (length rs) 4096 h) (sym (rules-are names 0 rs ∙ ap (λ (t : Bool). and (all (ruleGood names) rs) (and t (ordered rs))) (first-fits rs)))
+
+list-not : (names : List ℕ) (rs : List Rule) → 4096 < length rs → listGood names rs ≡ false
+unfolding listGood
+list-not names rs h = and-first _ _ (lt-leb _ _ h)
+
+much-by : (names l : List ℕ) (n : ℕ) (x : Read (List Rule)) → readMany readRule n l ≡ x → 4096 < n → Faulty (listGood names) x
+much-by names l n cut e h = runs-out refl
+much-by names l n (got rs q) e h = let long : 4096 < length rs = omega (arith, many-length readRule n l rs q e) in fails rs q refl (list-not names rs long)
+
+module _ (s names : List ℕ) (at : ℕ) (r : Number) (p : r ≡ numberAt 2 s at) where
+  pub list-cut : r ≡ number.Cut → Bad ≡ endIn s (listGood names) (readList (drop at s))
+  unfolding endIn readList andThen judge
+  list-cut q = rw (count-cut s at r p q) refl
+
+  module _ (n d : ℕ) (q : r ≡ number.Of n d) where
+    list-reads : readList (drop at s) ≡ readMany readRule n (drop d s)
+    unfolding readList andThen
+    list-reads = rw (count-of s at r n d p q .reads) refl
+
+    pub list-much : 4096 < n → Bad ≡ endIn s (listGood names) (readList (drop at s))
+    unfolding endIn
+    list-much h = sym (ap (endIn s (listGood names)) list-reads ∙ judge-faulty _ _ _ _ (much-by names _ n _ refl h))
+
+    pub list-starts : d ≤ length s
+    list-starts = count-of s at r n d p q .fits
+
+    pub list-many : (x : Section) → n ≤ 4096 → x ≡ endIn s (rulesFrom names 0) (readMany readRule n (drop d s)) → x ≡ endIn s (listGood names) (readList (drop at s))
+    unfolding endIn
+    list-many x h e =
+        e ∙ sym (ap (endIn s (listGood names)) list-reads
+        ∙ judge-same _ _ _ _ _ (λ rs t g. let few : length rs ≤ 4096 = omega (arith, many-length readRule n (drop d s) rs t g) in list-is names rs few))
+
+pub ruleset list-laws = (list-cut, list-much, list-starts, list-many)

@@ -1,0 +1,18 @@
+use borrow.Author.Needs.{needs}
+use Rattle.base.specs.Pick.{cases}
+use Rattle.pack.specs.Guessing.{leftOver}
+use Rattle.pack.proofs.guessing.left_over.Statement.{statement}
+use Rattle.pack.proofs.guessing.left_over.Tie as tie
+use Rattle.pack.proofs.guessing.left_over.Reads as reads
+use Rattle.pack.proofs.guessing.left_over.Lts as lts
+
+returns : tie.Need-returns
+unfolding leftOver
+returns c = search (cases, needs)
+
+returns-2 : tie.Need-returns-2
+unfolding leftOver
+returns-2 c = search (cases, needs)
+
+pub left-over-spec : {M : Type 1} → statement M
+left-over-spec = tie.close (tie.spec returns returns-2)

@@ -1,0 +1,5 @@
+pub mod Reading
+pub mod Packs
+pub mod Places
+pub mod Guessing
+pub mod Walks

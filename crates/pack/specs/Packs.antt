@@ -1,0 +1,188 @@
+-- The pack (01, Bundle and pack): what any bytes are as a pack, or where they break a rule.
+use Prim.Native.Nat.{ℕ, zero, suc, _+_, _-_, _*_, _^_}
+use mathlib.Core.Bool.{Bool, true, false, not}
+use mathlib.Core.List.{List, [], _∷_}
+use lib.Dec.{eqb, leb, ltb}
+use lib.ListN.{length, take, drop}
+use Rattle.base.specs.Pick.{pick, and}
+use Rattle.letters.specs.Order.{orderOf, sameText}
+use Rattle.letters.specs.declared.order.Order.{Order}
+use Rattle.letters.specs.declared.order.Order.the-variants.{Less, Equal, Greater}
+use Rattle.languages.specs.Names.{languageName}
+use Rattle.regex_optim.specs.Contexts.{leftForm, rightForm, kindOf}
+use Rattle.regex_optim.specs.declared.OptimizedRegex.{OptimizedRegex}
+use Rattle.regex_optim.specs.declared.OptimizedRegex.the-variants.{AllStringsMatcher, IsEmpty, Equals, StartsWith, EndsWith, EqualsChar, StartsWithChar, EndsWithChar, Outside}
+use Rattle.rule.specs.Matching.{ruleText, firstCode}
+use Rattle.rule.specs.Expressions.{checkedOf}
+use Rattle.rule.specs.declared.answers.Expression.{Expression}
+use Rattle.rule.specs.declared.answers.Expression.the-variants.{Good, Malformed, Stranger}
+use Rattle.lang.specs.Patterns.{inForms}
+use Rattle.pack.specs.Reading.{Read, cut, got, andThen, readByte, readNumber, readText, readMany}
+use Rattle.pack.specs.declared.sections.Checked.{Checked}
+use Rattle.pack.specs.declared.sections.Checked.the-variants as checked
+
+-- ---- what a pack holds
+
+pub record Guess : Type 0 where
+  pub accept : ℕ
+  pub mask : ℕ
+  pub pattern : List ℕ
+
+pub record Rule : Type 0 where
+  pub pattern : List ℕ
+  pub left : List ℕ
+  pub right : List ℕ
+  pub expression : List ℕ
+
+pub record Pack : Type 0 where
+  pub names : List (List ℕ)
+  pub guesses : List Guess
+  pub lists : List (List Rule)
+
+abbrev pub guess : ℕ → ℕ → List ℕ → Guess
+guess a m p = record { accept = a; mask = m; pattern = p }
+
+abbrev pub rule : List ℕ → List ℕ → List ℕ → List ℕ → Rule
+rule p l r e = record { pattern = p; left = l; right = r; expression = e }
+
+-- ---- reading the sections
+
+-- "language count (1 byte), names (length byte, bytes)"
+unfoldable pub readNames : List ℕ → Read (List (List ℕ))
+readNames l = andThen (readByte l) (λ n r. readMany readText n r)
+
+-- "each accept byte .., mask (4 bytes ..), pattern"
+unfoldable pub readGuess : List ℕ → Read Guess
+readGuess l = andThen (readByte l) (λ a r. andThen (readNumber 4 r) (λ m q. andThen (readText q) (λ p t. got (guess a m p) t)))
+
+-- "guessing count (2 bytes)"
+unfoldable pub readGuesses : List ℕ → Read (List Guess)
+readGuesses l = andThen (readNumber 2 l) (λ n r. readMany readGuess n r)
+
+-- "A list is a rule count (2 bytes) and rules of four strings"
+unfoldable pub readRule : List ℕ → Read Rule
+readRule l =
+    andThen (readText l) (λ p a. andThen (readText a) (λ f b. andThen (readText b) (λ r c. andThen (readText c) (λ e d. got (rule p f r e) d))))
+
+unfoldable pub readList : List ℕ → Read (List Rule)
+readList l = andThen (readNumber 2 l) (λ n r. readMany readRule n r)
+
+-- ---- the rules of each section
+
+unfoldable pub all : {A : Type 0} → (A → Bool) → List A → Bool
+all f [] = true
+all f (x ∷ xs) = and (f x) (all f xs)
+
+unfoldable pub isLess : Order → Bool
+isLess Less = true
+isLess Equal = false
+isLess Greater = false
+
+-- "strictly increasing"
+unfoldable pub increasing : List (List ℕ) → Bool
+increasing [] = true
+increasing (x ∷ []) = true
+increasing (x ∷ y ∷ l) = and (isLess (orderOf x y)) (increasing (y ∷ l))
+
+unfoldable pub holds : List ℕ → List (List ℕ) → Bool
+holds t [] = false
+holds t (x ∷ xs) = pick (sameText x t) true (holds t xs)
+
+-- the bytes of `any`
+abbrev pub any : List ℕ
+any = 97 ∷ 110 ∷ 121 ∷ []
+
+-- "names .., strictly increasing, with `any`"; "at most 32 listed languages"
+unfoldable pub namesGood : List (List ℕ) → Bool
+namesGood names = and (leb (length names) 32) (and (all languageName names) (and (increasing names) (holds any names)))
+
+-- "accept byte 0 or 1, mask (4 bytes, not zero, listed bits only), pattern"
+unfoldable pub guessGood : ℕ → Guess → Bool
+guessGood n g = and (leb (g .accept) 1) (and (not (eqb (g .mask) 0)) (and (ltb (g .mask) (2 ^ n)) (and (ruleText (g .pattern)) (inForms (g .pattern)))))
+
+-- at most 4,096 guessing rules
+unfoldable pub guessesGood : ℕ → List Guess → Bool
+guessesGood n gs = and (leb (length gs) 4096) (all (guessGood n) gs)
+
+unfoldable pub isForm : OptimizedRegex → Bool
+isForm AllStringsMatcher = true
+isForm IsEmpty = true
+isForm Equals = true
+isForm StartsWith = true
+isForm EndsWith = true
+isForm EqualsChar = true
+isForm StartsWithChar = true
+isForm EndsWithChar = true
+isForm Outside = false
+
+unfoldable pub isGood : Expression → Bool
+isGood (Good n) = true
+isGood Malformed = false
+isGood Stranger = false
+
+-- "Every rule above applies": the texts, a pattern that is not empty, both contexts in the forms, the expression well formed and its names
+-- listed. `names` is the bytes of the names, each behind its length byte
+unfoldable pub ruleGood : List ℕ → Rule → Bool
+ruleGood names r =
+    and (and (ruleText (r .pattern)) (and (ruleText (r .left)) (and (ruleText (r .right)) (ruleText (r .expression)))))
+    (and (ltb 0 (length (r .pattern)))
+    (and (isForm (kindOf (leftForm (r .left)))) (and (isForm (kindOf (rightForm (r .right)))) (isGood (checkedOf names (r .expression))))))
+
+-- "by first character and then file order"
+unfoldable pub ordered : List Rule → Bool
+ordered [] = true
+ordered (x ∷ []) = true
+ordered (x ∷ y ∷ l) = and (leb (firstCode (x .pattern)) (firstCode (y .pattern))) (ordered (y ∷ l))
+
+-- at most 4,096 rules
+unfoldable pub listGood : List ℕ → List Rule → Bool
+listGood names rs = and (leb (length rs) 4096) (and (all (ruleGood names) rs) (ordered rs))
+
+-- ---- the sections one after the other
+
+pub data Verdict : Type 0 where
+  accepted : Pack → Verdict
+  refused : ℕ → Verdict
+
+-- a section read at a place, good or at fault; k goes on behind it
+unfoldable pub section : {A : Type 0} → ℕ → (A → Bool) → Read A → (A → List ℕ → Verdict) → Verdict
+section place good cut k = refused place
+section place good (got a r) k = pick (good a) (k a r) (refused place)
+
+-- the place of what is left of s
+unfoldable pub placeIn : List ℕ → List ℕ → ℕ
+placeIn s r = length s - length r
+
+-- the bytes of the names in s, where r is what is left behind them
+unfoldable pub namesIn : List ℕ → List ℕ → List ℕ
+namesIn s r = take (length s - 1 - length r) (drop 1 s)
+
+-- "lists in order: for each language rules, approx, exact, then common approx, common exact"
+unfoldable pub listCount : ℕ → ℕ
+listCount n = 3 * n + 2
+
+unfoldable pub listSections : List ℕ → List ℕ → ℕ → List ℕ → (List (List Rule) → List ℕ → Verdict) → Verdict
+listSections s names zero r k = k [] r
+listSections s names (suc n) r k =
+    section (placeIn s r) (listGood names) (readList r) (λ rules q. listSections s names n q (λ lists t. k (rules ∷ lists) t))
+
+unfoldable pub isNil : List ℕ → Bool
+isNil [] = true
+isNil (x ∷ xs) = false
+
+-- "Sections: languages, guessing rules, list count, each list, the end; a cut pack fails in the section where bytes run out."
+unfoldable pub endSection : List ℕ → Pack → List ℕ → Verdict
+endSection s p r = pick (isNil r) (accepted p) (refused (placeIn s r))
+
+unfoldable pub packOf : List ℕ → Verdict
+packOf s =
+    section 0 namesGood (readNames s) (λ names a.
+    section (placeIn s a) (guessesGood (length names)) (readGuesses a) (λ guesses b.
+    section (placeIn s b) (λ (n : ℕ). eqb n (listCount (length names))) (readByte b) (λ n c.
+    listSections s (namesIn s a) n c (λ lists d.
+    endSection s (record { names = names; guesses = guesses; lists = lists }) d))))
+
+-- 5 with the first byte of the section at fault, 0 otherwise (01, What the desk gets)
+unfoldable pub verdictOf : Verdict → Checked
+verdictOf (accepted p) = checked.Accepted
+verdictOf (refused n) = checked.Refused n

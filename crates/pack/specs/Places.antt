@@ -1,0 +1,76 @@
+-- Where things stand in a pack: its guessing section, its lists, and the strings of a rule.
+use mathlib.Core.Path.{_≡_}
+use Prim.Native.Nat.{ℕ, zero, suc, _+_}
+use mathlib.Core.Bool.{Bool}
+use mathlib.Core.List.{List, [], _∷_}
+use lib.Dec.{eqb}
+use lib.ListN.{length, drop}
+use lib.Seq.{sets}
+use Rattle.base.specs.Pick.{pick}
+use Rattle.pack.specs.Reading.{Read, cut, got, readByte, readNumber}
+use Rattle.pack.specs.Packs.{Rule, Verdict, accepted, refused, readNames, readGuesses, readRule, readList, namesGood, guessesGood, listGood, placeIn, namesIn, listCount, packOf}
+use Rattle.pack.specs.declared.sections.Surveyed.{Surveyed}
+use Rattle.pack.specs.declared.sections.Surveyed.the-variants as surveyed
+use Rattle.pack.specs.declared.rules.RuleAt.{RuleAt}
+use Rattle.pack.specs.declared.rules.RuleAt.the-variants as rules
+
+-- ---- what a survey finds
+
+-- the bytes of strings, each behind its length byte
+unfoldable pub textBytes : List (List ℕ) → ℕ
+textBytes [] = 0
+textBytes (t ∷ ts) = 1 + length t + textBytes ts
+
+-- the same verdict (5 with the place, 0 otherwise); of an accepted pack also how many languages it has, and the place behind
+-- the count byte and the names
+unfoldable pub surveyedOf : Verdict → Surveyed
+surveyedOf (accepted p) = surveyed.Accepted (length (p .names)) (1 + textBytes (p .names))
+surveyedOf (refused n) = surveyed.Refused n
+
+-- the places found behind a section that is read and good
+unfoldable pub after : {A : Type 0} → (A → Bool) → Read A → (A → List ℕ → List ℕ) → List ℕ
+after good cut k = []
+after good (got a r) k = pick (good a) (k a r) []
+
+-- the places of n lists in s, from what is left on, up to the first at fault
+unfoldable pub foundIn : List ℕ → List ℕ → ℕ → List ℕ → List ℕ
+foundIn s names zero r = []
+foundIn s names (suc n) r = after (listGood names) (readList r) (λ rules q. placeIn s r ∷ foundIn s names n q)
+
+-- the places of the lists of s, in order, before the first fault
+unfoldable pub placesOf : List ℕ → List ℕ
+placesOf s =
+    after namesGood (readNames s) (λ names a.
+    after (guessesGood (length names)) (readGuesses a) (λ guesses b.
+    after (λ (n : ℕ). eqb n (listCount (length names))) (readByte b) (λ n c.
+    foundIn s (namesIn s a) n c)))
+
+-- the promise of a survey: the verdict, and the places stored from the table's front on, as far as it goes
+pub record SurveyIs (s table : List ℕ) (r : Surveyed) (table′ : List ℕ) : Type 0 where
+  pub result : r ≡ surveyedOf (packOf s)
+  pub buffer : table′ ≡ sets table 0 (placesOf s)
+
+-- ---- a rule by its places
+
+-- where each of the four strings starts, behind its length byte, and ends
+unfoldable pub placedFrom : ℕ → ℕ → ℕ → ℕ → ℕ → RuleAt
+placedFrom place p l r e =
+    rules.At (place + 1) (place + 1 + p) (place + 2 + p) (place + 2 + p + l) (place + 3 + p + l) (place + 3 + p + l + r) (place + 4 + p + l + r) (place + 4 + p + l + r + e)
+
+unfoldable pub placedRule : ℕ → Read Rule → RuleAt
+placedRule place cut = rules.Cut
+placedRule place (got r q) = placedFrom place (length (r .pattern)) (length (r .left)) (length (r .right)) (length (r .expression))
+
+-- the rule at a place, of any bytes
+unfoldable pub ruleAt : List ℕ → ℕ → RuleAt
+ruleAt s place = placedRule place (readRule (drop place s))
+
+-- ---- how many rules a list has
+
+unfoldable pub countIn : Read ℕ → ℕ
+countIn cut = 0
+countIn (got n r) = n
+
+-- the count of the list at a place, and 0 where bytes run out
+unfoldable pub ruleCount : List ℕ → ℕ → ℕ
+ruleCount s place = countIn (readNumber 2 (drop place s))

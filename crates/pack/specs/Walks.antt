@@ -1,0 +1,130 @@
+-- What the functions of the walk answer, in terms of what is read.
+use Prim.{Unit}
+use mathlib.Core.Path.{_≡_}
+use Prim.Native.Nat.{ℕ, zero, suc, _-_, _<_}
+use mathlib.Core.Bool.{Bool, true}
+use mathlib.Core.List.{List, [], _∷_}
+use lib.Dec.{eqb, leb}
+use lib.ListN.{length, getD, drop}
+use lib.Seq.{sets}
+use Rattle.base.specs.Pick.{pick, and}
+use Rattle.letters.specs.Order.{orderOf, sameText}
+use Rattle.languages.specs.Names.{languageName}
+use Rattle.rule.specs.Matching.{ruleText, firstCode}
+use Rattle.pack.specs.Reading.{Read, cut, got, readByte, readNumber}
+use Rattle.pack.specs.Packs.{Guess, Rule, readGuess, readList, isLess, any, guessGood, ruleGood, listGood, placeIn, listCount}
+use Rattle.pack.specs.Places.{foundIn}
+use Rattle.pack.specs.declared.reading.Number.{Number}
+use Rattle.pack.specs.declared.reading.Number.the-variants as number
+use Rattle.pack.specs.declared.reading.Section.{Section}
+use Rattle.pack.specs.declared.reading.Section.the-variants.{End, Bad}
+use Rattle.pack.specs.declared.guessing.GuessAt.{GuessAt}
+use Rattle.pack.specs.declared.guessing.GuessAt.the-variants as guesses
+use Rattle.pack.specs.declared.rules.Ruled.{Ruled}
+use Rattle.pack.specs.declared.rules.Ruled.the-variants as ruled
+use Rattle.pack.specs.declared.sections.Checked.{Checked}
+use Rattle.pack.specs.declared.sections.Checked.the-variants as checked
+use Rattle.pack.specs.declared.sections.Lists.{Lists}
+use Rattle.pack.specs.declared.sections.Lists.the-variants as lists
+
+-- the byte at a place, 0 behind the end
+pub record ByteIs (s : List ℕ) (at r : ℕ) : Type 0 where
+  pub is : r ≡ getD s at 0
+  pub small : r < 256
+
+unfoldable pub numberIn : List ℕ → Read ℕ → Number
+numberIn s cut = number.Cut
+numberIn s (got n r) = number.Of n (placeIn s r)
+
+-- the number of k bytes at a place, and the place behind it
+unfoldable pub numberAt : ℕ → List ℕ → ℕ → Number
+numberAt k s at = numberIn s (readNumber k (drop at s))
+
+-- a section that is read and good, and what is said where it is not
+unfoldable pub judge : {A R : Type 0} → R → (A → Bool) → Read A → (A → List ℕ → R) → R
+judge bad good cut k = bad
+judge bad good (got a r) k = pick (good a) (k a r) bad
+
+-- where a section of s ends, or that it is at fault
+unfoldable pub endIn : {A : Type 0} → List ℕ → (A → Bool) → Read A → Section
+endIn s good rd = judge Bad good rd (λ a r. End (placeIn s r))
+
+-- a test of each of a list in turn, over a state
+unfoldable pub run : {A S : Type 0} → (S → A → Bool) → (S → A → S) → (S → Bool) → S → List A → Bool
+run ok next last st [] = last st
+run ok next last st (x ∷ xs) = and (ok st x) (run ok next last (next st x) xs)
+
+-- ---- names: the name before, and whether `any` was met
+
+pub record Past : Type 0 where
+  pub name : List ℕ
+  pub met : Bool
+
+abbrev pub past : List ℕ → Bool → Past
+past n m = record { name = n; met = m }
+
+-- a name that follows another
+unfoldable pub follows : List ℕ → List ℕ → Bool
+follows p x = and (isLess (orderOf p x)) (languageName x)
+
+unfoldable pub metBy : Bool → List ℕ → Bool
+metBy m x = pick m true (sameText x any)
+
+unfoldable pub namesFrom : Past → List (List ℕ) → Bool
+namesFrom = run (λ p x. follows (p .name) x) (λ p x. past x (metBy (p .met) x)) (λ p. p .met)
+
+-- ---- guesses
+
+unfoldable pub guessesFrom : ℕ → List Guess → Bool
+guessesFrom n = run (λ (u : Unit {0}) g. guessGood n g) (λ u g. u) (λ u. true) tt
+
+unfoldable pub placedGuess : List ℕ → Read Guess → GuessAt
+placedGuess s cut = guesses.Cut
+placedGuess s (got g r) = guesses.At (g .accept) (g .mask) (placeIn s r - length (g .pattern)) (placeIn s r)
+
+unfoldable pub guessAt : List ℕ → ℕ → GuessAt
+guessAt s at = placedGuess s (readGuess (drop at s))
+
+-- ---- rules: the first character of the rule before
+
+unfoldable pub textsGood : Rule → Bool
+textsGood r = and (ruleText (r .pattern)) (and (ruleText (r .left)) (and (ruleText (r .right)) (ruleText (r .expression))))
+
+unfoldable pub ruleFits : List ℕ → ℕ → Rule → Bool
+ruleFits names least r = and (leb least (firstCode (r .pattern))) (ruleGood names r)
+
+unfoldable pub rulesFrom : List ℕ → ℕ → List Rule → Bool
+rulesFrom names = run (ruleFits names) (λ least r. firstCode (r .pattern)) (λ least. true)
+
+unfoldable pub ruledAs : List ℕ → ℕ → ℕ → Rule → Ruled
+ruledAs names least end r = pick (ruleFits names least r) (ruled.Next end (firstCode (r .pattern))) ruled.Bad
+
+unfoldable pub ruledIn : List ℕ → List ℕ → ℕ → Read Rule → Ruled
+ruledIn s names least rd = judge ruled.Bad (ruleFits names least) rd (λ r q. ruled.Next (placeIn s q) (firstCode (r .pattern)))
+
+-- ---- lists: where they end, or the place of the first at fault
+
+unfoldable pub listsEnd : List ℕ → List ℕ → ℕ → List ℕ → Lists
+listsEnd s names zero r = lists.Done (placeIn s r)
+listsEnd s names (suc n) r = judge (lists.Fault (placeIn s r)) (listGood names) (readList r) (λ rules q. listsEnd s names n q)
+
+-- ---- the list count, the lists and the end
+
+pub record ListsAre (s names : List ℕ) (n at : ℕ) (table : List ℕ) (r : Lists) (table′ : List ℕ) : Type 0 where
+  pub result : r ≡ listsEnd s names n (drop at s)
+  pub buffer : table′ ≡ sets table 0 (foundIn s names n (drop at s))
+
+unfoldable pub ended : List ℕ → Lists → Checked
+ended s (lists.Done e) = pick (eqb e (length s)) checked.Accepted (checked.Refused e)
+ended s (lists.Fault e) = checked.Refused e
+
+unfoldable pub restOf : List ℕ → List ℕ → ℕ → List ℕ → Checked
+restOf s names n r =
+    judge (checked.Refused (placeIn s r)) (λ (c : ℕ). eqb c (listCount n)) (readByte r) (λ c q. ended s (listsEnd s names c q))
+
+unfoldable pub restPlaces : List ℕ → List ℕ → ℕ → List ℕ → List ℕ
+restPlaces s names n r = judge [] (λ (c : ℕ). eqb c (listCount n)) (readByte r) (λ c q. foundIn s names c q)
+
+pub record RestIs (s names : List ℕ) (n at : ℕ) (table : List ℕ) (r : Checked) (table′ : List ℕ) : Type 0 where
+  pub result : r ≡ restOf s names n (drop at s)
+  pub buffer : table′ ≡ sets table 0 (restPlaces s names n (drop at s))

@@ -1,0 +1,57 @@
+// Numbers of a pack, and the answer of a section.
+ghost use mathlib.Core.Path.{_≡_};
+ghost use Rattle.pack.specs.Walks.{ByteIs, numberAt};
+
+// A number of a pack and the place behind it, or that bytes run out.
+pub(crate) enum Number {
+    Of { value: u32, next: usize },
+    Cut,
+}
+
+// Where a section ends, or that it is at fault.
+pub(crate) enum Section {
+    End(usize),
+    Bad,
+}
+
+// The byte at a place, and 0 behind the end.
+pub(crate) fn byte_at(s: &[u8], at: usize) -> u32
+    ensures { λ r. ⌜ ByteIs (now (s .entry)) at r ⌝ }
+{
+    if at < s.len() { s[at] as u32 } else { 0 }
+}
+
+// The number of 2 bytes at a place ("Counts are big-endian").
+pub(crate) fn count_at(s: &[u8], at: usize) -> Number
+    ensures { λ r. ⌜ r ≡ numberAt 2 (now (s .entry)) at ⌝ }
+{
+    let n = s.len();
+    if n < 2 {
+        return Number::Cut;
+    }
+    if n - 2 < at {
+        return Number::Cut;
+    }
+    Number::Of {
+        value: byte_at(s, at) * 256 + byte_at(s, at + 1),
+        next: at + 2,
+    }
+}
+
+// The number of 4 bytes at a place.
+pub(crate) fn mask_at(s: &[u8], at: usize) -> Number
+    ensures { λ r. ⌜ r ≡ numberAt 4 (now (s .entry)) at ⌝ }
+{
+    let n = s.len();
+    if n < 4 {
+        return Number::Cut;
+    }
+    if n - 4 < at {
+        return Number::Cut;
+    }
+    let high = byte_at(s, at) * 256 + byte_at(s, at + 1);
+    Number::Of {
+        value: (high * 256 + byte_at(s, at + 2)) * 256 + byte_at(s, at + 3),
+        next: at + 4,
+    }
+}

@@ -1,0 +1,248 @@
+// The rules of a pack: where the strings of one stand, and a list of them checked.
+ghost use mathlib.Core.Path.{_≡_};
+ghost use Prim.Native.Nat.{_≤_};
+ghost use lib.ListN.{length, drop};
+ghost use Rattle.base.specs.Pick.{and};
+ghost use Rattle.regex_optim.specs.Contexts.{leftForm, rightForm, kindOf};
+ghost use Rattle.rule.specs.Expressions.{checkedOf};
+ghost use Rattle.pack.specs.Reading.{readMany};
+ghost use Rattle.pack.specs.Packs.{rule, readRule, readList, isForm, isGood, ruleGood, listGood};
+ghost use Rattle.pack.specs.Places.{ruleAt, ruleCount};
+ghost use Rattle.pack.specs.Walks.{endIn, textsGood, ruledAs, ruledIn, rulesFrom};
+use crate::reading::Number;
+use crate::reading::Section;
+use languages::Next;
+use regex_optim::OptimizedRegex;
+use rule::Expression;
+
+// A rule by its places: the pattern stands from `pattern` to `pattern_end`, and so the others; the next rule stands at `end`.
+pub enum RuleAt {
+    At {
+        pattern: usize,
+        pattern_end: usize,
+        left: usize,
+        left_end: usize,
+        right: usize,
+        right_end: usize,
+        expression: usize,
+        end: usize,
+    },
+    Cut,
+}
+
+// Where a good rule ends and its first character, or that there is none.
+pub(crate) enum Ruled {
+    Next { end: usize, code: u32 },
+    Bad,
+}
+
+// The rule at a place of `pack`.
+pub fn rule_at(pack: &[u8], place: usize) -> RuleAt
+    ensures { λ r. ⌜ r ≡ ruleAt (now (pack .entry)) place ⌝ }
+{
+    match languages::string_at(pack, place) {
+        Next::Whole {
+            start: pattern,
+            end: pattern_end,
+        } => match languages::string_at(pack, pattern_end) {
+            Next::Whole {
+                start: left,
+                end: left_end,
+            } => match languages::string_at(pack, left_end) {
+                Next::Whole {
+                    start: right,
+                    end: right_end,
+                } => match languages::string_at(pack, right_end) {
+                    Next::Whole {
+                        start: expression,
+                        end,
+                    } => RuleAt::At {
+                        pattern,
+                        pattern_end,
+                        left,
+                        left_end,
+                        right,
+                        right_end,
+                        expression,
+                        end,
+                    },
+                    Next::Cut => RuleAt::Cut,
+                },
+                Next::Cut => RuleAt::Cut,
+            },
+            Next::Cut => RuleAt::Cut,
+        },
+        Next::Cut => RuleAt::Cut,
+    }
+}
+
+// The rule count of the list at a place of `pack`; its rules follow 2 bytes behind the place.
+pub fn rule_count(pack: &[u8], place: usize) -> usize
+    ensures { λ r. ⌜ r ≡ ruleCount (now (pack .entry)) place ⌝ }
+{
+    match crate::reading::count_at(pack, place) {
+        Number::Of { value, next: _ } => value as usize,
+        Number::Cut => 0,
+    }
+}
+
+fn texts_good(pattern: &[u8], left: &[u8], right: &[u8], expression: &[u8]) -> bool
+    ensures { λ r. ⌜ r ≡ textsGood (rule (now (pattern .entry)) (now (left .entry)) (now (right .entry)) (now (expression .entry))) ⌝ }
+{
+    if rule::is_rule_text(pattern) {
+        if rule::is_rule_text(left) {
+            if rule::is_rule_text(right) {
+                rule::is_rule_text(expression)
+            } else {
+                false
+            }
+        } else {
+            false
+        }
+    } else {
+        false
+    }
+}
+
+fn is_form(form: OptimizedRegex) -> bool
+    ensures { λ r. ⌜ r ≡ isForm form ⌝ }
+{
+    match form {
+        OptimizedRegex::AllStringsMatcher => true,
+        OptimizedRegex::IsEmpty => true,
+        OptimizedRegex::Equals => true,
+        OptimizedRegex::StartsWith => true,
+        OptimizedRegex::EndsWith => true,
+        OptimizedRegex::EqualsChar => true,
+        OptimizedRegex::StartsWithChar => true,
+        OptimizedRegex::EndsWithChar => true,
+        OptimizedRegex::Outside => false,
+    }
+}
+
+fn contexts_good(left: &[u8], right: &[u8]) -> bool
+    ensures { λ r. ⌜ r ≡ and (isForm (kindOf (leftForm (now (left .entry))))) (isForm (kindOf (rightForm (now (right .entry))))) ⌝ }
+{
+    if is_form(regex_optim::left_form(left)) {
+        is_form(regex_optim::right_form(right))
+    } else {
+        false
+    }
+}
+
+fn expression_good(names: &[u8], expression: &[u8]) -> bool
+    ensures { λ r. ⌜ r ≡ isGood (checkedOf (now (names .entry)) (now (expression .entry))) ⌝ }
+{
+    match rule::check_expression(expression, names) {
+        Expression::Good(_) => true,
+        Expression::Malformed => false,
+        Expression::Stranger => false,
+    }
+}
+
+// Whether a rule of these strings keeps the rules of the files ("Every rule above applies").
+fn rule_good(names: &[u8], pattern: &[u8], left: &[u8], right: &[u8], expression: &[u8]) -> bool
+    ensures { λ r. ⌜ r ≡ ruleGood (now (names .entry)) (rule (now (pattern .entry)) (now (left .entry)) (now (right .entry)) (now (expression .entry))) ⌝ }
+{
+    if texts_good(pattern, left, right, expression) {
+        if 0 < pattern.len() {
+            if contexts_good(left, right) {
+                expression_good(names, expression)
+            } else {
+                false
+            }
+        } else {
+            false
+        }
+    } else {
+        false
+    }
+}
+
+// A rule of these strings that ends at `end`, whose first character is `least` or behind it.
+fn rule_behind(
+    names: &[u8],
+    least: u32,
+    end: usize,
+    pattern: &[u8],
+    left: &[u8],
+    right: &[u8],
+    expression: &[u8],
+) -> Ruled
+    ensures { λ r. ⌜ r ≡ ruledAs (now (names .entry)) least end (rule (now (pattern .entry)) (now (left .entry)) (now (right .entry)) (now (expression .entry))) ⌝ }
+{
+    let code = rule::first_code(pattern);
+    if code < least {
+        return Ruled::Bad;
+    }
+    if rule_good(names, pattern, left, right, expression) {
+        Ruled::Next { end, code }
+    } else {
+        Ruled::Bad
+    }
+}
+
+// The rule at a place, whose first character is `least` or behind it.
+fn next_rule(pack: &[u8], at: usize, names: &[u8], least: u32) -> Ruled
+    ensures { λ r. ⌜ r ≡ ruledIn (now (pack .entry)) (now (names .entry)) least (readRule (drop at (now (pack .entry)))) ⌝ }
+{
+    match rule_at(pack, at) {
+        RuleAt::At {
+            pattern,
+            pattern_end,
+            left,
+            left_end,
+            right,
+            right_end,
+            expression,
+            end,
+        } => rule_behind(
+            names,
+            least,
+            end,
+            &pack[pattern..pattern_end],
+            &pack[left..left_end],
+            &pack[right..right_end],
+            &pack[expression..end],
+        ),
+        RuleAt::Cut => Ruled::Bad,
+    }
+}
+
+// Where `count` rules end, by first character.
+fn rules_from(pack: &[u8], start: usize, count: u32, names: &[u8]) -> Section
+    requires { ⌜ start ≤ length (now pack) ⌝ }
+    ensures { λ r. ⌜ r ≡ endIn (now (pack .entry)) (rulesFrom (now (names .entry)) 0) (readMany readRule count (drop start (now (pack .entry)))) ⌝ }
+{
+    let mut at = start;
+    let mut left = count;
+    let mut least: u32 = 0;
+    while 0 < left {
+        match next_rule(pack, at, names, least) {
+            Ruled::Next { end, code } => {
+                at = end;
+                least = code;
+                left -= 1;
+            }
+            Ruled::Bad => {
+                return Section::Bad;
+            }
+        }
+    }
+    Section::End(at)
+}
+
+// Where the list at a place ends; at most 4,096 rules.
+pub(crate) fn list_section(pack: &[u8], at: usize, names: &[u8]) -> Section
+    ensures { λ r. ⌜ r ≡ endIn (now (pack .entry)) (listGood (now (names .entry))) (readList (drop at (now (pack .entry)))) ⌝ }
+{
+    match crate::reading::count_at(pack, at) {
+        Number::Of { value: count, next } => {
+            if 4096 < count {
+                return Section::Bad;
+            }
+            rules_from(pack, next, count, names)
+        }
+        Number::Cut => Section::Bad,
+    }
+}
