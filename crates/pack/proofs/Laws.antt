@@ -33,6 +33,7 @@ use Rattle.pack.specs.Packs.{Guess, Rule, Pack, Verdict, accepted, refus
 use Rattle.pack.specs.Places.{textBytes, surveyedOf, foundIn, placesOf, SurveyIs, placedRule, placedFrom, ruleAt, countIn, ruleCount}
 use Rattle.pack.specs.Guessing.{narrowedBy, narrowedByAll, leftOver, allListed, guessed, behind, readSome, guessesAt, guessedAt}
 use Rattle.pack.specs.Walks.{numberIn, numberAt, restPlaces}
+use Rattle.pack.specs.declared.rules.RuleAt.{RuleAt}
 use Rattle.pack.specs.declared.rules.RuleAt.the-variants as rules
 use Rattle.pack.specs.declared.sections.Surveyed.{Surveyed}
 use Rattle.pack.specs.declared.sections.Surveyed.the-variants as surveyed
@@ -263,6 +264,67 @@ module _ (s nm : List ℕ) (at : ℕ) (x : Rule) (r : List ℕ) (o : readRule (d
       let value : w .value ≡ x = cc in
       let rest : r ≡ drop (at + 4 + length (x .pattern) + length (x .left) + length (x .right) + length (x .expression)) s = cc in
       one-rule placed-at w value k (ih _ rest)
+
+-- what a caller of `rule_at` learns there
+record Held (s nm : List ℕ) (a b c d e f g h : ℕ) (r : Rule) (rs : List Rule) : Type 0 where
+  pattern : take (b - a) (drop a s) ≡ r .pattern
+  left : take (d - c) (drop c s) ≡ r .left
+  right : take (f - e) (drop e s) ≡ r .right
+  expression : take (h - g) (drop g s) ≡ r .expression
+  good : ruleGood nm r ≡ true
+  rest : RulesAt s nm h rs
+
+held-by : (s nm : List ℕ) (at a b c d e f g h : ℕ) (r : Rule) (rs : List Rule) → rules.At a b c d e f g h ≡ ruleAt s at → RulesAt s nm at (r ∷ rs) → Held s nm a b c d e f g h r rs
+held-by s nm at a b c d e f g h r rs o (one-rule {a = a′} {b = b′} {c = c′} {d = d′} {e = e′} {f = f′} {g = g′} {h = h′} p w v k l) =
+    let same = o ∙ p in
+    let ea : a ≡ a′ = cc in
+    let eb : b ≡ b′ = cc in
+    let ec : c ≡ c′ = cc in
+    let ed : d ≡ d′ = cc in
+    let ee : e ≡ e′ = cc in
+    let ef : f ≡ f′ = cc in
+    let eg : g ≡ g′ = cc in
+    let eh : h ≡ h′ = cc in
+    record {
+      pattern = ap₂ (λ (x y : ℕ). take (x - y) (drop y s)) eb ea ∙ w .pattern ∙ ap (λ (y : Rule). y .pattern) v;
+      left = ap₂ (λ (x y : ℕ). take (x - y) (drop y s)) ed ec ∙ w .left ∙ ap (λ (y : Rule). y .left) v;
+      right = ap₂ (λ (x y : ℕ). take (x - y) (drop y s)) ef ee ∙ w .right ∙ ap (λ (y : Rule). y .right) v;
+      expression = ap₂ (λ (x y : ℕ). take (x - y) (drop y s)) eh eg ∙ w .expression ∙ ap (λ (y : Rule). y .expression) v;
+      good = k;
+      rest = subst (λ (x : ℕ). RulesAt s nm x rs) (sym eh) l;
+    }
+
+module _ (s nm : List ℕ) (at : ℕ) (r : Rule) (rs : List Rule) (l : RulesAt s nm at (r ∷ rs)) (x : RuleAt) (o : x ≡ ruleAt s at) where
+  module _ (a b c d e f g h : ℕ) (q : x ≡ rules.At a b c d e f g h) where
+    held-here : Held s nm a b c d e f g h r rs
+    held-here = held-by s nm at a b c d e f g h r rs (sym q ∙ o) l
+
+    pub held-pattern : take (b - a) (drop a s) ≡ r .pattern
+    held-pattern = held-here .pattern
+
+    pub held-left : take (d - c) (drop c s) ≡ r .left
+    held-left = held-here .left
+
+    pub held-right : take (f - e) (drop e s) ≡ r .right
+    held-right = held-here .right
+
+    pub held-expression : take (h - g) (drop g s) ≡ r .expression
+    held-expression = held-here .expression
+
+    pub held-good : GoodRule nm r
+    held-good = good-rule nm r (held-here .good)
+
+    pub held-rest : RulesAt s nm h rs
+    held-rest = held-here .rest
+
+-- one is there
+never-cut : (s nm : List ℕ) (at : ℕ) (r : Rule) (rs : List Rule) → rules.Cut ≡ ruleAt s at → RulesAt s nm at (r ∷ rs) → ⊥
+never-cut s nm at r rs o (one-rule p w v k l) = let same = o ∙ p in clash (cc)
+
+pub held-whole : (s nm : List ℕ) (at : ℕ) (r : Rule) (rs : List Rule) (x : RuleAt) → RulesAt s nm at (r ∷ rs) → x ≡ ruleAt s at → x ≡ rules.Cut → ⊥
+held-whole s nm at r rs x l o q = never-cut s nm at r rs (sym q ∙ o) l
+
+pub ruleset held-laws = (held-pattern, held-left, held-right, held-expression, held-good, held-rest)
 
 all-inv : (nm : List ℕ) (x : Rule) (xs : List Rule) → all (ruleGood nm) (x ∷ xs) ≡ true → (ruleGood nm x ≡ true) × (all (ruleGood nm) xs ≡ true)
 unfolding all

@@ -86,6 +86,7 @@ pub fn rule_count(pack: &[u8], place: usize) -> usize
     }
 }
 
+// Whether all four strings are texts that a rule may hold.
 fn texts_good(pattern: &[u8], left: &[u8], right: &[u8], expression: &[u8]) -> bool
     ensures { λ r. ⌜ r ≡ textsGood (rule (now (pattern .entry)) (now (left .entry)) (now (right .entry)) (now (expression .entry))) ⌝ }
 {
@@ -104,6 +105,7 @@ fn texts_good(pattern: &[u8], left: &[u8], right: &[u8], expression: &[u8]) -> b
     }
 }
 
+// Whether a context is in one of the forms (15 otherwise).
 fn is_form(form: OptimizedRegex) -> bool
     ensures { λ r. ⌜ r ≡ isForm form ⌝ }
 {
@@ -120,6 +122,7 @@ fn is_form(form: OptimizedRegex) -> bool
     }
 }
 
+// Whether both contexts are in the forms.
 fn contexts_good(left: &[u8], right: &[u8]) -> bool
     ensures { λ r. ⌜ r ≡ and (isForm (kindOf (leftForm (now (left .entry))))) (isForm (kindOf (rightForm (now (right .entry))))) ⌝ }
 {
@@ -130,6 +133,7 @@ fn contexts_good(left: &[u8], right: &[u8]) -> bool
     }
 }
 
+// Whether an expression is well formed and its names are listed.
 fn expression_good(names: &[u8], expression: &[u8]) -> bool
     ensures { λ r. ⌜ r ≡ isGood (checkedOf (now (names .entry)) (now (expression .entry))) ⌝ }
 {

@@ -9,12 +9,13 @@ use crate::reading::Section;
 use languages::Next;
 use letters::Order;
 
+// Accepted (0), or refused (5) with the first byte of the section at fault.
 pub enum Checked {
     Accepted,
     Refused(usize),
 }
 
-// What a survey tells: of an accepted pack the number of its languages and the place of the guessing section.
+// The same, and of an accepted pack the number of its languages and the place of its guessing section.
 pub enum Surveyed {
     Accepted { languages: usize, guesses: usize },
     Refused(usize),
@@ -37,6 +38,7 @@ fn follows_name(before: &[u8], name: &[u8]) -> bool
     }
 }
 
+// Whether `any` was met, or is met now.
 fn meets_any(met: bool, name: &[u8]) -> bool
     ensures { λ r. ⌜ r ≡ metBy met (now (name .entry)) ⌝ }
 {

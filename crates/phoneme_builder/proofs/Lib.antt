@@ -1,0 +1,12 @@
+pub mod PutLaws
+pub mod ShiftLaws
+pub mod FindLaws
+pub mod InsertLaws
+pub mod EnterLaws
+pub mod AddLaws
+pub mod ApplyLaws
+pub mod AppendLaws
+pub mod OrderLaws
+pub mod UniteLaws
+pub mod Increasing
+pub mod Answers

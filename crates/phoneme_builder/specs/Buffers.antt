@@ -1,0 +1,182 @@
+-- The list of texts that lent buffers hold: rows of 128 bytes at slots, their lengths and languages, and the slots in the order of the texts.
+-- A text that may enter is first written into the free slot behind the others, so there is one slot more than texts.
+use Prim.Native.Nat.{ℕ, zero, suc, _+_, _-_, _*_, _≤_, _<_}
+use mathlib.Core.Path.{_≡_}
+use mathlib.Core.List.{List, [], _∷_, _++_, map}
+use lib.ListN.{length, take, drop, getD, set}
+use Rattle.letters.specs.Order.{orderOf}
+use Rattle.languages.specs.Coded.{decoded, IsCode}
+use Rattle.languages.specs.declared.sets.LanguageSet.{LanguageSet}
+use Rattle.choices.specs.Texts.{Text, byOrder}
+use Rattle.choices.specs.Apply.{Alternative, Entry, Outcome, refused, held, insert, enter}
+use Rattle.choices.specs.Choices.{Increasing}
+use Rattle.phoneme_builder.specs.Sets.{Spelling, refusal, united}
+use Rattle.phoneme_builder.specs.declared.set.Found.{Found}
+use Rattle.phoneme_builder.specs.declared.set.Found.the-variants.{At, Free}
+use Rattle.phoneme_builder.specs.declared.apply.Applied.{Applied}
+use Rattle.phoneme_builder.specs.declared.apply.Applied.the-variants.{Now, TooLong}
+use Rattle.phoneme_builder.specs.declared.unite.United.{United}
+use Rattle.phoneme_builder.specs.declared.unite.United.the-variants.{Into, TooMany}
+
+-- ---- lists
+
+unfoldable pub further : Found → Found
+further (At k) = At (suc k)
+further (Free k) = Free (suc k)
+
+-- where t stands in a list in order, or where it would go
+unfoldable pub findL : Text → List Text → Found
+findL t [] = Free 0
+findL t (x ∷ xs) = byOrder (orderOf x t) (further (findL t xs)) (At 0) (Free 0)
+
+-- x at index p
+abbrev pub insAt : {A : Type 0} → ℕ → A → List A → List A
+insAt p x l = take p l ++ x ∷ drop p l
+
+abbrev pub entry : Text → LanguageSet → Entry
+entry t g = record { text = t; langs = g }
+
+abbrev pub alternative : Text → LanguageSet → Alternative
+alternative t g = record { text = t; langs = g }
+
+-- every element is below n
+unfoldable pub All< : ℕ → List ℕ → Type 0
+All< n [] = Unit {0}
+All< n (x ∷ xs) = (x < n) × All< n xs
+
+-- d with its first elements replaced by those of t
+unfoldable pub over : List ℕ → List ℕ → List ℕ
+over d [] = d
+over [] (x ∷ t) = []
+over (y ∷ d) (x ∷ t) = x ∷ over d t
+
+-- d with its elements from index p on replaced by those of t
+unfoldable pub put : List ℕ → ℕ → List ℕ → List ℕ
+put d zero t = over d t
+put [] (suc p) t = []
+put (y ∷ d) (suc p) t = y ∷ put d p t
+
+-- ---- buffers
+
+-- the text and the entry in slot s
+unfoldable pub textAt : List ℕ → List ℕ → ℕ → Text
+textAt store lens s = take (getD lens s 0) (drop (s * 128) store)
+
+unfoldable pub entryAt : List ℕ → List ℕ → List ℕ → ℕ → Entry
+entryAt store lens langs s = record { text = textAt store lens s; langs = decoded (getD langs s 0) }
+
+-- the texts and the entries of the first n slots of the order
+abbrev pub textsOf : List ℕ → List ℕ → List ℕ → ℕ → List Text
+textsOf store lens ord n = map (textAt store lens) (take n ord)
+
+abbrev pub entries : List ℕ → List ℕ → List ℕ → List ℕ → ℕ → List Entry
+entries store lens langs ord n = map (entryAt store lens langs) (take n ord)
+
+-- slot s lies within the buffers
+pub record RowIn (store lens : List ℕ) (s : ℕ) : Type 0 where
+  pub len-in : s < length lens
+  pub text-in : s * 128 + getD lens s 0 ≤ length store
+  pub short : getD lens s 0 ≤ 128
+
+-- the first n of the order name slots below n, whose texts are short and stand in order
+pub record Held (store lens ord : List ℕ) (n : ℕ) : Type 0 where
+  pub few : n ≤ 256
+  pub long-store : length store ≡ 32896
+  pub long-lens : length lens ≡ 257
+  pub long-ord : length ord ≡ 256
+  pub slots : All< n (take n ord)
+  pub short : (s : ℕ) → s < n → getD lens s 0 ≤ 128
+  pub increasing : Increasing (textsOf store lens ord n)
+
+-- the buffers hold a set of n texts
+pub record IsSet (store lens langs ord : List ℕ) (n : ℕ) : Type 0 where
+  pub rows : Held store lens ord n
+  pub long-langs : length langs ≡ 257
+  pub codes : (s : ℕ) → s < n → IsCode (getD langs s 0)
+
+-- they hold the list l
+pub record SetIs (store lens langs ord : List ℕ) (n : ℕ) (l : List Entry) : Type 0 where
+  pub set : IsSet store lens langs ord n
+  pub is : entries store lens langs ord n ≡ l
+
+-- buffers for a set
+pub record Room (store lens langs ord : List ℕ) : Type 0 where
+  pub long-store : length store ≡ 32896
+  pub long-lens : length lens ≡ 257
+  pub long-langs : length langs ≡ 257
+  pub long-ord : length ord ≡ 256
+
+-- slot n is there to be written
+pub record SlotIn (store lens langs : List ℕ) (n : ℕ) : Type 0 where
+  pub row : n * 128 + 128 ≤ length store
+  pub len : n < length lens
+  pub lang : n < length langs
+
+-- a row was written into slot n
+pub record Written (store lens langs : List ℕ) (n : ℕ) (t : Text) (g : ℕ) (store′ lens′ langs′ : List ℕ) : Type 0 where
+  pub store-is : store′ ≡ put store (n * 128) t
+  pub lens-is : lens′ ≡ set lens n (length t)
+  pub langs-is : langs′ ≡ set langs n g
+
+-- slot n entered: the order names r slots, and its entries are those before with slot n's among them, whatever the languages are
+pub record Entered (store lens ord ord′ : List ℕ) (n r : ℕ) : Type 0 where
+  pub rows : Held store lens ord′ r
+  pub is : (langs : List ℕ) → entries store lens langs ord′ r ≡ insert (entryAt store lens langs n) (entries store lens langs ord n)
+  pub grew : r ≤ n + 1
+
+-- ---- apply
+
+-- the alternative j of an expression's tables, and k of them from j on
+unfoldable pub altAt : List ℕ → List ℕ → List ℕ → List ℕ → ℕ → Alternative
+altAt expr starts ends sets j =
+    record { text = take (getD ends j 0 - getD starts j 0) (drop (getD starts j 0) expr); langs = decoded (getD sets j 0) }
+
+unfoldable pub altsFrom : List ℕ → List ℕ → List ℕ → List ℕ → ℕ → ℕ → List Alternative
+altsFrom expr starts ends sets j zero = []
+altsFrom expr starts ends sets j (suc k) = altAt expr starts ends sets j ∷ altsFrom expr starts ends sets (suc j) k
+
+abbrev pub alternatives : List ℕ → List ℕ → List ℕ → List ℕ → ℕ → List Alternative
+alternatives expr starts ends sets m = altsFrom expr starts ends sets 0 m
+
+-- the tables hold m alternatives, each a part of the expression
+pub record AltsIn (expr starts ends sets : List ℕ) (m : ℕ) : Type 0 where
+  pub long-starts : m ≤ length starts
+  pub long-ends : m ≤ length ends
+  pub long-sets : m ≤ length sets
+  pub start-in : (j : ℕ) → j < m → getD starts j 0 ≤ getD ends j 0
+  pub end-in : (j : ℕ) → j < m → getD ends j 0 ≤ length expr
+  pub codes : (j : ℕ) → j < m → IsCode (getD sets j 0)
+
+-- what an answer says of the set: the buffers hold one, or a text was too long (01, the table, 7)
+unfoldable pub KeptBy : Applied → List ℕ → List ℕ → List ℕ → List ℕ → Type 0
+KeptBy (Now k) store lens langs ord = IsSet store lens langs ord k
+KeptBy TooLong store lens langs ord = Unit {0}
+
+unfoldable pub outcomeBy : Applied → List ℕ → List ℕ → List ℕ → List ℕ → (List Entry → Outcome) → Outcome
+outcomeBy (Now k) store lens langs ord rest = rest (entries store lens langs ord k)
+outcomeBy TooLong store lens langs ord rest = refused
+
+-- the answer is the outcome o
+pub record AppliedIs (r : Applied) (store lens langs ord : List ℕ) (o : Outcome) : Type 0 where
+  pub kept : KeptBy r store lens langs ord
+  pub is : outcomeBy r store lens langs ord held ≡ o
+
+-- the candidates cs entered into l, whatever comes behind them
+pub record OfferedIs (limit : ℕ) (cs l : List Entry) (r : Applied) (store lens langs ord : List ℕ) : Type 0 where
+  pub kept : KeptBy r store lens langs ord
+  pub is : (rest : List Entry) → outcomeBy r store lens langs ord (enter limit rest) ≡ enter limit (cs ++ rest) l
+
+-- ---- unite
+
+unfoldable pub HeldBy : United → List ℕ → List ℕ → List ℕ → List ℕ → Type 0
+HeldBy (Into k) store lens langs ord = IsSet store lens langs ord k
+HeldBy TooMany store lens langs ord = Unit {0}
+
+unfoldable pub spellingBy : United → List ℕ → List ℕ → List ℕ → List ℕ → (List Entry → Spelling) → Spelling
+spellingBy (Into k) store lens langs ord rest = rest (entries store lens langs ord k)
+spellingBy TooMany store lens langs ord rest = refusal 8
+
+-- the texts xs united into l for the set g, whatever is done with the result
+pub record UnitedIs (g : LanguageSet) (xs l : List Entry) (r : United) (store lens langs ord : List ℕ) : Type 0 where
+  pub kept : HeldBy r store lens langs ord
+  pub is : (rest : List Entry → Spelling) → spellingBy r store lens langs ord rest ≡ united g xs l rest
