@@ -4,6 +4,7 @@
 A case is the line for the port, the line for the original's `bm-answers` (None where the original has no such thing), and the
 function that turns the original's answer into the answers that the port may give (None: any).
 """
+import collections
 import itertools
 import random
 
@@ -346,6 +347,169 @@ def packs_random(rng, count):
         yield from pack_cases(bytes(rng.randrange(256) for _ in range(rng.randrange(12))))
 
 
+# ---- words: steps 6 to 9 of document 01's "Spelling a name", from three lists of a pack
+
+LIMITS = (0, 1, 2, 3, 20, 256)
+# the languages of a pack, the letters of its names, the letters of its texts, the few texts that its expressions hold, and how many
+# of four alternatives have a box
+Sounds = collections.namedtuple("Sounds", "names letters sounds texts boxes")
+
+
+def sounds_of(rng):
+    """Few letters and few texts, so that equal texts meet with other languages; now and then one near the 128 bytes of code 7."""
+    names = sorted({"any"} | set(rng.sample(("a", "de", "fr", "zz"), rng.randrange(1, 4))))
+    letters = rng.sample("abdenvé łß'", rng.randrange(2, 6))
+    sounds = rng.sample("abxyéω😀", rng.randrange(2, 4))
+    texts = [""] + sounds + [rng.choice(sounds) + rng.choice(sounds)]
+    if rng.randrange(5) == 0:
+        sound = rng.choice(sounds)
+        texts.append(sound * (rng.choice((16, 32, 64, 127, 128, 129)) // len(sound.encode())))
+    return Sounds(names, letters, sounds, texts, rng.choice((1, 1, 3)))
+
+
+def context_over(rng, signs, left):
+    """01, Contexts: each of the forms."""
+    one, other = rng.choice(signs), rng.choice(signs)
+    rest = rng.choice(("", "", "", one, one + other, "[%s%s]" % (one, other), "[^%s]" % one))
+    if rng.randrange(4):
+        return rest
+    return "^" + rest if left else rest + "$"
+
+
+def expression_over(rng, sounds):
+    """01, Phoneme expressions, of the few texts and with boxes; at most 255 bytes."""
+    parts = []
+    for _ in range(rng.choice((1, 1, 2, 2, 3, 4))):
+        box = "[%s]" % "+".join(rng.sample(sounds.names, rng.randrange(1, len(sounds.names) + 1)))
+        parts.append(rng.choice(sounds.texts) + (box if rng.randrange(4) < sounds.boxes else ""))
+    joined = "(%s)" % "|".join(parts)
+    return parts[0] if len(joined.encode()) > second.LONGEST_STRING or len(parts) == 1 and rng.randrange(2) else joined
+
+
+def rules_over(rng, sounds, signs, most, plain=0):
+    """Random rules, and for so many of four signs a rule that always matches behind them."""
+    found = []
+    for _ in range(rng.randrange(most + 1)):
+        pattern = "".join(rng.choice(signs) for _ in range(rng.choice((1, 1, 1, 2, 3))))
+        found.append((pattern, context_over(rng, signs, True), context_over(rng, signs, False), expression_over(rng, sounds)))
+    found += [(sign, "", "", expression_over(rng, sounds)) for sign in signs if rng.randrange(4) < plain]
+    return sorted(found, key=lambda rule: rule[0][0])
+
+
+def final_rules(rng, sounds):
+    return rules_over(rng, sounds, sounds.sounds, 3, sounds.boxes - 1)
+
+
+def guesses_over(rng, sounds):
+    """01, Guessing lines: a pattern holds no blank."""
+    signs = [letter for letter in sounds.letters if letter != " "]
+    found = []
+    for _ in range(rng.randrange(5)):
+        one, other = rng.choice(signs), rng.choice(signs)
+        pattern = rng.choice((one, one + other, "[%s%s]" % (one, other), "[^%s]" % one, "-", "-" + one, "[^%s]%s" % (one, other)))
+        found.append((rng.randrange(2), rng.randrange(1, 1 << len(sounds.names)),
+                      rng.choice(("", "", "^")) + pattern + rng.choice(("", "", "$"))))
+    return found
+
+
+def spelling_pack(rng):
+    """A random pack and what it is made of."""
+    sounds = sounds_of(rng)
+    lists = []
+    for _ in sounds.names:
+        lists += [rules_over(rng, sounds, sounds.letters, 4, 3), final_rules(rng, sounds), final_rules(rng, sounds)]
+    lists += [final_rules(rng, sounds), final_rules(rng, sounds)]
+    return sounds, second.pack_bytes(sounds.names, guesses_over(rng, sounds), lists)
+
+
+def edge_pack(names, main, common, own=()):
+    """A pack in which each language has these main rules and these final ones, approx and exact."""
+    plain = [[rule if len(rule) == 4 else (rule[0], "", "", rule[1]) for rule in rules] for rules in (main, common, own)]
+    main, common, own = (sorted(rules, key=lambda rule: rule[0][0]) for rules in plain)
+    return second.pack_bytes(names, [], [main, own, own] * len(names) + [common, common])
+
+
+EIGHT = [(letter, "(x|y)") for letter in "abcdefgh"]
+FOUR_NAMES = ["any", "de", "fr", "it"]
+
+
+def edges():
+    """Packs at which an error comes easily, with words for each."""
+    # an equal text of a final pass is merged with the set of the text being worked on: z/{de} with {fr, it}, not with {it}
+    yield edge_pack(FOUR_NAMES, [("a", "(x[de]|y[fr+it])"), ("b", "(x[de]|y[it])")], [("x", "z"), ("y", "z[it]")],
+                    [("z", "(d[de]|f[fr]|i[it])")]), ["a", "b", "ab", "ba", "aab"]
+    # an equal text of an apply stays as it was
+    yield edge_pack(FOUR_NAMES, [("a", "(b[fr]|a|b[de])"), ("c", "(p[de]|q[fr])")], []), ["a", "ac", "aac", "ca"]
+    # an append is sorted anew, and what comes first then is kept at a limit
+    yield edge_pack(FOUR_NAMES, [("a", "k"), ("b", "z"), ("c", "m")], [("k", "(a|ab)"), ("m", "(1|2)")]), [
+        "abc", "ab", "abcc", "aabc"]
+    # 128 bytes and 129: in an apply, in a final pass, in an append
+    main = [("a", "o" * 64), ("b", "o" * 127), ("c", "o" * 128), ("d", "o" * 129), ("e", "é"), ("f", "x" + "y" * 127), ("g", "g"),
+            ("h", "h"), ("i", "1"), ("j", "(j|%s)" % ("o" * 129))]
+    words = ["a", "aa", "aae", "aea", "b", "be", "bg", "c", "ci", "d", "ae", "f", "g", "h", "ig", "gi", "fi", "j", "jj"]
+    yield edge_pack(["any"], main, [("1", "11"), ("g", "y" * 128), ("h", "y" * 129), ("x", "z")]), words
+    yield edge_pack(["any"], main, [("x", "zz")]), ["f", "fe", "cf"]
+    # 256 texts and 257 of a final pass, and 7 met before 8 and behind it
+    for more in ([("x", "^yyyyyyy", "$", "z")], [("x", "^yyyyyyy", "$", "(x|z)")],
+                 [("x", "^yyyyyyy", "$", "(x|z)"), ("yyyyyyyy", "o" * 129)], [("xxxxxxxx", "(1|2|3)"), ("yyyyyyyy", "o" * 129)]):
+        yield edge_pack(["any"], EIGHT, more), ["abcdefgh", "abcdefg", "hgfedcba", "a"]
+        yield edge_pack(["any"], EIGHT, [], more), ["abcdefgh"]
+    # results of a final pass unite without the limit
+    yield edge_pack(["any"], [("a", "(p|q)")], [("p", "(1|2)"), ("q", "(3|4)")], [("1", "(5|6)"), ("3", "(5|7)")]), [
+        "a", "aa", "aaa", "aaaa"]
+
+
+def list_numbers(names, index, kind):
+    """01, Bundle and pack, the order of lists: main, common final and language final list of a language."""
+    return 3 * index, 3 * len(names) + kind, 3 * index + 1 + kind
+
+
+def word_case(data, numbers, limit, kind, bits, word):
+    return unasked("pack %s\nword %d %d %d %d %d %d %s" % (hex_of(data), *numbers, limit, kind, bits, hex_of(word.encode())))
+
+
+def start_sets(names):
+    """Every kind of set: Any, None, Some without bits, with one, with all."""
+    return [(0, 0), (1, 0), (2, 0), (2, (1 << len(names)) - 1)] + [(2, 1 << bit) for bit in range(len(names))]
+
+
+def words_all():
+    for data, words in edges():
+        names = second.check_pack(data).names
+        for limit, (kind, bits), word in itertools.product(LIMITS + (4, 8, 128), start_sets(names), words):
+            yield word_case(data, list_numbers(names, names.index("any"), 0), limit, kind, bits, word)
+
+
+def numbers_of(rng, names):
+    """Lists that a name can be spelled from; else any three, seldom one that is not there."""
+    if rng.randrange(5):
+        return list_numbers(names, rng.randrange(len(names)), rng.randrange(2))
+    count = second.list_count(names) + (rng.randrange(20) == 0)
+    return tuple(rng.randrange(count) for _ in range(3))
+
+
+def word_over(rng, sounds, most=9):
+    """A word of a pack's letters, now and then with others or long."""
+    signs = sounds.letters if rng.randrange(5) else sounds.letters + sounds.sounds + ["A", "Ω", "-"]
+    return "".join(rng.choice(signs) for _ in range(rng.randrange(1, most))) * (1 if rng.randrange(20) else rng.randrange(30))
+
+
+def set_over(rng, names):
+    """A start set of a word, Any or of several languages more often than others; bits of no language too."""
+    some = (2, rng.randrange(1, 1 << len(names)))
+    return rng.choice(start_sets(names) + [(0, 0)] * 6 + [some] * 8 + [(rng.randrange(3), rng.randrange(1 << 32))])
+
+
+def words_random(rng, count):
+    for _ in range(count):
+        sounds, data = spelling_pack(rng)
+        if rng.randrange(50) == 0:
+            data = data[:rng.randrange(len(data))]
+        for _ in range(2):
+            limit = rng.choice(LIMITS) if rng.randrange(30) else rng.choice((4, 19, 255, 257, 1000, 2 ** 32 - 1))
+            yield word_case(data, numbers_of(rng, sounds.names), limit, *set_over(rng, sounds.names), word_over(rng, sounds))
+
+
 LAYERS = {
     "letters": (letters_all, letters_random),
     "languages": (languages_all, languages_random),
@@ -354,6 +518,7 @@ LAYERS = {
     "guessing": (guessing_all, guessing_random),
     "rules": (None, rules_random),
     "packs": (packs_all, packs_random),
+    "words": (words_all, words_random),
 }
 
 

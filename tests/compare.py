@@ -24,7 +24,15 @@ SECOND = [sys.executable, os.path.join(HERE, "second.py")]
 ORIGINAL = [os.path.join(ROOT, "oracle", "made", "bin", "bm-answers")]
 STORED = 260            # how many cases of each kind are stored
 NO_CASES = ["", " ", "foo", "decode", "decode 6", "decode 6g", "decode 61 62", "DECODE 61", "lower 6A", "narrow any", "empty some:",
-            "single some:4294967296", "subtract 1", "name", "listed 00", "left 61", "rule 61 - - 61", "rule 61 - - 61 x", "expr 61"]
+            "single some:4294967296", "subtract 1", "name", "listed 00", "left 61", "rule 61 - - 61", "rule 61 - - 61 x", "expr 61",
+            "word", "word 0 3 1 20 0 0", "word 0 3 1 20 0 0 61 61", "word 0 3 1 20 0 0 6", "word 0 3 1 20 0 x 61",
+            "word 0 3 1 20 0 4294967296 61", "word - 3 1 20 0 0 61", "spell 1 0 0 20 4", "spell 1 0 0 20 4 61 61",
+            "spell 1 0 0 20 4 6", "spell 4294967296 0 0 20 4 61", "spell 1 0 0 20 4097 61", "given 1 0 0 20 4 61",
+            "given 1 0 0 20 0 0 4 61 61", "given 1 0 0 20 0 x 4 61", "given 1 0 0 20 0 0 4097 61"]
+# what is no case of a pack with five lists: a limit over 256, a list that is not there
+NO_CASES += ["pack %s\nword %s" % (cases.PAPER_PACK.hex(), fields) for fields in (
+    "0 3 1 257 0 0 61", "0 3 1 4294967295 0 0 61", "5 3 1 20 0 0 61", "0 5 1 20 0 0 61", "0 3 5 20 0 0 61", "0 98 1 20 0 0 61",
+    "0 3 4294967295 20 0 0 61", "0 3 1 20 0 0", "0 3 1 20 0 0 -61")]
 
 
 def run(command, lines):

@@ -709,8 +709,11 @@ class Call:
         return held[3 * index], held[3 * len(self.pack.names) + kind], held[3 * index + 1 + kind]
 
     def word(self, word, languages):
-        """01, Spelling, 6, 8 and 9."""
-        main, common, own = self.lists(languages)
+        """01, Spelling, 2: the lists, and what they give."""
+        return self.passes(*self.lists(languages), word, languages)
+
+    def passes(self, main, common, own, word, languages):
+        """01, Spelling, 6, 8 and 9, from these lists."""
         texts = self.run(main, word, languages, False)
         texts = self.final_pass(common, texts)
         texts = self.final_pass(own, texts)
@@ -1150,6 +1153,14 @@ def lent(room, answer):
     return hex_of(answer + bytes([UNTOUCHED]) * (room - len(answer)))
 
 
+def spelled_line(answer, room):
+    """What spell gave, as `spell` and `given` print it."""
+    code, flag, result = answer
+    if code == 0:
+        return "0 %d %d %s" % (flag, len(result), lent(room, result))
+    return "%d %d %s" % (code, result, lent(room, b""))
+
+
 def context_case(context, written, text):
     try:
         found = context(written)
@@ -1269,13 +1280,25 @@ class Cases:
             return "%d %d" % self.checked
         return shown_set(guess(self.checked, name), " ")
 
+    def on_word(self, main, common, own, limit, kind, bits, word):
+        numbers, limit = [number_of(number) for number in (main, common, own)], number_of(limit)
+        kind, bits, word = number_of(kind), number_of(bits), text_of(word)
+        if not isinstance(self.checked, Pack):
+            return "%d %d" % self.checked
+        if limit > MOST_TEXTS or max(numbers) >= len(self.checked.held):
+            raise NotACase
+        call = Call(Settings(GENERIC, 0, 0, limit), self.checked)
+        languages = ANY if kind == 0 else NONE if kind == 1 else bits
+        try:
+            texts = call.passes(*(self.checked.held[number] for number in numbers), word, languages)
+        except Refusal as refusal:
+            return str(refusal.code)
+        return "0 %d %s" % (call.flag, hex_of(texts.encode()))
+
     def spelled(self, settings, given, room, name):
         settings = Settings(*(number_of(field) for field in settings))
         room, name = number_of(room, LARGEST_ROOM), bytes_of(name)
-        code, flag, result = spell(settings, self.checked, name, given, room)
-        if code == 0:
-            return "0 %d %d %s" % (flag, len(result), lent(room, result))
-        return "%d %d %s" % (code, result, lent(room, b""))
+        return spelled_line(spell(settings, self.checked, name, given, room), room)
 
     def on_spell(self, name_type, rule_type, concat, limit, room, name):
         return self.spelled((name_type, rule_type, concat, limit), None, room, name)

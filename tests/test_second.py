@@ -999,6 +999,30 @@ class CaseLines(Case):
         self.asks("pack 00", None)
         self.asks("spell 1 0 0 20 0 61", "5 0 -")
 
+    def test_words(self):
+        self.asks("word 0 3 1 20 0 0 61", "5 0")
+        self.asks("pack " + PACK.hex(), None)
+        self.asks("word 0 3 1 20 0 0 616261", "0 0 6f6f")
+        self.asks("word 0 3 1 1 0 0 61", "0 1 6f")
+        self.asks("word 0 3 1 0 0 0 61", "0 1 -")
+        self.asks("word 0 3 1 20 1 0 61", "0 0 -")
+        self.asks("word 0 3 1 20 2 0 61", "0 0 -")
+        self.asks("word 0 3 1 20 2 4294967295 61", "0 0 6f")
+        self.asks("word 1 0 1 20 0 0 61", "0 0 -")
+        self.asks("word 0 0 0 20 0 0 41", "0 0 -")
+        self.asks("word 0 3 1 256 0 0 -", "0 0 -")
+        for line in ("word 0 3 1 257 0 0 61", "word 5 3 1 20 0 0 61", "word 0 5 1 20 0 0 61", "word 0 3 5 20 0 0 61",
+                     "word 0 3 1 20 0 0 ff", "word 0 3 1 20 0 0", "word 0 3 1 20 0 0 61 61"):
+            self.asks(line, "?")
+        self.asks("pack " + pack_of([four("a", expression="o" * 129)]).hex(), None)
+        self.asks("word 0 3 1 20 0 0 61", "7")
+        self.asks("word 0 3 1 0 0 0 61", "0 1 -")
+        self.asks("pack " + pack_of(Spelling.EIGHT, [four("x", "^yyyyyyy", "$", "(x|z)")]).hex(), None)
+        self.asks("word 0 3 1 256 0 0 6162636465666768", "8")
+        self.asks("pack " + pack_of([four("a", expression="(p[xx]|q)")], names=Spelling.TWO).hex(), None)
+        self.asks("word 0 6 1 20 0 0 61", "0 0 707c71")
+        self.asks("word 0 6 1 2 2 1 61", "0 0 71")
+
     def test_loading(self):
         self.asks("load 1 0", "10 0 0 -")
         self.asks("bundle " + second.bundle_bytes(filled({"gen_rules_any": RULE})).hex(), None)

@@ -262,3 +262,33 @@ pub fn two_decimals(rest: &[u8]) -> Numbers {
         Number::Bad => Numbers::Bad,
     }
 }
+
+// Whether a run of fields is decimal numbers, and where it ends.
+pub struct Run {
+    pub at: usize,
+    pub good: bool,
+}
+
+// The numbers of the first fields, as many as into takes.
+pub fn decimals(rest: &[u8], into: &mut [u32]) -> Run
+    ensures { λ r. ⌜ r .at ≤ length (now (rest .entry)) ⌝ }
+{
+    let mut at: usize = 0;
+    let mut i: usize = 0;
+    while i < into.len() {
+        let f = next(rest, at);
+        let from = f.from;
+        let to = f.to;
+        match decimal(&rest[from..to]) {
+            Number::Is(n) => {
+                into[i] = n;
+            }
+            Number::Bad => {
+                return Run { at, good: false };
+            }
+        }
+        at = to;
+        i += 1;
+    }
+    Run { at, good: true }
+}

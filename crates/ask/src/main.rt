@@ -8,6 +8,7 @@ mod out;
 mod packs_cases;
 mod rules_cases;
 mod said;
+mod words_cases;
 
 ghost use Prim.Native.Nat.{_≤_};
 ghost use lib.ListN.{length};
@@ -31,6 +32,9 @@ fn said_of(line: &[u8], given: &mut [u8], made: &mut [u8], kept: &[u8]) -> Said 
     }
     if packs_cases::knows(word) {
         return packs_cases::said_of(word, rest, given, kept);
+    }
+    if words_cases::knows(word) {
+        return words_cases::said_of(rest, given, made, kept);
     }
     Said::NoCase
 }

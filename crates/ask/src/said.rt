@@ -9,7 +9,7 @@ use rule::Alternative;
 
 // `Codes` is the code points of so many bytes of `given`, `Hex` so many bytes of `made`; `Alternatives` is so many of the
 // expression that `given` has up to the second number, with the names from there up to the third; `Pack` is so many bytes
-// of `given` to keep, and prints nothing.
+// of `given` to keep, and prints nothing; `Spelled` is the flag and so many bytes of `made`.
 pub enum Said {
     NoCase,
     Dash,
@@ -25,6 +25,7 @@ pub enum Said {
     Pack(usize),
     Five(usize),
     Guessed(LanguageSet),
+    Spelled(bool, usize),
 }
 
 // The first n bytes of s, or all where there are fewer.
@@ -202,6 +203,17 @@ fn alternatives_line(n: usize, e: &[u8], names: &[u8], out: &mut [u8], used: usi
     out::put(out, used, b"\n")
 }
 
+// Puts the line of an answer: 0, the flag, the bytes.
+fn spelled_line(flag: bool, s: &[u8], out: &mut [u8], used: usize) -> usize
+    requires { ⌜ used ≤ length (now out) ⌝ }
+    ensures { λ r. ⌜ r ≤ length (now (out .exit)) ⌝ }
+{
+    let used = out::put(out, used, b"0 ");
+    let used = out::decimal(out, used, flag as u64);
+    let used = out::put(out, used, b" ");
+    out::hex_line(out, used, s)
+}
+
 // Puts the line of what is said.
 pub fn say(s: Said, given: &[u8], made: &[u8], out: &mut [u8], used: usize) -> usize
     requires { ⌜ used ≤ length (now out) ⌝ }
@@ -220,6 +232,7 @@ pub fn say(s: Said, given: &[u8], made: &[u8], out: &mut [u8], used: usize) -> u
         Said::Pack(_) => used,
         Said::Five(place) => labelled(b"5 ", place as u64, out, used),
         Said::Guessed(set) => guessed_line(set, out, used),
+        Said::Spelled(flag, n) => spelled_line(flag, front(made, n), out, used),
         Said::Form(form, fits) => form_line(form, fits, out, used),
         Said::Alternatives(n, middle, end) => alternatives_line(
             n,

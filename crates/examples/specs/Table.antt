@@ -1,8 +1,8 @@
 -- Document 01's first examples: what the definitions compute, beside what the paper says.
-use Prim.Native.Nat.{ℕ, _+_, _^_}
+use Prim.Native.Nat.{ℕ}
 use mathlib.Core.Path.{_≡_}
 use mathlib.Core.Bool.{Bool, true, false}
-use mathlib.Core.List.{List, [], _∷_, map, _++_}
+use mathlib.Core.List.{List, [], _∷_, map}
 use Rattle.languages.specs.Sets.{narrowed, merged}
 use Rattle.languages.specs.declared.sets.LanguageSet.{LanguageSet}
 use Rattle.languages.specs.declared.sets.LanguageSet.the-variants.{Any, SomeLanguages}
@@ -10,6 +10,8 @@ use Rattle.rule.specs.Expressions.{piecesIn, textOf, setOf, checkedOf}
 use Rattle.rule.specs.declared.answers.Expression.{Expression}
 use Rattle.rule.specs.declared.answers.Expression.the-variants.{Good, Malformed, Stranger}
 use Rattle.regex_optim.specs.Contexts.{leftForm, fits}
+use Rattle.choices.specs.Apply.{Entry, start}
+use Rattle.phoneme_builder.specs.Passes.{offered, rule, letter, Ran, ran, run}
 
 -- what an example shows
 pub data Answer : Type 0 where
@@ -17,6 +19,7 @@ pub data Answer : Type 0 where
   alternatives : List (record { text : List ℕ; set : LanguageSet }) → Answer
   fitting : Bool → Answer
   languages : LanguageSet → Answer
+  spellings : Ran → Answer
 
 pub record Row : Type 0 where
   pub computed : Answer
@@ -45,7 +48,22 @@ expression e = told (checkedOf names e) e
 unfoldable pub left : List ℕ → List ℕ → Answer
 left c before = fitting (fits (leftForm c) before)
 
--- in bytes: `a` 97, `b` 98, `(` 40, `)` 41, `|` 124, `[` 91, `]` 93, `+` 43, `^` 94, `-` 45
+-- an expression applied to one empty text with Any: the texts, and the flag by the limit
+unfoldable pub applied : ℕ → List ℕ → Answer
+applied limit e = spellings (run false limit (rule (offered names e) ∷ []) (start Any))
+
+-- a character that no rule of a final pass matches; the limit, here 5, has no part in it
+unfoldable pub appending : List ℕ → List Entry → Answer
+appending c l = spellings (run true 5 (letter c ∷ []) l)
+
+abbrev pub entry : List ℕ → LanguageSet → Entry
+entry t s = record { text = t; langs = s }
+
+-- `(b[fr]|a|b[de])`
+abbrev pub choice : List ℕ
+choice = 40 ∷ 98 ∷ 91 ∷ 102 ∷ 114 ∷ 93 ∷ 124 ∷ 97 ∷ 124 ∷ 98 ∷ 91 ∷ 100 ∷ 101 ∷ 93 ∷ 41 ∷ []
+
+-- in bytes: `a` 97, `b` 98, `z` 122, `(` 40, `)` 41, `|` 124, `[` 91, `]` 93, `+` 43, `^` 94, `-` 45
 unfoldable pub table : List Row
 table =
     row (expression (97 ∷ 91 ∷ 102 ∷ 114 ∷ 43 ∷ 100 ∷ 101 ∷ 93 ∷ [])) (alternatives (alternative (97 ∷ []) (SomeLanguages 3) ∷ []))
@@ -60,6 +78,11 @@ table =
     ∷ row (left (91 ∷ 97 ∷ 45 ∷ 99 ∷ 93 ∷ []) (98 ∷ [])) (fitting false)
     ∷ row (languages (narrowed Any (SomeLanguages 2))) (languages (SomeLanguages 2))
     ∷ row (languages (merged Any (SomeLanguages 2))) (languages Any)
+    ∷ row (applied 5 choice) (spellings (ran (entry (97 ∷ []) Any ∷ entry (98 ∷ []) (SomeLanguages 2) ∷ []) false))
+    ∷ row (applied 1 choice) (spellings (ran (entry (98 ∷ []) (SomeLanguages 2) ∷ []) true))
+    ∷ row (applied 0 choice) (spellings (ran [] true))
+    ∷ row (appending (122 ∷ []) (entry (97 ∷ []) Any ∷ entry (97 ∷ 98 ∷ []) Any ∷ []))
+    (spellings (ran (entry (97 ∷ 98 ∷ 122 ∷ []) Any ∷ entry (97 ∷ 122 ∷ []) Any ∷ []) false))
     ∷ []
 
 -- each row's two sides are the same

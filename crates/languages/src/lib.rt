@@ -9,4 +9,5 @@ pub use names::is_language_name;
 pub use names::string_at;
 pub use sets::LanguageSet;
 pub use sets::Single;
+pub use sets::coded;
 pub use sets::subtract;

@@ -1,4 +1,5 @@
 // Sets of languages, a bit for each listed one: narrowing is `&`, merging is `|`, subtracting is `&` with the complement.
+ghost use Rattle.languages.specs.Coded.{coded};
 ghost use mathlib.Core.Path.{_≡_};
 ghost use Rattle.languages.specs.Sets.{narrowed, merged, isEmpty, isSingle, singleOf, without};
 
@@ -88,4 +89,15 @@ pub fn subtract(mask: u32, less: u32) -> u32
     ensures { λ r. ⌜ r ≡ without mask less ⌝ }
 {
     mask & !less
+}
+
+// The set as one number, for sets that stand in buffers.
+pub fn coded(set: LanguageSet) -> u64
+    ensures { λ r. ⌜ r ≡ coded set ⌝ }
+{
+    match set {
+        LanguageSet::Any => 0x3_FFFF_FFFF,
+        LanguageSet::NoLanguages => 0,
+        LanguageSet::SomeLanguages(mask) => 0x1_0000_0000 + (mask as u64),
+    }
 }

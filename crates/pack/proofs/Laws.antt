@@ -30,7 +30,7 @@ use Rattle.rule.specs.declared.answers.Expression.the-variants.{Good, Malformed
 use Rattle.lang.specs.Patterns.{matchesOf}
 use Rattle.pack.specs.Reading.{Read, cut, got, andThen, readByte, readNumber, readText, readMany}
 use Rattle.pack.specs.Packs.{Guess, Rule, Pack, Verdict, accepted, refused, readNames, readGuess, readGuesses, readRule, readList, all, isForm, isGood, ruleGood, listGood, namesGood, guessesGood, section, placeIn, namesIn, listCount, listSections, isNil, endSection, packOf}
-use Rattle.pack.specs.Places.{textBytes, surveyedOf, foundIn, placesOf, SurveyIs, placedRule, placedFrom, ruleAt, countIn, ruleCount}
+use Rattle.pack.specs.Places.{textBytes, surveyedOf, foundIn, placesOf, SurveyIs, placedRule, placedFrom, ruleAt, countIn, ruleCount, listAt}
 use Rattle.pack.specs.Guessing.{narrowedBy, narrowedByAll, leftOver, allListed, guessed, behind, readSome, guessesAt, guessedAt}
 use Rattle.pack.specs.Walks.{numberIn, numberAt, restPlaces}
 use Rattle.pack.specs.declared.rules.RuleAt.{RuleAt}
@@ -368,6 +368,29 @@ module _ (s nm : List ℕ) (at : ℕ) (rs : List Rule) (q : List ℕ) (k : listG
   unfolding readList
   list-is e = let i = then-inv (readNumber 2 (drop at s)) _ rs q e in list-by (i .0) (i .1) (i .2) (i .3)
 
+rules-some : (s nm : List ℕ) {at : ℕ} {rs : List Rule} → RulesAt s nm at rs → readSome readRule (length rs) (drop at s) ≡ rs
+unfolding readSome behind
+rules-some s nm no-rule = refl
+rules-some s nm (one-rule p w v k l) = rw (w .reads) (ap₂ (λ (x : Rule) (xs : List Rule). x ∷ xs) v (rules-some s nm l))
+
+-- the list at a place of any bytes, read rule by rule
+pub rules-start : (s : List ℕ) (place n : ℕ) → n ≡ ruleCount s place → listAt s place ≡ readSome readRule n (drop (place + 2) s)
+unfolding listAt
+rules-start s place n e = ap (λ (k : ℕ). readSome readRule k (drop (place + 2) s)) (sym e)
+
+pub rules-cut : (n : ℕ) (l : List ℕ) → readRule l ≡ cut → readSome readRule n l ≡ []
+unfolding readSome behind
+rules-cut zero l e = refl
+rules-cut (suc n) l e = rw e refl
+
+pub rules-done : (n : ℕ) (l : List ℕ) → n ≤ 0 → readSome readRule n l ≡ []
+unfolding readSome
+rules-done zero l h = refl
+rules-done (suc n) l h = absurd (not-suc-le-zero h)
+
+list-some : (s nm : List ℕ) (place : ℕ) (rs : List Rule) → ListIs s nm place rs → listAt s place ≡ rs
+list-some s nm place rs w = rules-start s place (length rs) (sym (w .count)) ∙ rules-some s nm (w .held)
+
 -- ---- the lists, by the places that a survey leaves
 
 found-nil : (s nm r : List ℕ) → length (foundIn s nm zero r) ≡ 0
@@ -532,6 +555,13 @@ module _ (s : List ℕ) (p : Pack) (g : ℕ) (e : packOf s ≡ accepted p) (q : 
       let room : is .counted + 1 ≤ length s = omega (arith, is .room) in
       subst (λ (l : List ℕ). ListIs s (take (g - 1) (drop 1 s)) (getD l k 0) (getD (p .lists) k [])) (sym places-are) (lists-held s _ room lists-here k h)
 
+  -- so what is read at the k-th place is the k-th list
+  pub list-told : (k : ℕ) → k < listCount (length (p .names)) → listAt s (getD (placesOf s) k 0) ≡ getD (p .lists) k []
+  list-told k h = list-some s _ _ _ (list-held k h)
+
+  pub list-fits : (k : ℕ) → k < listCount (length (p .names)) → getD (placesOf s) k 0 ≤ length s
+  list-fits k h = omega (arith, list-held k h .fits)
+
 -- the pack whose numbers a survey gives
 pub record SurveyedPack (s : List ℕ) (n g : ℕ) : Type 0 where
   pub pack : Pack
@@ -575,4 +605,4 @@ guess-below s place n name r e h =
     let k : min 32 n ≡ n = omega arith in
     subst (BitsBelow n) (sym (e ∙ ap (λ (m : ℕ). guessed m (guessesAt s place) name) k)) (guessed-below n (guessesAt s place) name)
 
-pub ruleset pack-laws = (languages-few, guesses-within, names-strings, guesses-held, guess-told, lists-counted, places-counted, list-held, surveyed-pack, guessed-below, guess-below, good-rule, short-rule)
+pub ruleset pack-laws = (languages-few, guesses-within, names-strings, guesses-held, guess-told, lists-counted, places-counted, list-held, list-told, list-fits, surveyed-pack, guessed-below, guess-below, good-rule, short-rule)

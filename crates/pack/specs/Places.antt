@@ -9,6 +9,7 @@ use lib.Seq.{sets}
 use Rattle.base.specs.Pick.{pick}
 use Rattle.pack.specs.Reading.{Read, cut, got, readByte, readNumber}
 use Rattle.pack.specs.Packs.{Rule, Verdict, accepted, refused, readNames, readGuesses, readRule, readList, namesGood, guessesGood, listGood, placeIn, namesIn, listCount, packOf}
+use Rattle.pack.specs.Guessing.{readSome}
 use Rattle.pack.specs.declared.sections.Surveyed.{Surveyed}
 use Rattle.pack.specs.declared.sections.Surveyed.the-variants as surveyed
 use Rattle.pack.specs.declared.rules.RuleAt.{RuleAt}
@@ -74,3 +75,7 @@ countIn (got n r) = n
 -- the count of the list at a place, and 0 where bytes run out
 unfoldable pub ruleCount : List ℕ → ℕ → ℕ
 ruleCount s place = countIn (readNumber 2 (drop place s))
+
+-- its rules, up to where bytes run out
+unfoldable pub listAt : List ℕ → ℕ → List Rule
+listAt s place = readSome readRule (ruleCount s place) (drop (place + 2) s)

@@ -1,42 +1,40 @@
--- What a caller learns in each arm of an answer, of the buffers and of the definition. Assumes nothing.
+-- What a caller learns in each arm of an answer, of the set that was written and of the definition. Assumes nothing.
 use mathlib.Core.Path.{_≡_, sym}
 use mathlib.Core.List.{List}
-use Prim.Native.Nat.{ℕ}
+use Prim.Native.Nat.{ℕ, _<_}
 use Rattle.languages.specs.declared.sets.LanguageSet.{LanguageSet}
 use Rattle.choices.specs.Apply.{Entry, Outcome, refused, held}
 use Rattle.phoneme_builder.specs.Sets.{Spelling, refusal, united}
-use Rattle.phoneme_builder.specs.Buffers.{entries, IsSet, KeptBy, outcomeBy, AppliedIs, HeldBy, spellingBy, UnitedIs}
+use Rattle.phoneme_builder.specs.Buffers.{Arena, SetAt, entriesAt, KeptBy, outcomeBy, AppliedAt, HeldBy, spellingBy, UnitedAt}
 use Rattle.phoneme_builder.specs.declared.apply.Applied.{Applied}
 use Rattle.phoneme_builder.specs.declared.apply.Applied.the-variants.{Now, TooLong}
 use Rattle.phoneme_builder.specs.declared.unite.United.{United}
 use Rattle.phoneme_builder.specs.declared.unite.United.the-variants.{Into, TooMany}
 
 -- of `apply` and of `append`
-module _ {r : Applied} {store lens langs ord : List ℕ} {o : Outcome} (a : AppliedIs r store lens langs ord o) where
-  pub now-set : (k : ℕ) → r ≡ Now k → IsSet store lens langs ord k
+module _ {a b : Arena} {to : ℕ} {r : Applied} {o : Outcome} (q : AppliedAt a b to r o) where
+  pub now-at : to < 4 → (k : ℕ) → r ≡ Now k → SetAt b to k
   unfolding KeptBy
-  now-set k e = rw e at (a .kept)
+  now-at h k e = record { known = h; set = rw e at (q .done .kept) }
 
-  pub now-held : (k : ℕ) → r ≡ Now k → o ≡ held (entries store lens langs ord k)
-  unfolding outcomeBy
-  now-held k e = sym (rw e at (a .is))
+  pub now-held-at : (k : ℕ) → r ≡ Now k → o ≡ held (entriesAt b to k)
+  unfolding outcomeBy entriesAt
+  now-held-at k e = sym (rw e at (q .done .is))
 
-  pub long-refused : r ≡ TooLong → o ≡ refused
+  pub long-at : r ≡ TooLong → o ≡ refused
   unfolding outcomeBy
-  long-refused e = sym (rw e at (a .is))
+  long-at e = sym (rw e at (q .done .is))
 
 -- of `unite`
-module _ {g : LanguageSet} {xs l : List Entry} {r : United} {store lens langs ord : List ℕ} (u : UnitedIs g xs l r store lens langs ord) where
-  pub into-set : (k : ℕ) → r ≡ Into k → IsSet store lens langs ord k
+module _ {a b : Arena} {to : ℕ} {g : LanguageSet} {xs l : List Entry} {r : United} (q : UnitedAt a b to g xs l r) where
+  pub into-at : to < 4 → (k : ℕ) → r ≡ Into k → SetAt b to k
   unfolding HeldBy
-  into-set k e = rw e at (u .kept)
+  into-at h k e = record { known = h; set = rw e at (q .done .kept) }
 
-  pub into-is : (k : ℕ) → r ≡ Into k → (rest : List Entry → Spelling) → united g xs l rest ≡ rest (entries store lens langs ord k)
+  pub into-is-at : (k : ℕ) → r ≡ Into k → (rest : List Entry → Spelling) → united g xs l rest ≡ rest (entriesAt b to k)
+  unfolding spellingBy entriesAt
+  into-is-at k e rest = sym (rw e at (q .done .is rest))
+
+  pub many-at : r ≡ TooMany → (rest : List Entry → Spelling) → united g xs l rest ≡ refusal 8
   unfolding spellingBy
-  into-is k e rest = sym (rw e at (u .is rest))
-
-  pub many-refused : r ≡ TooMany → (rest : List Entry → Spelling) → united g xs l rest ≡ refusal 8
-  unfolding spellingBy
-  many-refused e rest = sym (rw e at (u .is rest))
-
-pub ruleset answer-laws = (now-set, now-held, long-refused, into-set, into-is, many-refused)
+  many-at e rest = sym (rw e at (q .done .is rest))

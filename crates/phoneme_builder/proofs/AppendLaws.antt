@@ -7,17 +7,17 @@ use native.Mathlib.Nat.{le-refl}
 use native.Mathlib.Omega.{arith}
 use borrow.Author.Tests.{lt-ltb, le-ltb}
 use lib.Dec.{ltb}
-use lib.ListN.{length, drop, getD, length-append, drop-of-length-le}
+use lib.ListN.{length, take, drop, length-append, drop-of-length-le}
 use Rattle.base.specs.Pick.{pick}
 use Rattle.languages.specs.Coded.{decoded}
 use Rattle.choices.specs.Texts.{Text}
 use Rattle.choices.specs.Apply.{Entry, refused, held, insert}
 use Rattle.choices.proofs.TextLaws.{clash}
 use Rattle.phoneme_builder.specs.Sets.{sorted, lengthened, allShort, appended}
-use Rattle.phoneme_builder.specs.Buffers.{entry, textAt, entryAt, entries, IsSet, SetIs, Room, KeptBy, outcomeBy, AppliedIs}
+use Rattle.phoneme_builder.specs.Buffers.{entry, SetIs, KeptBy, outcomeBy, Arena, Rooms, SetAt, entriesAt, AppliedAt, CopiedIs, textIn, langsIn}
 use Rattle.phoneme_builder.specs.declared.apply.Applied.the-variants.{Now, TooLong}
 use Rattle.phoneme_builder.proofs.InsertLaws.{insert-length}
-use Rattle.phoneme_builder.proofs.ApplyLaws.{entries-long, entries-drop, empty-set}
+use Rattle.phoneme_builder.proofs.PartLaws.{few-at, length-at, none-at, none-entries, entriesLent, lent-entries, changed, Back, back-set, back-entries, copied-long, Walk, walk-start, walk-next, walk-text}
 
 -- ---- every text is tested
 
@@ -48,64 +48,72 @@ appended-short c l e = simp e
 -- ---- the loop
 
 -- the texts from index i on, lengthened and sorted
-pub record Appending (c : Text) (old olens olangs oord : List ℕ) (on : ℕ) (store lens langs ord : List ℕ) (k i : ℕ) : Type 0 where
-  pub now-is : IsSet store lens langs ord k
+pub record Appending (c : Text) (a : Arena) (from on to : ℕ) (b : Arena) (row : List ℕ) (k i : ℕ) : Type 0 where
+  pub at : Walk a from on to b row
+  pub now-is : SetAt b to k
   pub few : k + i ≤ on
-  pub done : entries store lens langs ord k ≡ sorted (map (lengthened c) (drop i (entries old olens olangs oord on)))
-  pub short : allShort (map (lengthened c) (drop i (entries old olens olangs oord on))) ≡ true
+  pub done : entriesAt b to k ≡ sorted (map (lengthened c) (drop i (entriesAt a from on)))
+  pub short : allShort (map (lengthened c) (drop i (entriesAt a from on))) ≡ true
 
-pub appending-start : (c : Text) (old olens olangs oord : List ℕ) (on : ℕ) (store lens langs ord : List ℕ)
-    → Room store lens langs ord → IsSet old olens olangs oord on → Appending c old olens olangs oord on store lens langs ord 0 on
+pub appending-start : (c : Text) {a : Arena} {from on to : ℕ} → Rooms a → SetAt a from on → to < 4 → (from ≡ to → ⊥) → (row : List ℕ) → length row ≡ 128
+    → Appending c a from on to a row 0 on
 unfolding sorted allShort
-appending-start c old olens olangs oord on store lens langs ord r ois =
-    let past : length (entries old olens olangs oord on) ≤ on = rw (entries-long ois) (le-refl on) in
-    let none : drop on (entries old olens olangs oord on) ≡ [] = drop-of-length-le (entries old olens olangs oord on) past in
-    record { now-is = empty-set r; few = omega arith; done = rw none; short = rw none }
+appending-start c {a} {from} {on} {to} r is h ne row long =
+    let past : length (entriesAt a from on) ≤ on = rw (length-at is) (le-refl on) in
+    let none : drop on (entriesAt a from on) ≡ [] = drop-of-length-le (entriesAt a from on) past in
+    record { at = walk-start r is h ne row long; now-is = none-at r h; few = omega arith; done = rw none (none-entries a to); short = rw none }
 
-module _ {c : Text} {old olens olangs oord : List ℕ} {on : ℕ} {store lens langs ord : List ℕ} {k i : ℕ}
-    (o : Appending c old olens olangs oord on store lens langs ord k i) where
-  pub appending-end : i ≤ 0 → AppliedIs (Now k) store lens langs ord (appended c (entries old olens olangs oord on))
-  unfolding KeptBy outcomeBy
+module _ {c : Text} {a : Arena} {from on to : ℕ} {b : Arena} {row : List ℕ} {k i : ℕ} (v : Appending c a from on to b row k i) where
+  pub appending-end : i ≤ 0 → AppliedAt a b to (Now k) (appended c (entriesAt a from on))
+  unfolding KeptBy outcomeBy entriesAt
   appending-end h =
       let z : i ≡ 0 = omega arith in
-      let done : entries store lens langs ord k ≡ sorted (map (lengthened c) (entries old olens olangs oord on)) = rw z at (o .done) in
-      let short : allShort (map (lengthened c) (entries old olens olangs oord on)) ≡ true = rw z at (o .short) in
-      record { kept = o .now-is; is = ap held done ∙ appended-short c _ short }
+      let done : entriesAt b to k ≡ sorted (map (lengthened c) (entriesAt a from on)) = rw z at (v .done) in
+      let short : allShort (map (lengthened c) (entriesAt a from on)) ≡ true = rw z at (v .short) in
+      record { done = record { kept = v .now-is .set; is = ap held done ∙ appended-short c _ short }; others = v .at .others }
 
-  module _ (ois : IsSet old olens olangs oord on) (h : 0 < i) where
+  -- a turn: the text before was copied
+  module _ (h : 0 < i) where
     pub index-in : i - 1 < on
-    index-in = omega (arith, o .few)
+    index-in = omega (arith, v .few)
 
-    module _ (s : ℕ) (es : s ≡ getD oord (i - 1) 0) where
-      here : drop (i - 1) (entries old olens olangs oord on) ≡ entryAt old olens olangs s ∷ drop i (entries old olens olangs oord on)
+    pub count-in : k < 256
+    count-in = omega (arith, v .few, few-at (v .at .source))
+
+    module _ {row′ : List ℕ} {e x : ℕ} (long : length row′ ≡ 128) (copy : CopiedIs (textIn (b .store) (b .lens) (b .ord) from (i - 1)) row′ e)
+        (ex : x ≡ langsIn (b .langs) (b .ord) from (i - 1)) where
+      abbrev new : Entry
+      new = entry (take (e - 0) row′ ++ c) (decoded x)
+
+      here : drop (i - 1) (entriesAt a from on) ≡ entry (take (e - 0) row′) (decoded x) ∷ drop i (entriesAt a from on)
       here =
           let next : i - 1 + 1 ≡ i = omega arith in
-          entries-drop ois (i - 1) s index-in es ∙ ap (λ (j : ℕ). entryAt old olens olangs s ∷ drop j (entries old olens olangs oord on)) next
+          walk-text (v .at) (i - 1) index-in x ex row′ e copy ∙ ap (λ (j : ℕ). entry (take (e - 0) row′) (decoded x) ∷ drop j (entriesAt a from on)) next
 
-      module _ (a : Text) (ea : a ≡ textAt old olens s) where
-        same : entryAt old olens olangs s ≡ entry a (decoded (getD olangs s 0))
-        unfolding entryAt
-        same = rw ea
+      pub appending-long : 128 < e + length c → AppliedAt a b to TooLong (appended c (entriesAt a from on))
+      unfolding KeptBy outcomeBy
+      appending-long much = record {
+        done = record { kept = tt; is = appended-long c _ (long-at c _ (i - 1) _ _ here (rw (length-append, copied-long copy long) much)) };
+        others = v .at .others;
+      }
 
-        here-too : drop (i - 1) (entries old olens olangs oord on) ≡ entry a (decoded (getD olangs s 0)) ∷ drop i (entries old olens olangs oord on)
-        here-too = here ∙ ap (λ (e : Entry). e ∷ drop i (entries old olens olangs oord on)) same
+      module _ (fit : e + length c ≤ 128) where
+        pub appending-fits : length (take (e - 0) row′) + length c ≤ 128
+        appending-fits = rw (copied-long copy long) fit
 
-        pub appending-long : 128 < length a + length c → AppliedIs TooLong store lens langs ord (appended c (entries old olens olangs oord on))
-        unfolding KeptBy outcomeBy
-        appending-long long = record { kept = tt; is = appended-long c _ (long-at c _ (i - 1) _ _ here-too (rw (length-append a c) long)) }
-
-        pub appending-next : length a + length c ≤ 128 → (store′ lens′ langs′ ord′ : List ℕ) (r : ℕ)
-            → SetIs store′ lens′ langs′ ord′ r (insert (entry (a ++ c) (decoded (getD olangs s 0))) (entries store lens langs ord k))
-            → Appending c old olens olangs oord on store′ lens′ langs′ ord′ r (i - 1)
+        pub appending-next : {s l g o : List ℕ} {r : ℕ} → SetIs s l g o r (insert new (entriesLent b to k)) → Back b to s l g o
+            → Appending c a from on to (changed b to s l g o) row′ r (i - 1)
         unfolding sorted allShort pick
-        appending-next fit store′ lens′ langs′ ord′ r q =
-            let more : r ≤ k + 1 =
-            omega (arith, entries-long (q .set), ap length (q .is), entries-long (o .now-is), insert-length (entry (a ++ c) (decoded (getD olangs s 0))) (entries store lens langs ord k)) in
+        appending-next {s} {l} {g} {o} {r} q back =
+            let now-is : SetAt (changed b to s l g o) to r = back-set (v .at .rooms) (v .at .known) back r (q .set) in
+            let is : entriesAt (changed b to s l g o) to r ≡ insert new (entriesAt b to k) =
+            back-entries (v .at .rooms) (v .at .known) back r ∙ q .is ∙ ap (insert new) (lent-entries b to k) in
             record {
-              now-is = q .set;
-              few = omega (arith, o .few);
-              done = rw here-too (q .is ∙ ap (insert (entry (a ++ c) (decoded (getD olangs s 0)))) (o .done));
-              short = rw (here-too, le-ltb 128 (length (a ++ c)) (rw (length-append a c) fit)) (o .short);
+              at = walk-next (v .at) back row′ long;
+              now-is = now-is;
+              few = omega (arith, v .few, length-at now-is, ap length is, length-at (v .now-is), insert-length new (entriesAt b to k));
+              done = rw here (is ∙ ap (insert new) (v .done));
+              short = rw (here, le-ltb 128 (length (take (e - 0) row′ ++ c)) (rw length-append appending-fits)) (v .short);
             }
 
-pub ruleset appending-laws = (appending-start, appending-end, appending-long, appending-next)
+pub ruleset appending-laws = (appending-start, appending-end)

@@ -4,79 +4,23 @@ use mathlib.Core.Path.{_≡_, refl, sym, ap, _∙_}
 use mathlib.Core.Bool.{Bool, true, false}
 use mathlib.Core.List.{List, [], _∷_, _++_}
 use Prim.Native.Nat.{ℕ, suc, _+_, _-_, _%_, _≤_, _<_, zero-le}
-use native.Mathlib.Nat.{sub-zero, not-suc-le-zero}
+use native.Mathlib.Nat.{sub-zero}
 use native.Mathlib.Numerals.{add-one, add-one-le}
 use native.Mathlib.Omega.{arith}
 use borrow.Author.Tests.{eq-eqb, ne-eqb}
 use lib.Bits.{bitAnd}
-use lib.ListN.{length, take, drop, getD, length-map, length-append, drop-of-length-le}
-use lib.Seq.{getD-take, drop-cons}
+use lib.ListN.{length, take, drop, getD, length-append, drop-of-length-le}
 use Rattle.base.specs.Pick.{pick}
 use Rattle.languages.specs.Sets.{narrowed, isEmpty}
 use Rattle.languages.specs.Coded.{decoded, IsCode}
 use Rattle.languages.proofs.CodedLaws.{and-code, and-decoded, empty-decoded}
-use Rattle.languages.specs.declared.sets.LanguageSet.the-variants.{Any}
 use Rattle.choices.specs.Texts.{Text}
-use Rattle.choices.specs.Apply.{Alternative, Entry, insert, under, candidates, enter, apply, start}
-use Rattle.choices.specs.Choices.{Increasing}
+use Rattle.choices.specs.Apply.{Alternative, Entry, insert, under, candidates, enter, apply, held}
 use Rattle.choices.proofs.Loops.{turn-empty, turn-long, turn-in, turn-full}
-use Rattle.phoneme_builder.specs.Buffers.{entry, alternative, textAt, entryAt, entries, All<, RowIn, IsSet, SetIs, Room, AltsIn, altAt, altsFrom, alternatives, KeptBy, outcomeBy, AppliedIs, OfferedIs}
+use Rattle.phoneme_builder.specs.Buffers.{entry, alternative, entries, IsSet, SetIs, AltsIn, altAt, altsFrom, alternatives, KeptBy, outcomeBy, OfferedIs, Arena, Rooms, SetAt, entriesAt, CopiedIs, textIn, langsIn, AppliedAt}
 use Rattle.phoneme_builder.specs.declared.apply.Applied.{Applied}
 use Rattle.phoneme_builder.specs.declared.apply.Applied.the-variants.{Now, TooLong}
-use Rattle.phoneme_builder.proofs.FindLaws.{getD-map-lt, order-long, slot-below, row-in}
-
--- ---- sets
-
-module _ {store lens langs ord : List ℕ} {n : ℕ} (is : IsSet store lens langs ord n) where
-  pub entries-long : length (entries store lens langs ord n) ≡ n
-  entries-long = length-map (take n ord) (entryAt store lens langs) ∙ order-long (is .rows)
-
-  -- the entries from index i on
-  pub entries-drop : (i s : ℕ) → i < n → s ≡ getD ord i 0
-      → drop i (entries store lens langs ord n) ≡ entryAt store lens langs s ∷ drop (i + 1) (entries store lens langs ord n)
-  entries-drop i s h e =
-      rw (
-        add-one,
-        drop-cons (entries store lens langs ord n) i (entry [] Any) (rw entries-long h),
-        getD-map-lt (entryAt store lens langs) (take n ord) i 0 (entry [] Any) (rw (order-long (is .rows)) h),
-        getD-take,
-        ← e,
-      )
-
-  -- what is known of a slot that the order names
-  module _ (i s : ℕ) (h : i < n) (e : s ≡ getD ord i 0) where
-    pub slot-row : RowIn store lens s
-    slot-row = row-in (is .rows) i s h e
-
-    pub slot-lang : s < length langs
-    slot-lang = omega (arith, slot-below (is .rows) i s h e, is .rows .few, is .long-langs)
-
-    pub slot-code : IsCode (getD langs s 0)
-    slot-code = is .codes s (slot-below (is .rows) i s h e)
-
--- no texts
-pub empty-set : {store lens langs ord : List ℕ} → Room store lens langs ord → IsSet store lens langs ord 0
-unfolding All< Increasing
-empty-set r = record {
-  rows = record {
-    few = zero-le;
-    long-store = r .long-store;
-    long-lens = r .long-lens;
-    long-ord = r .long-ord;
-    slots = tt;
-    short = λ s h. absurd (not-suc-le-zero h);
-    increasing = tt;
-  };
-  long-langs = r .long-langs;
-  codes = λ s h. absurd (not-suc-le-zero h);
-}
-
--- one empty text
-pub start-is : (store lens langs ord : List ℕ) (r g : ℕ) → SetIs store lens langs ord r (insert (entry [] (decoded g)) []) → SetIs store lens langs ord r (start (decoded g))
-unfolding insert
-start-is store lens langs ord r g q = q
-
-pub ruleset empty-laws = (empty-set, start-is)
+use Rattle.phoneme_builder.proofs.PartLaws.{entries-long, length-at, none-at, none-entries, entriesLent, lent-entries, changed, Back, back-set, back-entries, Walk, walk-start, walk-next, walk-text}
 
 -- ---- offer
 
@@ -209,50 +153,55 @@ pub ruleset offering-laws = (offering-start, offering-stop, offering-end, offeri
 
 -- ---- the loop over the old texts
 
-pub record Applying (limit : ℕ) (alts : List Alternative) (old olens olangs oord : List ℕ) (on : ℕ) (store lens langs ord : List ℕ) (k i : ℕ) : Type 0 where
-  pub now-is : IsSet store lens langs ord k
-  pub in-on : i ≤ on
-  pub left : enter limit (candidates (drop i (entries old olens olangs oord on)) alts) (entries store lens langs ord k)
-      ≡ apply limit alts (entries old olens olangs oord on)
+-- entering what is left now is entering all of it at first
+pub record Applying (limit : ℕ) (alts : List Alternative) (a : Arena) (from on to : ℕ) (b : Arena) (row : List ℕ) (k i : ℕ) : Type 0 where
+  pub at : Walk a from on to b row
+  pub now-is : SetAt b to k
+  pub left : enter limit (candidates (drop i (entriesAt a from on)) alts) (entriesAt b to k) ≡ apply limit alts (entriesAt a from on)
 
-pub applying-start : (limit : ℕ) (alts : List Alternative) (old olens olangs oord : List ℕ) (on : ℕ) (store lens langs ord : List ℕ) → Room store lens langs ord
-    → Applying limit alts old olens olangs oord on store lens langs ord 0 0
+pub applying-start : (limit : ℕ) (alts : List Alternative) {a : Arena} {from on to : ℕ} → Rooms a → SetAt a from on → to < 4 → (from ≡ to → ⊥)
+    → (row : List ℕ) → length row ≡ 128 → Applying limit alts a from on to a row 0 0
 unfolding apply
-applying-start limit alts old olens olangs oord on store lens langs ord r = record { now-is = empty-set r; in-on = zero-le; left = refl }
+applying-start limit alts {a} {from} {on} {to} r is h ne row long = record {
+  at = walk-start r is h ne row long;
+  now-is = none-at r h;
+  left = ap (enter limit (candidates (entriesAt a from on) alts)) (none-entries a to);
+}
 
-module _ {limit : ℕ} {alts : List Alternative} {old olens olangs oord : List ℕ} {on : ℕ} {store lens langs ord : List ℕ} {k i : ℕ}
-    (o : Applying limit alts old olens olangs oord on store lens langs ord k i) where
-  pub applying-stop : limit ≤ k → AppliedIs (Now k) store lens langs ord (apply limit alts (entries old olens olangs oord on))
-  unfolding KeptBy outcomeBy
-  applying-stop h = record { kept = o .now-is; is = sym (turn-full limit _ _ (rw (entries-long (o .now-is)) h)) ∙ o .left }
+module _ {limit : ℕ} {alts : List Alternative} {a : Arena} {from on to : ℕ} {b : Arena} {row : List ℕ} {k i : ℕ} (v : Applying limit alts a from on to b row k i) where
+  applied : apply limit alts (entriesAt a from on) ≡ held (entriesAt b to k) → AppliedAt a b to (Now k) (apply limit alts (entriesAt a from on))
+  unfolding KeptBy outcomeBy entriesAt
+  applied e = record { done = record { kept = v .now-is .set; is = sym e }; others = v .at .others }
 
-  module _ (ois : IsSet old olens olangs oord on) where
-    pub applying-end : on ≤ i → AppliedIs (Now k) store lens langs ord (apply limit alts (entries old olens olangs oord on))
-    unfolding KeptBy outcomeBy candidates enter
-    applying-end h =
-        let past : length (entries old olens olangs oord on) ≤ i = rw (entries-long ois) h in
-        record { kept = o .now-is; is = rw (drop-of-length-le (entries old olens olangs oord on) past) at (o .left) }
+  pub applying-stop : limit ≤ k → AppliedAt a b to (Now k) (apply limit alts (entriesAt a from on))
+  applying-stop h = applied (sym (v .left) ∙ turn-full limit _ _ (rw (length-at (v .now-is)) h))
 
-    module _ (h : i < on) (s : ℕ) (es : s ≡ getD oord i 0) (a : Text) (ea : a ≡ textAt old olens s) {r : Applied} {store′ lens′ langs′ ord′ : List ℕ}
-        (q : OfferedIs limit (under (entry a (decoded (getD olangs s 0))) alts) (entries store lens langs ord k) r store′ lens′ langs′ ord′) where
-      here : under (entryAt old olens olangs s) alts ≡ under (entry a (decoded (getD olangs s 0))) alts
-      unfolding entryAt
-      here = rw ea
+  pub applying-end : on ≤ i → AppliedAt a b to (Now k) (apply limit alts (entriesAt a from on))
+  unfolding candidates enter
+  applying-end h =
+      let past : length (entriesAt a from on) ≤ i = rw (← v .at .texts, length-at (v .at .source)) h in
+      applied (sym (rw (drop-of-length-le (entriesAt a from on) past) at (v .left)))
 
-      after : outcomeBy r store′ lens′ langs′ ord′ (enter limit (candidates (drop (i + 1) (entries old olens olangs oord on)) alts))
-          ≡ apply limit alts (entries old olens olangs oord on)
-      unfolding candidates
-      after =
-          q .is (candidates (drop (i + 1) (entries old olens olangs oord on)) alts)
-          ∙ ap (λ (cs : List Entry). enter limit (cs ++ candidates (drop (i + 1) (entries old olens olangs oord on)) alts) (entries store lens langs ord k)) (sym here)
-          ∙ (rw (entries-drop ois i s h es) at (o .left))
+  -- a turn: the text was copied, and set `to` came back
+  module _ (h : i < on) {row′ : List ℕ} {e x : ℕ} (long : length row′ ≡ 128) (copy : CopiedIs (textIn (b .store) (b .lens) (b .ord) from i) row′ e)
+      (ex : x ≡ langsIn (b .langs) (b .ord) from i) {r : Applied} {s l g o : List ℕ}
+      (q : OfferedIs limit (under (entry (take (e - 0) row′) (decoded x)) alts) (entriesLent b to k) r s l g o) (back : Back b to s l g o) where
+    after : outcomeBy r s l g o (enter limit (candidates (drop (i + 1) (entriesAt a from on)) alts)) ≡ apply limit alts (entriesAt a from on)
+    unfolding candidates
+    after =
+        rw (← v .left, walk-text (v .at) i h x ex row′ e copy, ← lent-entries b to k)
+        (q .is (candidates (drop (i + 1) (entriesAt a from on)) alts))
 
-      pub applying-next : (x : ℕ) → r ≡ Now x → Applying limit alts old olens olangs oord on store′ lens′ langs′ ord′ x (i + 1)
-      unfolding KeptBy outcomeBy
-      applying-next x er = record { now-is = rw er at (q .kept); in-on = add-one-le h; left = rw er at after }
+    pub applying-next : (y : ℕ) → r ≡ Now y → Applying limit alts a from on to (changed b to s l g o) row′ y (i + 1)
+    unfolding KeptBy outcomeBy
+    applying-next y er = record {
+      at = walk-next (v .at) back row′ long;
+      now-is = back-set (v .at .rooms) (v .at .known) back y (rw er at (q .kept));
+      left = rw (back-entries (v .at .rooms) (v .at .known) back y) (rw er at after);
+    }
 
-      pub applying-long : r ≡ TooLong → AppliedIs TooLong store′ lens′ langs′ ord′ (apply limit alts (entries old olens olangs oord on))
-      unfolding KeptBy outcomeBy
-      applying-long er = record { kept = tt; is = rw er at after }
+    pub applying-long : r ≡ TooLong → AppliedAt a (changed b to s l g o) to TooLong (apply limit alts (entriesAt a from on))
+    unfolding KeptBy outcomeBy
+    applying-long er = record { done = record { kept = tt; is = rw er at after }; others = (walk-next (v .at) back row′ long) .others }
 
-pub ruleset applying-laws = (slot-row, slot-lang, slot-code, applying-start, applying-stop, applying-end, applying-next, applying-long)
+pub ruleset applying-laws = (applying-start, applying-stop, applying-end)

@@ -10,3 +10,9 @@ pub mod OrderLaws
 pub mod UniteLaws
 pub mod Increasing
 pub mod Answers
+pub mod MatchLaws
+pub mod PartLaws
+pub mod PhonemeLaws
+pub mod PassLaws
+pub mod WordLaws
+pub mod FinalLaws

@@ -3,13 +3,12 @@ use mathlib.Core.Path.{_≡_, refl, sym, ap, ap₂, subst, _∙_}
 use mathlib.Core.Bool.{Bool, true, false}
 use mathlib.Core.Logic.{_⊎_, inl, inr}
 use mathlib.Core.List.{List, [], _∷_, _++_, append-nil}
-use Prim.Native.Nat.{ℕ, _+_, _≤_, _<_, zero-le}
-use native.Mathlib.Numerals.{add-one-le}
+use Prim.Native.Nat.{ℕ, _+_, _-_, _≤_, _<_}
 use native.Mathlib.Omega.{arith}
 use borrow.Author.Tests.{le-leb, lt-leb, eqb-true, eqb-false}
 use lib.Bits.{bitOr}
 use lib.Dec.{eqb}
-use lib.ListN.{length, take, drop, getD, set, length-set, length-take, drop-of-length-le}
+use lib.ListN.{length, take, drop, getD, set, length-set, drop-of-length-le}
 use lib.Seq.{getD-take, getD-set-same, getD-set-other}
 use Rattle.base.specs.Pick.{pick}
 use Rattle.letters.specs.Order.{orderOf}
@@ -21,7 +20,7 @@ use Rattle.languages.proofs.CodedLaws.{or-code, or-decoded}
 use Rattle.choices.specs.Texts.{Text}
 use Rattle.choices.specs.Apply.{Entry, texts, insert}
 use Rattle.phoneme_builder.specs.Sets.{Spelling, refusal, holds, remerged, united}
-use Rattle.phoneme_builder.specs.Buffers.{findL, insAt, entry, textAt, entryAt, textsOf, entries, RowIn, Held, IsSet, SetIs, Written, HeldBy, spellingBy, UnitedIs}
+use Rattle.phoneme_builder.specs.Buffers.{findL, insAt, entry, textAt, entryAt, textsOf, entries, RowIn, Held, IsSet, SetIs, Written, HeldBy, spellingBy, UnitedIs, Arena, Rooms, SetAt, entriesAt, UnitedAt, CopiedIs, textIn, langsIn}
 use Rattle.phoneme_builder.specs.declared.set.Found.{Found}
 use Rattle.phoneme_builder.specs.declared.set.Found.the-variants.{At, Free}
 use Rattle.phoneme_builder.specs.declared.unite.United.{United}
@@ -29,7 +28,7 @@ use Rattle.phoneme_builder.specs.declared.unite.United.the-variants.{Int
 use Rattle.phoneme_builder.proofs.FindLaws.{texts-long, texts-at, slot-below}
 use Rattle.phoneme_builder.proofs.EnterLaws.{increasing-entries, told, enter-le, enter-free}
 use Rattle.phoneme_builder.proofs.AddLaws.{old-entries, write-held, write-set, write-row, new-text, new-entry, entered-is}
-use Rattle.phoneme_builder.proofs.ApplyLaws.{entries-long, entries-drop}
+use Rattle.phoneme_builder.proofs.PartLaws.{entries-long, length-at, entriesLent, lent-entries, changed, Back, back-set, back-entries, Walk, walk-start, walk-next, walk-text}
 use Rattle.phoneme_builder.proofs.OrderLaws.{find-none, find-there, find-equal, at-lt, merge-slots}
 
 -- ---- what the three ways of a text are in the definition
@@ -177,53 +176,47 @@ module _ {store lens langs ord : List ℕ} {n : ℕ} (is : IsSet store lens lang
 
 -- ---- the loop
 
-pub text-short : (store lens : List ℕ) (s : ℕ) (a : Text) → a ≡ textAt store lens s → RowIn store lens s → length a ≤ 128
-unfolding textAt
-text-short store lens s a e row = rw (e, length-take) (omega (arith, row .short))
-
 -- uniting what is left now is uniting all of it at first
-pub record Uniting (g : LanguageSet) (new nlens nlangs nord : List ℕ) (nn : ℕ) (l₀ : List Entry) (store lens langs ord : List ℕ) (k i : ℕ) : Type 0 where
-  pub now-is : IsSet store lens langs ord k
-  pub in-nn : i ≤ nn
-  pub left : (rest : List Entry → Spelling) → united g (drop i (entries new nlens nlangs nord nn)) (entries store lens langs ord k) rest
-      ≡ united g (entries new nlens nlangs nord nn) l₀ rest
+pub record Uniting (z : LanguageSet) (a : Arena) (from nn to n : ℕ) (b : Arena) (row : List ℕ) (k i : ℕ) : Type 0 where
+  pub at : Walk a from nn to b row
+  pub now-is : SetAt b to k
+  pub left : (rest : List Entry → Spelling) → united z (drop i (entriesAt a from nn)) (entriesAt b to k) rest ≡ united z (entriesAt a from nn) (entriesAt a to n) rest
 
-pub uniting-start : (g : LanguageSet) (new nlens nlangs nord : List ℕ) (nn : ℕ) (store lens langs ord : List ℕ) (n : ℕ) → IsSet store lens langs ord n
-    → Uniting g new nlens nlangs nord nn (entries store lens langs ord n) store lens langs ord n 0
-uniting-start g new nlens nlangs nord nn store lens langs ord n is = record { now-is = is; in-nn = zero-le; left = λ rest. refl }
+pub uniting-start : (z : LanguageSet) {a : Arena} {from nn to n : ℕ} → Rooms a → SetAt a to n → SetAt a from nn → (from ≡ to → ⊥) → (row : List ℕ) → length row ≡ 128
+    → Uniting z a from nn to n a row n 0
+uniting-start z r is nis ne row long = record { at = walk-start r nis (is .known) ne row long; now-is = is; left = λ rest. refl }
 
-module _ {g : LanguageSet} {new nlens nlangs nord : List ℕ} {nn : ℕ} {l₀ : List Entry} {store lens langs ord : List ℕ} {k i : ℕ}
-    (o : Uniting g new nlens nlangs nord nn l₀ store lens langs ord k i) (nis : IsSet new nlens nlangs nord nn) where
-  pub uniting-end : nn ≤ i → UnitedIs g (entries new nlens nlangs nord nn) l₀ (Into k) store lens langs ord
-  unfolding HeldBy spellingBy united
+module _ {z : LanguageSet} {a : Arena} {from nn to n : ℕ} {b : Arena} {row : List ℕ} {k i : ℕ} (v : Uniting z a from nn to n b row k i) where
+  pub uniting-end : nn ≤ i → UnitedAt a b to z (entriesAt a from nn) (entriesAt a to n) (Into k)
+  unfolding HeldBy spellingBy united entriesAt
   uniting-end h =
-      let past : length (entries new nlens nlangs nord nn) ≤ i = rw (entries-long nis) h in
-      record { kept = o .now-is; is = λ rest. rw (drop-of-length-le (entries new nlens nlangs nord nn) past) at (o .left rest) }
+      let past : length (entriesAt a from nn) ≤ i = rw (← v .at .texts, length-at (v .at .source)) h in
+      record {
+        done = record { kept = v .now-is .set; is = λ rest. rw (drop-of-length-le (entriesAt a from nn) past) at (v .left rest) };
+        others = v .at .others;
+      }
 
-  module _ (h : i < nn) (s : ℕ) (es : s ≡ getD nord i 0) (a : Text) (ea : a ≡ textAt new nlens s) {r : United} {store′ lens′ langs′ ord′ : List ℕ}
-      (q : UnitedIs g (entry a (decoded (getD nlangs s 0)) ∷ []) (entries store lens langs ord k) r store′ lens′ langs′ ord′) where
-    same : entryAt new nlens nlangs s ≡ entry a (decoded (getD nlangs s 0))
-    unfolding entryAt
-    same = rw ea
-
-    next : drop i (entries new nlens nlangs nord nn) ≡ entry a (decoded (getD nlangs s 0)) ∷ drop (i + 1) (entries new nlens nlangs nord nn)
-    next = entries-drop nis i s h es ∙ ap (λ (e : Entry). e ∷ drop (i + 1) (entries new nlens nlangs nord nn)) same
-
+  -- a turn: the text was copied, and set `to` came back
+  module _ (h : i < nn) {row′ : List ℕ} {e x : ℕ} (long : length row′ ≡ 128) (copy : CopiedIs (textIn (b .store) (b .lens) (b .ord) from i) row′ e)
+      (ex : x ≡ langsIn (b .langs) (b .ord) from i) {r : United} {s l g o : List ℕ}
+      (q : UnitedIs z (entry (take (e - 0) row′) (decoded x) ∷ []) (entriesLent b to k) r s l g o) (back : Back b to s l g o) where
     after : (rest : List Entry → Spelling)
-        → spellingBy r store′ lens′ langs′ ord′ (λ (m : List Entry). united g (drop (i + 1) (entries new nlens nlangs nord nn)) m rest)
-        ≡ united g (entries new nlens nlangs nord nn) l₀ rest
+        → spellingBy r s l g o (λ (m : List Entry). united z (drop (i + 1) (entriesAt a from nn)) m rest) ≡ united z (entriesAt a from nn) (entriesAt a to n) rest
     after rest =
-        q .is (λ (m : List Entry). united g (drop (i + 1) (entries new nlens nlangs nord nn)) m rest)
-        ∙ way-on g (entry a (decoded (getD nlangs s 0))) (entries store lens langs ord k) rest (drop (i + 1) (entries new nlens nlangs nord nn))
-        ∙ ap (λ (xs : List Entry). united g xs (entries store lens langs ord k) rest) (sym next)
-        ∙ o .left rest
+        rw (← v .left rest, walk-text (v .at) i h x ex row′ e copy, ← lent-entries b to k)
+        (q .is (λ (m : List Entry). united z (drop (i + 1) (entriesAt a from nn)) m rest)
+        ∙ way-on z (entry (take (e - 0) row′) (decoded x)) _ rest (drop (i + 1) (entriesAt a from nn)))
 
-    pub uniting-next : (x : ℕ) → r ≡ Into x → Uniting g new nlens nlangs nord nn l₀ store′ lens′ langs′ ord′ x (i + 1)
+    pub uniting-next : (y : ℕ) → r ≡ Into y → Uniting z a from nn to n (changed b to s l g o) row′ y (i + 1)
     unfolding HeldBy spellingBy
-    uniting-next x er = record { now-is = rw er at (q .kept); in-nn = add-one-le h; left = λ rest. rw er at (after rest) }
+    uniting-next y er = record {
+      at = walk-next (v .at) back row′ long;
+      now-is = back-set (v .at .rooms) (v .at .known) back y (rw er at (q .kept));
+      left = λ rest. rw (back-entries (v .at .rooms) (v .at .known) back y) (rw er at (after rest));
+    }
 
-    pub uniting-full : r ≡ TooMany → UnitedIs g (entries new nlens nlangs nord nn) l₀ TooMany store′ lens′ langs′ ord′
+    pub uniting-full : r ≡ TooMany → UnitedAt a (changed b to s l g o) to z (entriesAt a from nn) (entriesAt a to n) TooMany
     unfolding HeldBy spellingBy
-    uniting-full er = record { kept = tt; is = λ rest. rw er at (after rest) }
+    uniting-full er = record { done = record { kept = tt; is = λ rest. rw er at (after rest) }; others = (walk-next (v .at) back row′ long) .others }
 
-pub ruleset uniting-laws = (uniting-start, uniting-end, uniting-next, uniting-full)
+pub ruleset uniting-laws = (uniting-start, uniting-end)

@@ -8,7 +8,7 @@ use Rattle.letters.specs.Order.{orderOf}
 use Rattle.languages.specs.Coded.{decoded, IsCode}
 use Rattle.languages.specs.declared.sets.LanguageSet.{LanguageSet}
 use Rattle.choices.specs.Texts.{Text, byOrder}
-use Rattle.choices.specs.Apply.{Alternative, Entry, Outcome, refused, held, insert, enter}
+use Rattle.choices.specs.Apply.{Alternative, Entry, Outcome, refused, held, insert, enter, start}
 use Rattle.choices.specs.Choices.{Increasing}
 use Rattle.phoneme_builder.specs.Sets.{Spelling, refusal, united}
 use Rattle.phoneme_builder.specs.declared.set.Found.{Found}
@@ -124,6 +124,51 @@ pub record Entered (store lens ord ord′ : List ℕ) (n r : ℕ) : Type 0 where
   pub is : (langs : List ℕ) → entries store lens langs ord′ r ≡ insert (entryAt store lens langs n) (entries store lens langs ord n)
   pub grew : r ≤ n + 1
 
+-- ---- four sets side by side
+
+-- sets stand side by side in the same buffers, by number: the k-th part of w elements
+unfoldable pub part : ℕ → ℕ → List ℕ → List ℕ
+part w k l = take w (drop (k * w) l)
+
+pub record Arena : Type 0 where
+  pub store : List ℕ
+  pub lens : List ℕ
+  pub langs : List ℕ
+  pub ord : List ℕ
+
+abbrev pub arena : List ℕ → List ℕ → List ℕ → List ℕ → Arena
+arena store lens langs ord = record { store = store; lens = lens; langs = langs; ord = ord }
+
+-- buffers for four sets
+pub record Rooms (a : Arena) : Type 0 where
+  pub long-store : length (a .store) ≡ 131584
+  pub long-lens : length (a .lens) ≡ 1028
+  pub long-langs : length (a .langs) ≡ 1028
+  pub long-ord : length (a .ord) ≡ 1024
+
+unfoldable pub entriesAt : Arena → ℕ → ℕ → List Entry
+entriesAt a k n = entries (part 32896 k (a .store)) (part 257 k (a .lens)) (part 257 k (a .langs)) (part 256 k (a .ord)) n
+
+-- set k has n texts
+pub record SetAt (a : Arena) (k n : ℕ) : Type 0 where
+  pub known : k < 4
+  pub set : IsSet (part 32896 k (a .store)) (part 257 k (a .lens)) (part 257 k (a .langs)) (part 256 k (a .ord)) n
+
+-- its i-th entry
+unfoldable pub entryIn : Arena → ℕ → ℕ → Entry
+entryIn a k i = entryAt (part 32896 k (a .store)) (part 257 k (a .lens)) (part 257 k (a .langs)) (getD (part 256 k (a .ord)) i 0)
+
+-- set k stayed as it was
+pub record Stayed (a b : Arena) (k : ℕ) : Type 0 where
+  pub store : part 32896 k (b .store) ≡ part 32896 k (a .store)
+  pub lens : part 257 k (b .lens) ≡ part 257 k (a .lens)
+  pub langs : part 257 k (b .langs) ≡ part 257 k (a .langs)
+  pub ord : part 256 k (b .ord) ≡ part 256 k (a .ord)
+
+-- no set but x and y changed
+unfoldable pub Only : ℕ → ℕ → Arena → Arena → Type 0
+Only x y a b = (k : ℕ) → k < 4 → (k ≡ x → ⊥) → (k ≡ y → ⊥) → Stayed a b k
+
 -- ---- apply
 
 -- the alternative j of an expression's tables, and k of them from j on
@@ -161,6 +206,11 @@ pub record AppliedIs (r : Applied) (store lens langs ord : List ℕ) (o : Outcom
   pub kept : KeptBy r store lens langs ord
   pub is : outcomeBy r store lens langs ord held ≡ o
 
+-- the same of set `to` of an arena, of which no other set changed
+pub record AppliedAt (a b : Arena) (to : ℕ) (r : Applied) (o : Outcome) : Type 0 where
+  pub done : AppliedIs r (part 32896 to (b .store)) (part 257 to (b .lens)) (part 257 to (b .langs)) (part 256 to (b .ord)) o
+  pub others : Only to to a b
+
 -- the candidates cs entered into l, whatever comes behind them
 pub record OfferedIs (limit : ℕ) (cs l : List Entry) (r : Applied) (store lens langs ord : List ℕ) : Type 0 where
   pub kept : KeptBy r store lens langs ord
@@ -180,3 +230,42 @@ spellingBy TooMany store lens langs ord rest = refusal 8
 pub record UnitedIs (g : LanguageSet) (xs l : List Entry) (r : United) (store lens langs ord : List ℕ) : Type 0 where
   pub kept : HeldBy r store lens langs ord
   pub is : (rest : List Entry → Spelling) → spellingBy r store lens langs ord rest ≡ united g xs l rest
+
+pub record UnitedAt (a b : Arena) (to : ℕ) (g : LanguageSet) (xs l : List Entry) (r : United) : Type 0 where
+  pub done : UnitedIs g xs l r (part 32896 to (b .store)) (part 257 to (b .lens)) (part 257 to (b .langs)) (part 256 to (b .ord))
+  pub others : Only to to a b
+
+-- ---- a set begun, a text read
+
+-- text i of set k lies within the buffers
+pub record TextIn (store lens ord : List ℕ) (k i : ℕ) : Type 0 where
+  pub long-store : length store ≡ 131584
+  pub long-lens : length lens ≡ 1028
+  pub long-ord : length ord ≡ 1024
+  pub known : k < 4
+  pub index : i < 256
+  pub row : RowIn (part 32896 k store) (part 257 k lens) (getD (part 256 k ord) i 0)
+
+unfoldable pub textIn : List ℕ → List ℕ → List ℕ → ℕ → ℕ → Text
+textIn store lens ord k i = textAt (part 32896 k store) (part 257 k lens) (getD (part 256 k ord) i 0)
+
+-- and so its languages
+pub record LangsIn (langs ord : List ℕ) (k i : ℕ) : Type 0 where
+  pub long-langs : length langs ≡ 1028
+  pub long-ord : length ord ≡ 1024
+  pub known : k < 4
+  pub index : i < 256
+  pub slot : getD (part 256 k ord) i 0 < 257
+
+unfoldable pub langsIn : List ℕ → List ℕ → ℕ → ℕ → ℕ
+langsIn langs ord k i = getD (part 257 k langs) (getD (part 256 k ord) i 0) 0
+
+pub record BegunAt (a b : Arena) (k : ℕ) (g : LanguageSet) (r : ℕ) : Type 0 where
+  pub set : SetAt b k r
+  pub is : entriesAt b k r ≡ start g
+  pub others : Only k k a b
+
+-- the first r bytes of d are the text t
+pub record CopiedIs (t : Text) (d : List ℕ) (r : ℕ) : Type 0 where
+  pub short : r ≤ 128
+  pub text : take r d ≡ t

@@ -1,3 +1,4 @@
 pub mod Sets
 pub mod Buffers
 pub mod Passes
+pub mod Walks

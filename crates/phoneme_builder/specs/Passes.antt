@@ -1,8 +1,7 @@
--- Passes over a word (01, Spelling a name, steps 6 to 8): which rule matches where, and what the texts become. The code of the passes is to be
--- proved equal to this.
-use Prim.Native.Nat.{ℕ, zero, suc, _+_}
+-- Passes over a word (01, Spelling a name, steps 6 to 9): which rule matches where, and what the texts become.
+use Prim.Native.Nat.{ℕ, zero, suc, _+_, max}
 use mathlib.Core.Bool.{Bool, true, false}
-use mathlib.Core.List.{List, [], _∷_, map}
+use mathlib.Core.List.{List, [], _∷_, _++_, map}
 use lib.Dec.{leb, ltb}
 use lib.ListN.{length, take, drop}
 use Rattle.base.specs.Pick.{pick}
@@ -11,24 +10,24 @@ use Rattle.letters.specs.declared.utf8.Step.{Step}
 use Rattle.letters.specs.declared.utf8.Step.the-variants.{Char, Ill, End}
 use Rattle.languages.specs.declared.sets.LanguageSet.{LanguageSet}
 use Rattle.rule.specs.Matching.{ruleMatches}
-use Rattle.rule.specs.Expressions.{piecesIn, textOf, setOf}
+use Rattle.rule.specs.Expressions.{bar, piecesIn, textOf, setOf}
 use Rattle.pack.specs.Packs.{Rule}
 use Rattle.choices.specs.Texts.{Text}
 use Rattle.choices.specs.Apply.{Alternative, Entry, Outcome, refused, held, apply, start}
 use Rattle.phoneme_builder.specs.Sets.{appended, Spelling, refusal, texts, united}
 
--- ---- the steps of a pass
+-- ---- the turns of a pass
 
--- the alternatives of a rule; `names` is the bytes of the pack's names
-unfoldable pub offered : List ℕ → Rule → List Alternative
-offered names r = map (λ (a : List ℕ). record { text = textOf a; langs = setOf names a }) (piecesIn (r .expression))
+-- the alternatives of an expression; `names` is the bytes of the pack's names
+unfoldable pub offered : List ℕ → List ℕ → List Alternative
+offered names e = map (λ (a : List ℕ). record { text = textOf a; langs = setOf names a }) (piecesIn e)
 
-pub data Matched : Type 0 where
-  none : Matched
-  by : Rule → Matched
+pub data Match : Type 0 where
+  none : Match
+  by : Rule → Match
 
 -- "the first rule in its character's list that matches": a rule whose pattern stands there begins with that character
-unfoldable pub firstMatch : List Rule → Text → ℕ → Matched
+unfoldable pub firstMatch : List Rule → Text → ℕ → Match
 firstMatch [] word place = none
 firstMatch (r ∷ rs) word place = pick (ruleMatches (r .pattern) (r .left) (r .right) word place) (by r) (firstMatch rs word place)
 
@@ -43,13 +42,14 @@ bytesOf (Char k n) = n
 bytesOf Ill = 1
 bytesOf End = 1
 
--- "At each place the first rule .. that matches is applied and its pattern's length passed; otherwise one character"
-unfoldable pub turnOn : List ℕ → Matched → Text → ℕ → (ℕ → List Turn) → List Turn
-turnOn names (by r) word place rest = rule (offered names r) ∷ rest (place + length (r .pattern))
+-- "At each place the first rule .. that matches is applied and its pattern's length passed; otherwise one character". No pattern of an accepted
+-- pack is empty; over other bytes such a rule passes one byte
+unfoldable pub turnOn : List ℕ → Match → Text → ℕ → (ℕ → List Turn) → List Turn
+turnOn names (by r) word place rest = rule (offered names (r .expression)) ∷ rest (place + max 1 (length (r .pattern)))
 turnOn names none word place rest =
     letter (take (bytesOf (decodeAt word place)) (drop place word)) ∷ rest (place + bytesOf (decodeAt word place))
 
--- a turn passes at least one byte where no pattern is empty, so a fuel of the length is enough
+-- a turn passes at least one byte, so a fuel of the length is enough
 unfoldable pub turnsFrom : ℕ → List ℕ → List Rule → Text → ℕ → List Turn
 turnsFrom zero names rules word place = []
 turnsFrom (suc f) names rules word place =
@@ -74,20 +74,19 @@ unfoldable pub applied : ℕ → Outcome → (List Entry → Ran) → Ran
 applied limit refused rest = tooLong
 applied limit (held l) rest = flagged (leb limit (length l)) (rest l)
 
--- step 6: "otherwise one character is skipped"
-unfoldable pub runMain : ℕ → List Turn → List Entry → Ran
-runMain limit [] l = ran l false
-runMain limit (rule alts ∷ turns) l = applied limit (apply limit alts l) (runMain limit turns)
-runMain limit (letter c ∷ turns) l = runMain limit turns l
-
 unfoldable pub after : Outcome → (List Entry → Ran) → Ran
 after refused rest = tooLong
 after (held l) rest = rest l
 
-unfoldable pub runFinal : ℕ → List Turn → List Entry → Ran
-runFinal limit [] l = ran l false
-runFinal limit (rule alts ∷ turns) l = applied limit (apply limit alts l) (runFinal limit turns)
-runFinal limit (letter c ∷ turns) l = after (appended c l) (runFinal limit turns)
+-- step 6: "otherwise one character is skipped"; in a final pass, step 8: "an unmatched character being appended"
+unfoldable pub unmatched : Bool → Text → List Entry → Outcome
+unmatched false c l = held l
+unmatched true c l = appended c l
+
+unfoldable pub run : Bool → ℕ → List Turn → List Entry → Ran
+run final limit [] l = ran l false
+run final limit (rule alts ∷ turns) l = applied limit (apply limit alts l) (run final limit turns)
+run final limit (letter c ∷ turns) l = after (unmatched final c l) (run final limit turns)
 
 -- ---- uniting the results of a final pass
 
@@ -99,11 +98,14 @@ unfoldable pub onRan : LanguageSet → Ran → List Entry → (List Entry → Sp
 onRan g tooLong l rest = refusal 7
 onRan g (ran new flag) l rest = raised flag (united g new l rest)
 
--- "each text is run the same way from its own set": the old texts in order, l what they came to so far
+-- "each text is run the same way from its own set"
+unfoldable pub finalText : ℕ → List ℕ → List Rule → Entry → List Entry → (List Entry → Spelling) → Spelling
+finalText limit names rules e l rest = onRan (e .langs) (run true limit (turnsOf names rules (e .text)) (start (e .langs))) l rest
+
+-- the old texts in order; l is what they came to so far
 unfoldable pub finalFrom : ℕ → List ℕ → List Rule → List Entry → List Entry → Spelling
 finalFrom limit names rules [] l = texts l false
-finalFrom limit names rules (e ∷ old) l =
-    onRan (e .langs) (runFinal limit (turnsOf names rules (e .text)) (start (e .langs))) l (finalFrom limit names rules old)
+finalFrom limit names rules (e ∷ old) l = finalText limit names rules e l (finalFrom limit names rules old)
 
 unfoldable pub finalPass : ℕ → List ℕ → List Rule → List Entry → Spelling
 finalPass limit names rules old = finalFrom limit names rules old []
@@ -119,5 +121,11 @@ mainOf (ran l flag) = texts l flag
 -- a word: the main pass "from one empty text with the set", then the final passes, common and then language
 unfoldable pub wordOf : ℕ → List ℕ → List Rule → List Rule → List Rule → LanguageSet → Text → Spelling
 wordOf limit names main common language set word =
-    then (mainOf (runMain limit (turnsOf names main word) (start set))) (λ l.
-    then (finalPass limit names common l) (λ m. finalPass limit names language m))
+    then (mainOf (run false limit (turnsOf names main word) (start set))) (λ l.
+    then (finalPass limit names common l) (finalPass limit names language))
+
+-- step 9: "Texts joined by `|`"
+unfoldable pub joined : List Text → Text
+joined [] = []
+joined (t ∷ []) = t
+joined (t ∷ u ∷ l) = t ++ bar ∷ joined (u ∷ l)

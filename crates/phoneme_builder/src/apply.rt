@@ -3,10 +3,11 @@ ghost use mathlib.Core.List.{[], _∷_};
 ghost use Prim.Native.Nat.{_≤_, _<_};
 ghost use Rattle.languages.specs.Coded.{decoded, IsCode};
 ghost use Rattle.choices.specs.Apply.{under, apply};
-ghost use Rattle.phoneme_builder.specs.Buffers.{entry, alternative, entries, alternatives, IsSet, Room, AltsIn, AppliedIs, OfferedIs};
+ghost use mathlib.Core.Path.{_≡_};
+ghost use Rattle.phoneme_builder.specs.Buffers.{entry, alternative, entries, alternatives, IsSet, AltsIn, OfferedIs, arena, Rooms, SetAt, entriesAt, AppliedAt};
 use crate::set::add;
-use crate::set::row;
-use crate::set::wide;
+use crate::set::copy_text;
+use crate::set::langs_of;
 
 // How many texts the set has now; or a text over 128 bytes would have entered it (01, the table, 7).
 pub(crate) enum Applied {
@@ -87,17 +88,15 @@ fn apply_row(
     Applied::Now(k)
 }
 
-// The old texts in order, under each the alternatives in order; when the count reaches the limit, stop.
+// The old texts of set `from` in order, under each the alternatives in order, into set `to`; when the count reaches the limit, stop.
 pub(crate) fn apply(
     store: &mut [u8],
     lens: &mut [u8],
     langs: &mut [u64],
     ord: &mut [u8],
-    old: &[u8],
-    olens: &[u8],
-    olangs: &[u64],
-    oord: &[u8],
+    from: usize,
     on: usize,
+    to: usize,
     expr: &[u8],
     starts: &[usize],
     ends: &[usize],
@@ -105,29 +104,33 @@ pub(crate) fn apply(
     m: usize,
     limit: usize,
 ) -> Applied
-    requires { ⌜ Room (now store) (now lens) (now langs) (now ord) ⌝ }
-    requires { ⌜ IsSet (now old) (now olens) (now olangs) (now oord) on ⌝ }
+    requires { ⌜ Rooms (arena (now store) (now lens) (now langs) (now ord)) ⌝ }
+    requires { ⌜ SetAt (arena (now store) (now lens) (now langs) (now ord)) from on ⌝ }
+    requires { ⌜ (to < 4) × (from ≡ to → ⊥) ⌝ }
     requires { ⌜ AltsIn (now expr) (now starts) (now ends) (now sets) m ⌝ }
     requires { ⌜ limit ≤ 256 ⌝ }
-    ensures { λ r. ⌜ AppliedIs r (now (store .exit)) (now (lens .exit)) (now (langs .exit)) (now (ord .exit)) (apply limit (alternatives (now (expr .entry)) (now (starts .entry)) (now (ends .entry)) (now (sets .entry)) m) (entries (now (old .entry)) (now (olens .entry)) (now (olangs .entry)) (now (oord .entry)) on)) ⌝ }
+    ensures { λ r. ⌜ AppliedAt (arena (now (store .entry)) (now (lens .entry)) (now (langs .entry)) (now (ord .entry))) (arena (now (store .exit)) (now (lens .exit)) (now (langs .exit)) (now (ord .exit))) to r (apply limit (alternatives (now (expr .entry)) (now (starts .entry)) (now (ends .entry)) (now (sets .entry)) m) (entriesAt (arena (now (store .entry)) (now (lens .entry)) (now (langs .entry)) (now (ord .entry))) from on)) ⌝ }
 {
+    let p = to * 32896;
+    let l = to * 257;
+    let o = to * 256;
+    let mut row = [0u8; 128];
     let mut i = 0;
     let mut n = 0;
     while i < on {
         if limit <= n {
             return Applied::Now(n);
         }
-        let s = wide(oord[i]);
-        let a = row(old, olens, s);
-        let g = olangs[s];
+        let e = copy_text(store, lens, ord, from, i, &mut row);
+        let g = langs_of(langs, ord, from, i);
         i += 1;
         match apply_row(
-            store,
-            lens,
-            langs,
-            ord,
+            &mut store[p..p + 32896],
+            &mut lens[l..l + 257],
+            &mut langs[l..l + 257],
+            &mut ord[o..o + 256],
             n,
-            a,
+            &row[0..e],
             g,
             expr,
             starts,

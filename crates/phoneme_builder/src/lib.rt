@@ -1,5 +1,13 @@
-// The set of texts that a pass works on, over lent buffers (`PhonemeBuilder` of engine.rs): apply, append, unite.
+// The sets of texts of engine.rs and the passes over a word: `PhonemeBuilder`, `RulesApplication` and `apply_final_rule`.
 mod append;
 mod apply;
+mod finals;
+mod matching;
+mod pass;
+mod phonemes;
 mod set;
 mod unite;
+mod words;
+
+pub use words::Worded;
+pub use words::word;

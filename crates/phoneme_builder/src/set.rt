@@ -1,5 +1,6 @@
 // A set of at most 256 texts of 128 bytes: rows at slots, and the slots in the order of the texts.
 // A text that may enter is written into the free slot behind the others, and then looked up.
+// Four sets stand side by side in the same buffers, by number: 257 rows of 128 bytes, 257 lengths and languages, 256 slots each.
 ghost use mathlib.Core.Path.{_≡_};
 ghost use mathlib.Core.List.{_++_};
 ghost use Prim.Native.Nat.{_+_, _≤_, _<_};
@@ -7,7 +8,7 @@ ghost use lib.ListN.{length, take};
 ghost use Rattle.letters.specs.Order.{orderOf};
 ghost use Rattle.languages.specs.Coded.{decoded, IsCode};
 ghost use Rattle.choices.specs.Apply.{insert, start};
-ghost use Rattle.phoneme_builder.specs.Buffers.{findL, insAt, entry, put, textAt, textsOf, entries, RowIn, Held, IsSet, SetIs, Room, SlotIn, Written, Entered};
+ghost use Rattle.phoneme_builder.specs.Buffers.{findL, insAt, entry, put, textAt, textsOf, entries, RowIn, Held, IsSet, SetIs, Room, SlotIn, Written, Entered, arena, Rooms, TextIn, textIn, LangsIn, langsIn, CopiedIs, BegunAt};
 
 // Where a text stands, or where it would go.
 pub(crate) enum Found {
@@ -97,7 +98,7 @@ fn enter(store: &[u8], lens: &[u8], ord: &mut [u8], n: usize) -> usize
 }
 
 // Copies t into d from index at on.
-fn put(d: &mut [u8], at: usize, t: &[u8])
+pub(crate) fn put(d: &mut [u8], at: usize, t: &[u8])
     requires { ⌜ at + length (now t) ≤ length (now d) ⌝ }
     ensures { λ _. ⌜ now (d .exit) ≡ put (now (d .entry)) at (now (t .entry)) ⌝ }
 {
@@ -162,4 +163,71 @@ pub(crate) fn empty(
     ensures { λ r. ⌜ SetIs (now (store .exit)) (now (lens .exit)) (now (langs .exit)) (now (ord .exit)) r (start (decoded g)) ⌝ }
 {
     add(store, lens, langs, ord, 0, b"", b"", g)
+}
+
+// The i-th text of set k.
+pub(crate) fn text_of<'a>(store: &'a [u8], lens: &[u8], ord: &[u8], k: usize, i: usize) -> &'a [u8]
+    requires { ⌜ TextIn (now store) (now lens) (now ord) k i ⌝ }
+    ensures { λ r. ⌜ now r ≡ textIn (now (store .entry)) (now (lens .entry)) (now (ord .entry)) k i ⌝ }
+{
+    let o = k * 256;
+    let s = wide(ord[o + i]);
+    let p = k * 32896;
+    let l = k * 257;
+    row(&store[p..p + 32896], &lens[l..l + 257], s)
+}
+
+// The i-th text of set k, copied to the front of d; returns its length.
+pub(crate) fn copy_text(
+    store: &[u8],
+    lens: &[u8],
+    ord: &[u8],
+    k: usize,
+    i: usize,
+    d: &mut [u8],
+) -> usize
+    requires { ⌜ TextIn (now store) (now lens) (now ord) k i ⌝ }
+    requires { ⌜ length (now d) ≡ 128 ⌝ }
+    ensures { λ r. ⌜ CopiedIs (textIn (now (store .entry)) (now (lens .entry)) (now (ord .entry)) k i) (now (d .exit)) r ⌝ }
+{
+    let t = text_of(store, lens, ord, k, i);
+    put(d, 0, t);
+    t.len()
+}
+
+// Its languages.
+pub(crate) fn langs_of(langs: &[u64], ord: &[u8], k: usize, i: usize) -> u64
+    requires { ⌜ LangsIn (now langs) (now ord) k i ⌝ }
+    ensures { λ r. ⌜ r ≡ langsIn (now (langs .entry)) (now (ord .entry)) k i ⌝ }
+{
+    let o = k * 256;
+    let s = wide(ord[o + i]);
+    let l = k * 257;
+    langs[l + s]
+}
+
+// Set k begun with one empty text of the languages g.
+pub(crate) fn begin(
+    store: &mut [u8],
+    lens: &mut [u8],
+    langs: &mut [u64],
+    ord: &mut [u8],
+    k: usize,
+    g: u64,
+) -> usize
+    requires { ⌜ Rooms (arena (now store) (now lens) (now langs) (now ord)) ⌝ }
+    requires { ⌜ k < 4 ⌝ }
+    requires { ⌜ IsCode g ⌝ }
+    ensures { λ r. ⌜ BegunAt (arena (now (store .entry)) (now (lens .entry)) (now (langs .entry)) (now (ord .entry))) (arena (now (store .exit)) (now (lens .exit)) (now (langs .exit)) (now (ord .exit))) k (decoded g) r ⌝ }
+{
+    let p = k * 32896;
+    let l = k * 257;
+    let o = k * 256;
+    empty(
+        &mut store[p..p + 32896],
+        &mut lens[l..l + 257],
+        &mut langs[l..l + 257],
+        &mut ord[o..o + 256],
+        g,
+    )
 }

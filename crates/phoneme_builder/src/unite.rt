@@ -3,11 +3,13 @@ ghost use mathlib.Core.List.{[], _∷_};
 ghost use Prim.Native.Nat.{_≤_};
 ghost use lib.ListN.{length};
 ghost use Rattle.languages.specs.Coded.{decoded, IsCode};
-ghost use Rattle.phoneme_builder.specs.Buffers.{entry, entries, IsSet, UnitedIs};
+ghost use mathlib.Core.Path.{_≡_};
+ghost use Rattle.phoneme_builder.specs.Buffers.{entry, entries, IsSet, UnitedIs, arena, Rooms, SetAt, entriesAt, UnitedAt};
 use crate::set::Found;
+use crate::set::copy_text;
 use crate::set::find;
+use crate::set::langs_of;
 use crate::set::open_at;
-use crate::set::row;
 use crate::set::wide;
 use crate::set::write;
 
@@ -51,33 +53,45 @@ fn unite_row(
     }
 }
 
-// The texts of one text's final run, in order, into the result so far; g is the set of that text.
+// The texts of set `from`, one text's final run, in order into the result so far, set `to`; g is the set of that text.
 pub(crate) fn unite(
     store: &mut [u8],
     lens: &mut [u8],
     langs: &mut [u64],
     ord: &mut [u8],
+    to: usize,
     n: usize,
-    new: &[u8],
-    nlens: &[u8],
-    nlangs: &[u64],
-    nord: &[u8],
+    from: usize,
     nn: usize,
     g: u64,
 ) -> United
-    requires { ⌜ IsSet (now store) (now lens) (now langs) (now ord) n ⌝ }
-    requires { ⌜ IsSet (now new) (now nlens) (now nlangs) (now nord) nn ⌝ }
+    requires { ⌜ Rooms (arena (now store) (now lens) (now langs) (now ord)) ⌝ }
+    requires { ⌜ SetAt (arena (now store) (now lens) (now langs) (now ord)) to n ⌝ }
+    requires { ⌜ SetAt (arena (now store) (now lens) (now langs) (now ord)) from nn ⌝ }
+    requires { ⌜ (from ≡ to → ⊥) ⌝ }
     requires { ⌜ IsCode g ⌝ }
-    ensures { λ r. ⌜ UnitedIs (decoded g) (entries (now (new .entry)) (now (nlens .entry)) (now (nlangs .entry)) (now (nord .entry)) nn) (entries (now (store .entry)) (now (lens .entry)) (now (langs .entry)) (now (ord .entry)) n) r (now (store .exit)) (now (lens .exit)) (now (langs .exit)) (now (ord .exit)) ⌝ }
+    ensures { λ r. ⌜ UnitedAt (arena (now (store .entry)) (now (lens .entry)) (now (langs .entry)) (now (ord .entry))) (arena (now (store .exit)) (now (lens .exit)) (now (langs .exit)) (now (ord .exit))) to (decoded g) (entriesAt (arena (now (store .entry)) (now (lens .entry)) (now (langs .entry)) (now (ord .entry))) from nn) (entriesAt (arena (now (store .entry)) (now (lens .entry)) (now (langs .entry)) (now (ord .entry))) to n) r ⌝ }
 {
+    let p = to * 32896;
+    let l = to * 257;
+    let o = to * 256;
+    let mut row = [0u8; 128];
     let mut i = 0;
     let mut k = n;
     while i < nn {
-        let s = wide(nord[i]);
-        let a = row(new, nlens, s);
-        let ga = nlangs[s];
+        let e = copy_text(store, lens, ord, from, i, &mut row);
+        let ga = langs_of(langs, ord, from, i);
         i += 1;
-        match unite_row(store, lens, langs, ord, k, a, ga, g) {
+        match unite_row(
+            &mut store[p..p + 32896],
+            &mut lens[l..l + 257],
+            &mut langs[l..l + 257],
+            &mut ord[o..o + 256],
+            k,
+            &row[0..e],
+            ga,
+            g,
+        ) {
             United::Into(x) => {
                 k = x;
             }

@@ -9,6 +9,7 @@ use native.Mathlib.Decide.{decLt}
 use native.Mathlib.Nat.{sub-zero}
 use native.Mathlib.Omega.{arith}
 use lib.Bits.{or-lt}
+use lib.Dec.{eqb}
 use lib.ListN.{length, getD, take, drop, length-take, length-drop, length-append, List·getD-append}
 use lib.Pow.{pow-pos}
 use lib.Seq.{take-nil, take-length, take-take, drop-drop, getD-append-add}
@@ -20,10 +21,10 @@ use Rattle.languages.specs.declared.names.Listed.{Listed}
 use Rattle.languages.specs.declared.names.Listed.the-variants.{Bit, Unlisted}
 use Rattle.languages.specs.declared.sets.LanguageSet.{LanguageSet}
 use Rattle.languages.proofs.Laws.{any-below, mask-below, bit-below, bit-held}
-use Rattle.texts.specs.Parts.{tail, front, firstIs, placeOf, prefixOf}
+use Rattle.texts.specs.Parts.{tail, front, firstIs, lastIs, placeOf, prefixOf}
 use Rattle.texts.proofs.Laws.{front-is, place-most, first-some-by, last-some-by, prefix-short}
 use Rattle.rule.specs.Matching.{ruleMatches}
-use Rattle.rule.specs.Expressions.{round, bar, opening, cutAt, inside, extra, piecesIn, withBits, namesMask, pieceMask, textOf, maskSet, setOf, checkedOf, nthFrom, alternativeOf}
+use Rattle.rule.specs.Expressions.{round, bar, opening, onFirst, cutAt, inside, extra, piecesIn, withBits, namesMask, pieceMask, textOf, maskSet, setOf, checkedOf, nthFrom, alternativeOf}
 use Rattle.rule.specs.Walks.{hasExtra, nthCut, pieceFrom}
 use Rattle.rule.specs.declared.answers.Expression.{Expression}
 use Rattle.rule.specs.declared.answers.Expression.the-variants.{Good}
@@ -211,6 +212,11 @@ nth-none k names i [] e = zero-le
 nth-none k names zero (a ∷ ps) e = clash (cc)
 nth-none k names (suc i) (a ∷ ps) e = let h = nth-none _ names i ps e in omega arith
 
+-- of any expression there is one for each piece
+pub pieces-past : (names e : List ℕ) (i : ℕ) (r : Alternative) → r ≡ alternativeOf names e i → r ≡ Nothing → length (piecesIn e) ≤ i
+unfolding alternativeOf
+pieces-past names e i r p q = nth-none _ names i _ (sym p ∙ q)
+
 module _ (names e : List ℕ) (n i : ℕ) (c : Expression) (g : c ≡ checkedOf names e) (h : c ≡ Good n) (r : Alternative) (p : r ≡ alternativeOf names e i) where
   -- there is one for each number below the count
   pub alternative-past : r ≡ Nothing → n ≤ i
@@ -220,6 +226,33 @@ module _ (names e : List ℕ) (n i : ℕ) (c : Expression) (g : c ≡ checkedOf 
   -- and for no other
   pub alternative-there : (start end : ℕ) (set : LanguageSet) → r ≡ At start end set → i < n
   alternative-there start end set q = omega (arith, is-alternative names e i start end set r p q .there, good-count names e n c g h)
+
+-- ---- an expression has at most one piece more than bytes
+
+first-few : (x : ℕ) (ps : List (List ℕ)) (n : ℕ) → length ps ≤ n + 1 → length (onFirst x ps) ≤ n + 1
+unfolding onFirst
+first-few x [] n h = omega arith
+first-few x (p ∷ ps) n h = h
+
+cut-few : (b : ℕ) (l : List ℕ) → length (cutAt b l) ≤ length l + 1
+unfolding cutAt
+cut-few b [] = omega arith
+cut-few b (x ∷ l) =
+    let h = cut-few b l in
+    pick-all (λ (ps : List (List ℕ)). length ps ≤ length (x ∷ l) + 1) (eqb x b) _ _ (omega arith) (first-few x (cutAt b l) (length (x ∷ l)) (omega arith))
+
+extra-few : (t : List ℕ) → length (extra t) ≤ 1
+unfolding extra
+extra-few t = pick-all (λ (ps : List (List ℕ)). length ps ≤ 1) (firstIs bar t) _ _ (omega arith) (pick-all (λ (ps : List (List ℕ)). length ps ≤ 1) (lastIs bar t) _ _ (omega arith) (omega arith))
+
+few-by : (e : List ℕ) (f : Bool) → f ≡ firstIs round e → length (piecesIn e) ≤ length e + 1
+few-by e true f =
+    let t = inside e in
+    omega (arith, ap length (pieces-round e true f t refl refl), length-append (cutAt bar t) (extra t), cut-few bar t, extra-few t, inside-long e, first-some-by round e true f refl)
+few-by e false f = omega (arith, ap length (pieces-single e false f refl))
+
+pub pieces-few : (e : List ℕ) → length (piecesIn e) ≤ length e + 1
+pieces-few e = few-by e _ refl
 
 -- ---- a rule that matches: its pattern ends within the text
 
@@ -236,4 +269,4 @@ match-end p l r t at x e q =
     (λ v. omega (arith, ltb-false (length t) at (v .0), prefix-long p (drop at t) (and-inv _ _ (v .1) .0), length-drop at t))
     (pick-inv _ _ _ _ (sym e ∙ q))
 
-pub ruleset rule-laws = (is-alternative, alternative-order, alternative-fits, alternative-below, alternative-listed, alternative-past, alternative-there, match-end)
+pub ruleset rule-laws = (is-alternative, alternative-order, alternative-fits, alternative-below, alternative-listed, pieces-past, alternative-past, alternative-there, pieces-few, match-end)

@@ -1,5 +1,5 @@
 use borrow.Author.Needs.{needs}
-use Rattle.phoneme_builder.proofs.ApplyLaws.{empty-laws}
+use Rattle.phoneme_builder.proofs.PartLaws.{empty-laws}
 use Rattle.phoneme_builder.proofs.set.empty.Statement.{statement}
 use Rattle.phoneme_builder.proofs.set.empty.Tie as tie
 use Rattle.phoneme_builder.proofs.set.empty.Reads as reads

@@ -1,0 +1,200 @@
+-- What the functions of a pass tell of the pack's bytes and of the lent tables.
+use Prim.Native.Nat.{ℕ, suc, _+_, _-_, _≤_, _<_, max}
+use mathlib.Core.Path.{_≡_}
+use mathlib.Core.Bool.{Bool, true, false}
+use mathlib.Core.List.{List, [], _∷_, map}
+use mathlib.Core.Logic.{_⊎_}
+use lib.Dec.{eqb, leb}
+use lib.Seq.{sets}
+use Rattle.base.specs.Pick.{pick, and}
+use lib.ListN.{length, take, drop}
+use Rattle.languages.specs.declared.sets.LanguageSet.{LanguageSet}
+use Rattle.choices.specs.Texts.{Text}
+use Rattle.choices.specs.Apply.{Entry}
+use Rattle.phoneme_builder.specs.Sets.{Spelling, refusal, texts}
+use Rattle.phoneme_builder.specs.Passes.{offered, Match, none, by, Turn, Ran, tooLong, ran, flagged, run, raised, onRan, joined}
+use Rattle.phoneme_builder.specs.Buffers.{AltsIn, alternatives, Held, textsOf, part, Arena, SetAt, entriesAt, textIn, Stayed, Only, CopiedIs, BegunAt}
+use Rattle.phoneme_builder.specs.declared.pass.Turned.{Turned}
+use Rattle.phoneme_builder.specs.declared.pass.Turned.the-variants as turned
+use Rattle.phoneme_builder.specs.declared.pass.Passed.{Passed}
+use Rattle.phoneme_builder.specs.declared.pass.Passed.the-variants as passed
+use Rattle.phoneme_builder.specs.declared.finals.Finished.{Finished}
+use Rattle.phoneme_builder.specs.declared.finals.Finished.the-variants as finished
+use Rattle.phoneme_builder.specs.declared.matching.Matched.{Matched}
+use Rattle.phoneme_builder.specs.declared.matching.Matched.the-variants.{By, Nothing}
+use Rattle.phoneme_builder.specs.declared.words.Worded.{Worded}
+use Rattle.phoneme_builder.specs.declared.words.Worded.the-variants as worded
+use Rattle.pack.specs.Packs.{Rule}
+
+-- the rule's step and where its expression stands in the pack
+pub record RuleIn (s : List ℕ) (word : Text) (place : ℕ) (r : Rule) (step start end : ℕ) : Type 0 where
+  pub passes : step ≡ max 1 (length (r .pattern))
+  pub within : place + step ≤ length word
+  pub order : start ≤ end
+  pub fits : end ≤ length s
+  pub expression : take (end - start) (drop start s) ≡ r .expression
+  pub short : end - start < 256
+
+unfoldable pub MatchIs : List ℕ → Text → ℕ → Match → Matched → Type 0
+MatchIs s word place none (By step start end) = ⊥
+MatchIs s word place none Nothing = Unit {0}
+MatchIs s word place (by r) (By step start end) = RuleIn s word place r step start end
+MatchIs s word place (by r) Nothing = ⊥
+
+-- the tables hold the alternatives of e
+pub record TablesAre (names e starts ends sets : List ℕ) (m : ℕ) : Type 0 where
+  pub parts : AltsIn e starts ends sets m
+  pub are : alternatives e starts ends sets m ≡ offered names e
+
+-- room for an expression's alternatives, of which there are at most 256
+pub record TableRoom (starts ends sets : List ℕ) : Type 0 where
+  pub long-starts : length starts ≡ 256
+  pub long-ends : length ends ≡ 256
+  pub long-sets : length sets ≡ 256
+
+-- ---- a turn, from the n texts of set `from`: what the run then comes to, whatever turns follow
+
+unfoldable pub turnedBy : Turned → Bool → ℕ → Arena → ℕ → ℕ → ℕ → ℕ → (ℕ → List Turn) → Ran
+turnedBy (turned.Into k step full) final limit b from n to place rest = flagged full (run final limit (rest (place + step)) (entriesAt b to k))
+turnedBy (turned.Kept step) final limit b from n to place rest = run final limit (rest (place + step)) (entriesAt b from n)
+turnedBy turned.TooLong final limit b from n to place rest = tooLong
+
+-- the step lies within the word
+pub record StepIn (word : Text) (place step : ℕ) : Type 0 where
+  pub some : 0 < step
+  pub within : place + step ≤ length word
+
+unfoldable pub TurnKept : Turned → Arena → Arena → ℕ → Text → ℕ → Type 0
+TurnKept (turned.Into k step full) a b to word place = SetAt b to k × StepIn word place step
+TurnKept (turned.Kept step) a b to word place = (b ≡ a) × StepIn word place step
+TurnKept turned.TooLong a b to word place = Unit {0}
+
+pub record TurnedAt (a b : Arena) (final : Bool) (limit from n to : ℕ) (word : Text) (place : ℕ) (turns : (ℕ → List Turn) → List Turn) (r : Turned) : Type 0 where
+  pub kept : TurnKept r a b to word place
+  pub is : (rest : ℕ → List Turn) → turnedBy r final limit b from n to place rest ≡ run final limit (turns rest) (entriesAt a from n)
+  pub others : Only to to a b
+
+-- ---- a pass in the sets x and y
+
+unfoldable pub passedBy : Passed → Arena → Ran
+passedBy (passed.Now k set flag) b = ran (entriesAt b set k) flag
+passedBy passed.TooLong b = tooLong
+
+unfoldable pub PassKept : Passed → Arena → ℕ → ℕ → Type 0
+PassKept (passed.Now k set flag) b x y = SetAt b set k × ((set ≡ x) ⊎ (set ≡ y))
+PassKept passed.TooLong b x y = Unit {0}
+
+pub record PassedAt (a b : Arena) (x y : ℕ) (o : Ran) (r : Passed) : Type 0 where
+  pub kept : PassKept r b x y
+  pub is : passedBy r b ≡ o
+  pub others : Only x y a b
+
+-- ---- final passes
+
+-- four sets, all different
+pub record Apart (old result x y : ℕ) : Type 0 where
+  pub old-known : old < 4
+  pub result-known : result < 4
+  pub x-known : x < 4
+  pub y-known : y < 4
+  pub old-result : old ≡ result → ⊥
+  pub old-x : old ≡ x → ⊥
+  pub old-y : old ≡ y → ⊥
+  pub result-x : result ≡ x → ⊥
+  pub result-y : result ≡ y → ⊥
+  pub x-y : x ≡ y → ⊥
+
+-- set x begun with one empty text of the languages g, and the i-th text of set `old` copied to the front of d
+pub record StartedAt (a b : Arena) (old i x : ℕ) (g : LanguageSet) (d : List ℕ) (r : ℕ) : Type 0 where
+  pub begun : BegunAt a b x g 1
+  pub copied : CopiedIs (textIn (a .store) (a .lens) (a .ord) old i) d r
+
+unfoldable pub FinalKept : Finished → Arena → ℕ → Type 0
+FinalKept (finished.Into k flag) b to = SetAt b to k
+FinalKept finished.TooLong b to = Unit {0}
+FinalKept finished.TooMany b to = Unit {0}
+
+unfoldable pub finishedBy : Finished → Arena → ℕ → (List Entry → Spelling) → Spelling
+finishedBy (finished.Into k flag) b to rest = raised flag (rest (entriesAt b to k))
+finishedBy finished.TooLong b to rest = refusal 7
+finishedBy finished.TooMany b to rest = refusal 8
+
+-- one text's run, united into the result so far, whatever is done with it
+pub record TextFinished (a b : Arena) (old to : ℕ) (s : (List Entry → Spelling) → Spelling) (r : Finished) : Type 0 where
+  pub kept : FinalKept r b to
+  pub is : (rest : List Entry → Spelling) → finishedBy r b to rest ≡ s rest
+  pub stayed : Stayed a b old
+
+-- the texts of set `to`
+unfoldable pub textsBy : Finished → Arena → ℕ → Spelling
+textsBy (finished.Into k flag) b to = texts (entriesAt b to k) flag
+textsBy finished.TooLong b to = refusal 7
+textsBy finished.TooMany b to = refusal 8
+
+pub record FinishedAt (b : Arena) (to : ℕ) (s : Spelling) (r : Finished) : Type 0 where
+  pub kept : FinalKept r b to
+  pub is : textsBy r b to ≡ s
+
+-- ---- the answer
+
+-- the n texts of set 0 lie within the buffers
+pub record TextsIn (store lens ord : List ℕ) (n : ℕ) : Type 0 where
+  pub long-store : length store ≡ 131584
+  pub long-lens : length lens ≡ 1028
+  pub long-ord : length ord ≡ 1024
+  pub held : Held (part 32896 0 store) (part 257 0 lens) (part 256 0 ord) n
+
+unfoldable pub textsIn : List ℕ → List ℕ → List ℕ → ℕ → List Text
+textsIn store lens ord n = textsOf (part 32896 0 store) (part 257 0 lens) (part 256 0 ord) n
+
+-- the bytes of texts, with a bar behind each
+unfoldable pub barred : List Text → ℕ
+barred [] = 0
+barred (t ∷ ts) = suc (length t) + barred ts
+
+-- t in out from a place on, where it fits there
+unfoldable pub placed : List ℕ → ℕ → Text → List ℕ
+placed out at t = pick (leb (at + length t) (length out)) (sets out at t) out
+
+pub record GivenIs (ts : List Text) (out out′ : List ℕ) (at r : ℕ) : Type 0 where
+  pub result : r ≡ length (joined ts)
+  pub buffer : out′ ≡ placed out at (joined ts)
+
+-- the sizes of the buffers, of the tables and of the places of lists that `word` works with
+unfoldable pub areBuffers : ℕ → ℕ → ℕ → ℕ → Bool
+areBuffers store lens langs ord = and (eqb store 131584) (and (eqb lens 1028) (and (eqb langs 1028) (eqb ord 1024)))
+
+unfoldable pub areTables : ℕ → ℕ → ℕ → Bool
+areTables starts ends sets = and (eqb starts 256) (and (eqb ends 256) (eqb sets 256))
+
+unfoldable pub arePlaces : ℕ → ℕ → ℕ → ℕ → Bool
+arePlaces pack main common last = and (leb main pack) (and (leb common pack) (leb last pack))
+
+-- the texts of a set
+abbrev pub spellings : List Entry → List Text
+spellings l = map (λ (e : Entry). e .text) l
+
+-- what a word's answer says in the paper's numbers: its length and flag, or a refusal; or that the call was not fit
+pub data Answer : Type 0 where
+  done : ℕ → Bool → Answer
+  refusedBy : ℕ → Answer
+  unfit : Answer
+
+unfoldable pub answerOf : Worded → Answer
+answerOf (worded.Done length flag) = done length flag
+answerOf worded.TooLong = refusedBy 7
+answerOf worded.TooMany = refusedBy 8
+answerOf worded.Unfit = unfit
+
+unfoldable pub answered : Spelling → Answer
+answered (refusal c) = refusedBy c
+answered (texts l flag) = done (length (joined (spellings l))) flag
+
+unfoldable pub placedAs : Spelling → List ℕ → ℕ → List ℕ
+placedAs (refusal c) out at = out
+placedAs (texts l flag) out at = placed out at (joined (spellings l))
+
+-- the promise of `word`: the answer and the content of `out`
+pub record WordIs (fit : Bool) (s : Spelling) (out out′ : List ℕ) (at : ℕ) (r : Worded) : Type 0 where
+  pub result : answerOf r ≡ pick fit (answered s) unfit
+  pub buffer : out′ ≡ pick fit (placedAs s out at) out

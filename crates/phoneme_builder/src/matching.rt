@@ -1,0 +1,70 @@
+// The first rule of a list that matches at a place of a word (`RulesApplication` of engine.rs).
+ghost use mathlib.Core.Path.{_≡_};
+ghost use Prim.Native.Nat.{_≤_, _<_, _-_, max};
+ghost use lib.ListN.{length};
+ghost use Rattle.pack.specs.Places.{listAt};
+ghost use Rattle.phoneme_builder.specs.Passes.{firstMatch};
+ghost use Rattle.phoneme_builder.specs.Walks.{MatchIs};
+use pack::RuleAt;
+
+// The rule that matches: how far its pattern reaches, and where its expression stands in the pack.
+pub(crate) enum Matched {
+    By {
+        step: usize,
+        expression: usize,
+        end: usize,
+    },
+    Nothing,
+}
+
+// At least one byte is passed.
+fn step_of(from: usize, to: usize) -> usize
+    requires { ⌜ from ≤ to ⌝ }
+    ensures { λ r. ⌜ r ≡ max 1 (to - from) ⌝ }
+{
+    if from < to { to - from } else { 1 }
+}
+
+// The first rule of the list at the place `list` of `pack` that matches at a place of word.
+pub(crate) fn first_match(pack: &[u8], list: usize, word: &[u8], place: usize) -> Matched
+    requires { ⌜ list ≤ length (now pack) ⌝ }
+    requires { ⌜ place < length (now word) ⌝ }
+    ensures { λ r. ⌜ MatchIs (now (pack .entry)) (now (word .entry)) place (firstMatch (listAt (now (pack .entry)) list) (now (word .entry)) place) r ⌝ }
+{
+    let mut at = list + 2;
+    let mut count = pack::rule_count(pack, list);
+    while 0 < count {
+        match pack::rule_at(pack, at) {
+            RuleAt::At {
+                pattern,
+                pattern_end,
+                left,
+                left_end,
+                right,
+                right_end,
+                expression,
+                end,
+            } => {
+                if rule::rule_matches(
+                    &pack[pattern..pattern_end],
+                    &pack[left..left_end],
+                    &pack[right..right_end],
+                    word,
+                    place,
+                ) {
+                    return Matched::By {
+                        step: step_of(pattern, pattern_end),
+                        expression,
+                        end,
+                    };
+                }
+                at = end;
+                count -= 1;
+            }
+            RuleAt::Cut => {
+                return Matched::Nothing;
+            }
+        }
+    }
+    Matched::Nothing
+}

@@ -1,0 +1,288 @@
+// A pass over a word (01, Spelling a name, steps 6 and 8): at each place the first rule that matches is applied.
+ghost use mathlib.Core.Path.{_≡_};
+ghost use mathlib.Core.Bool.{true};
+ghost use mathlib.Core.List.{[]};
+ghost use Prim.Native.Nat.{_≤_, _<_};
+ghost use lib.ListN.{length};
+ghost use Rattle.base.specs.Pick.{pick};
+ghost use Rattle.letters.specs.Utf8.{decodeAt};
+ghost use Rattle.pack.specs.Places.{listAt};
+ghost use Rattle.choices.specs.Apply.{apply};
+ghost use Rattle.phoneme_builder.specs.Buffers.{arena, Rooms, SetAt, entriesAt, AppliedAt};
+ghost use Rattle.phoneme_builder.specs.Passes.{offered, none, firstMatch, bytesOf, turnOn, turnsOf, run};
+ghost use Rattle.phoneme_builder.specs.Walks.{TableRoom, StepIn, TurnedAt, PassedAt};
+use crate::append::append;
+use crate::apply::Applied;
+use crate::apply::apply;
+use crate::matching::Matched;
+use crate::matching::first_match;
+use crate::phonemes::alternatives;
+use letters::Step;
+
+// What a turn at a place comes to: so many texts in the other set, `full` where an apply ended at or over the limit;
+// or the texts kept where they are; or a text over 128 bytes would have entered (7).
+pub(crate) enum Turned {
+    Into {
+        texts: usize,
+        step: usize,
+        full: bool,
+    },
+    Kept {
+        step: usize,
+    },
+    TooLong,
+}
+
+// What a pass comes to: so many texts in a set, and the flag.
+pub(crate) enum Passed {
+    Now {
+        texts: usize,
+        set: usize,
+        flag: bool,
+    },
+    TooLong,
+}
+
+pub(crate) fn either(a: bool, b: bool) -> bool
+    ensures { λ r. ⌜ r ≡ pick a true b ⌝ }
+{
+    if a { true } else { b }
+}
+
+// The bytes of the character at a place.
+fn char_bytes(word: &[u8], place: usize) -> usize
+    requires { ⌜ place < length (now word) ⌝ }
+    ensures { λ r. ⌜ (r ≡ bytesOf (decodeAt (now (word .entry)) place)) × StepIn (now (word .entry)) place r ⌝ }
+{
+    match letters::decode(word, place) {
+        Step::Char { code: _, len } => len,
+        Step::Ill => 1,
+        Step::End => 1,
+    }
+}
+
+// An unmatched character: skipped in the main pass, appended in a final one.
+fn letter_turn(
+    last: bool,
+    store: &mut [u8],
+    lens: &mut [u8],
+    langs: &mut [u64],
+    ord: &mut [u8],
+    from: usize,
+    n: usize,
+    to: usize,
+    word: &[u8],
+    place: usize,
+    limit: usize,
+) -> Turned
+    requires { ⌜ Rooms (arena (now store) (now lens) (now langs) (now ord)) ⌝ }
+    requires { ⌜ SetAt (arena (now store) (now lens) (now langs) (now ord)) from n ⌝ }
+    requires { ⌜ (to < 4) × (from ≡ to → ⊥) ⌝ }
+    requires { ⌜ place < length (now word) ⌝ }
+    ensures { λ r. ⌜ TurnedAt (arena (now (store .entry)) (now (lens .entry)) (now (langs .entry)) (now (ord .entry))) (arena (now (store .exit)) (now (lens .exit)) (now (langs .exit)) (now (ord .exit))) last limit from n to (now (word .entry)) place (turnOn [] none (now (word .entry)) place) r ⌝ }
+{
+    let step = char_bytes(word, place);
+    if last {
+        let end = place + step;
+        match append(store, lens, langs, ord, from, n, to, &word[place..end]) {
+            Applied::Now(k) => Turned::Into {
+                texts: k,
+                step,
+                full: false,
+            },
+            Applied::TooLong => Turned::TooLong,
+        }
+    } else {
+        Turned::Kept { step }
+    }
+}
+
+// A rule's expression applied.
+fn apply_rule(
+    store: &mut [u8],
+    lens: &mut [u8],
+    langs: &mut [u64],
+    ord: &mut [u8],
+    starts: &mut [usize],
+    ends: &mut [usize],
+    sets: &mut [u64],
+    from: usize,
+    n: usize,
+    to: usize,
+    expr: &[u8],
+    names: &[u8],
+    limit: usize,
+) -> Applied
+    requires { ⌜ Rooms (arena (now store) (now lens) (now langs) (now ord)) ⌝ }
+    requires { ⌜ SetAt (arena (now store) (now lens) (now langs) (now ord)) from n ⌝ }
+    requires { ⌜ (to < 4) × (from ≡ to → ⊥) ⌝ }
+    requires { ⌜ TableRoom (now starts) (now ends) (now sets) ⌝ }
+    requires { ⌜ (length (now expr) < 256) × (limit ≤ 256) ⌝ }
+    ensures { λ r. ⌜ AppliedAt (arena (now (store .entry)) (now (lens .entry)) (now (langs .entry)) (now (ord .entry))) (arena (now (store .exit)) (now (lens .exit)) (now (langs .exit)) (now (ord .exit))) to r (apply limit (offered (now (names .entry)) (now (expr .entry))) (entriesAt (arena (now (store .entry)) (now (lens .entry)) (now (langs .entry)) (now (ord .entry))) from n)) ⌝ }
+{
+    let m = alternatives(expr, names, starts, ends, sets);
+    apply(
+        store,
+        lens,
+        langs,
+        ord,
+        from,
+        n,
+        to,
+        expr,
+        starts,
+        ends,
+        sets,
+        m,
+        limit,
+    )
+}
+
+// The turn at a place of a word: from set `from` with n texts into set `to`.
+fn turn(
+    last: bool,
+    store: &mut [u8],
+    lens: &mut [u8],
+    langs: &mut [u64],
+    ord: &mut [u8],
+    starts: &mut [usize],
+    ends: &mut [usize],
+    sets: &mut [u64],
+    from: usize,
+    n: usize,
+    to: usize,
+    pack: &[u8],
+    names: &[u8],
+    list: usize,
+    word: &[u8],
+    place: usize,
+    limit: usize,
+) -> Turned
+    requires { ⌜ Rooms (arena (now store) (now lens) (now langs) (now ord)) ⌝ }
+    requires { ⌜ SetAt (arena (now store) (now lens) (now langs) (now ord)) from n ⌝ }
+    requires { ⌜ (to < 4) × (from ≡ to → ⊥) ⌝ }
+    requires { ⌜ TableRoom (now starts) (now ends) (now sets) ⌝ }
+    requires { ⌜ (list ≤ length (now pack)) × (limit ≤ 256) ⌝ }
+    requires { ⌜ place < length (now word) ⌝ }
+    ensures { λ r. ⌜ TurnedAt (arena (now (store .entry)) (now (lens .entry)) (now (langs .entry)) (now (ord .entry))) (arena (now (store .exit)) (now (lens .exit)) (now (langs .exit)) (now (ord .exit))) last limit from n to (now (word .entry)) place (turnOn (now (names .entry)) (firstMatch (listAt (now (pack .entry)) list) (now (word .entry)) place) (now (word .entry)) place) r ⌝ }
+{
+    match first_match(pack, list, word, place) {
+        Matched::By {
+            step,
+            expression,
+            end,
+        } => match apply_rule(
+            store,
+            lens,
+            langs,
+            ord,
+            starts,
+            ends,
+            sets,
+            from,
+            n,
+            to,
+            &pack[expression..end],
+            names,
+            limit,
+        ) {
+            Applied::Now(k) => Turned::Into {
+                texts: k,
+                step,
+                full: limit <= k,
+            },
+            Applied::TooLong => Turned::TooLong,
+        },
+        Matched::Nothing => letter_turn(
+            last,
+            store,
+            lens,
+            langs,
+            ord,
+            from,
+            n,
+            to,
+            word,
+            place,
+            limit,
+        ),
+    }
+}
+
+// A pass over a word from the n texts of set `x`, the other set being `y`; the two take turns.
+pub(crate) fn run(
+    last: bool,
+    store: &mut [u8],
+    lens: &mut [u8],
+    langs: &mut [u64],
+    ord: &mut [u8],
+    starts: &mut [usize],
+    ends: &mut [usize],
+    sets: &mut [u64],
+    x: usize,
+    n: usize,
+    y: usize,
+    pack: &[u8],
+    names: &[u8],
+    list: usize,
+    word: &[u8],
+    limit: usize,
+) -> Passed
+    requires { ⌜ Rooms (arena (now store) (now lens) (now langs) (now ord)) ⌝ }
+    requires { ⌜ SetAt (arena (now store) (now lens) (now langs) (now ord)) x n ⌝ }
+    requires { ⌜ (y < 4) × (x ≡ y → ⊥) ⌝ }
+    requires { ⌜ TableRoom (now starts) (now ends) (now sets) ⌝ }
+    requires { ⌜ (list ≤ length (now pack)) × (limit ≤ 256) ⌝ }
+    ensures { λ r. ⌜ PassedAt (arena (now (store .entry)) (now (lens .entry)) (now (langs .entry)) (now (ord .entry))) (arena (now (store .exit)) (now (lens .exit)) (now (langs .exit)) (now (ord .exit))) x y (run last limit (turnsOf (now (names .entry)) (listAt (now (pack .entry)) list) (now (word .entry))) (entriesAt (arena (now (store .entry)) (now (lens .entry)) (now (langs .entry)) (now (ord .entry))) x n)) r ⌝ }
+{
+    let mut from = x;
+    let mut to = y;
+    let mut texts = n;
+    let mut place = 0;
+    let mut flag = false;
+    while place < word.len() {
+        match turn(
+            last,
+            store,
+            lens,
+            langs,
+            ord,
+            starts,
+            ends,
+            sets,
+            from,
+            texts,
+            to,
+            pack,
+            names,
+            list,
+            word,
+            place,
+            limit,
+        ) {
+            Turned::Into {
+                texts: k,
+                step,
+                full,
+            } => {
+                let other = from;
+                from = to;
+                to = other;
+                texts = k;
+                place += step;
+                flag = either(flag, full);
+            }
+            Turned::Kept { step } => {
+                place += step;
+            }
+            Turned::TooLong => {
+                return Passed::TooLong;
+            }
+        }
+    }
+    Passed::Now {
+        texts,
+        set: from,
+        flag,
+    }
+}

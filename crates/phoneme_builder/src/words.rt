@@ -1,0 +1,339 @@
+// A word spelled (01, Spelling a name, steps 6 to 9): the main pass, the final passes, common and then language, and the texts joined.
+ghost use mathlib.Core.Path.{_≡_};
+ghost use mathlib.Core.List.{_∷_};
+ghost use Prim.Native.Nat.{_+_, _≤_, _<_};
+ghost use lib.Dec.{leb};
+ghost use lib.ListN.{length};
+ghost use lib.Seq.{sets};
+ghost use Rattle.base.specs.Pick.{and};
+ghost use Rattle.languages.specs.Coded.{decoded, IsCode};
+ghost use Rattle.rule.specs.Expressions.{bar};
+ghost use Rattle.pack.specs.Places.{listAt};
+ghost use Rattle.phoneme_builder.specs.Buffers.{arena, Rooms, SetAt, entriesAt};
+ghost use Rattle.phoneme_builder.specs.Passes.{finalPass, then, wordOf, joined};
+ghost use Rattle.phoneme_builder.specs.Walks.{TableRoom, FinishedAt, TextsIn, textsIn, barred, GivenIs, areBuffers, areTables, arePlaces, WordIs};
+use crate::finals::Finished;
+use crate::finals::final_pass;
+use crate::pass::Passed;
+use crate::pass::either;
+use crate::pass::run;
+use crate::set::begin;
+use crate::set::put;
+use crate::set::text_of;
+use languages::LanguageSet;
+
+// How long the answer is, and the flag; or 7; or 8; or that the buffers, the limit or a list's place are not fit for the work.
+pub enum Worded {
+    Done { length: usize, flag: bool },
+    TooLong,
+    TooMany,
+    Unfit,
+}
+
+// The final passes from the n texts of set `set`, 0 or 1, into set 0.
+fn final_passes(
+    store: &mut [u8],
+    lens: &mut [u8],
+    langs: &mut [u64],
+    ord: &mut [u8],
+    starts: &mut [usize],
+    ends: &mut [usize],
+    sets: &mut [u64],
+    set: usize,
+    n: usize,
+    pack: &[u8],
+    names: &[u8],
+    common: usize,
+    last: usize,
+    limit: usize,
+) -> Finished
+    requires { ⌜ Rooms (arena (now store) (now lens) (now langs) (now ord)) ⌝ }
+    requires { ⌜ SetAt (arena (now store) (now lens) (now langs) (now ord)) set n ⌝ }
+    requires { ⌜ set < 2 ⌝ }
+    requires { ⌜ TableRoom (now starts) (now ends) (now sets) ⌝ }
+    requires { ⌜ (common ≤ length (now pack)) × (last ≤ length (now pack)) ⌝ }
+    requires { ⌜ limit ≤ 256 ⌝ }
+    ensures { λ r. ⌜ FinishedAt (arena (now (store .exit)) (now (lens .exit)) (now (langs .exit)) (now (ord .exit))) 0 (then (finalPass limit (now (names .entry)) (listAt (now (pack .entry)) common) (entriesAt (arena (now (store .entry)) (now (lens .entry)) (now (langs .entry)) (now (ord .entry))) set n)) (finalPass limit (now (names .entry)) (listAt (now (pack .entry)) last))) r ⌝ }
+{
+    let other = 1 - set;
+    match final_pass(
+        store,
+        lens,
+        langs,
+        ord,
+        starts,
+        ends,
+        sets,
+        set,
+        n,
+        2,
+        other,
+        3,
+        pack,
+        names,
+        common,
+        limit,
+    ) {
+        Finished::Into { texts, flag } => match final_pass(
+            store,
+            lens,
+            langs,
+            ord,
+            starts,
+            ends,
+            sets,
+            2,
+            texts,
+            0,
+            1,
+            3,
+            pack,
+            names,
+            last,
+            limit,
+        ) {
+            Finished::Into {
+                texts: k,
+                flag: more,
+            } => Finished::Into {
+                texts: k,
+                flag: either(flag, more),
+            },
+            Finished::TooLong => Finished::TooLong,
+            Finished::TooMany => Finished::TooMany,
+        },
+        Finished::TooLong => Finished::TooLong,
+        Finished::TooMany => Finished::TooMany,
+    }
+}
+
+// The word's texts, in set 0.
+fn spell_word(
+    store: &mut [u8],
+    lens: &mut [u8],
+    langs: &mut [u64],
+    ord: &mut [u8],
+    starts: &mut [usize],
+    ends: &mut [usize],
+    sets: &mut [u64],
+    pack: &[u8],
+    names: &[u8],
+    main: usize,
+    common: usize,
+    last: usize,
+    g: u64,
+    word: &[u8],
+    limit: usize,
+) -> Finished
+    requires { ⌜ Rooms (arena (now store) (now lens) (now langs) (now ord)) ⌝ }
+    requires { ⌜ TableRoom (now starts) (now ends) (now sets) ⌝ }
+    requires { ⌜ (main ≤ length (now pack)) × (common ≤ length (now pack)) × (last ≤ length (now pack)) ⌝ }
+    requires { ⌜ IsCode g ⌝ }
+    requires { ⌜ limit ≤ 256 ⌝ }
+    ensures { λ r. ⌜ FinishedAt (arena (now (store .exit)) (now (lens .exit)) (now (langs .exit)) (now (ord .exit))) 0 (wordOf limit (now (names .entry)) (listAt (now (pack .entry)) main) (listAt (now (pack .entry)) common) (listAt (now (pack .entry)) last) (decoded g) (now (word .entry))) r ⌝ }
+{
+    let n = begin(store, lens, langs, ord, 0, g);
+    match run(
+        false,
+        store,
+        lens,
+        langs,
+        ord,
+        starts,
+        ends,
+        sets,
+        0,
+        n,
+        1,
+        pack,
+        names,
+        main,
+        word,
+        limit,
+    ) {
+        Passed::Now { texts, set, flag } => match final_passes(
+            store,
+            lens,
+            langs,
+            ord,
+            starts,
+            ends,
+            sets,
+            set,
+            texts,
+            pack,
+            names,
+            common,
+            last,
+            limit,
+        ) {
+            Finished::Into {
+                texts: k,
+                flag: more,
+            } => Finished::Into {
+                texts: k,
+                flag: either(flag, more),
+            },
+            Finished::TooLong => Finished::TooLong,
+            Finished::TooMany => Finished::TooMany,
+        },
+        Passed::TooLong => Finished::TooLong,
+    }
+}
+
+// The bytes of the n texts of set 0 with a bar behind each.
+fn bytes_barred(store: &[u8], lens: &[u8], ord: &[u8], n: usize) -> usize
+    requires { ⌜ TextsIn (now store) (now lens) (now ord) n ⌝ }
+    ensures { λ r. ⌜ r ≡ barred (textsIn (now (store .entry)) (now (lens .entry)) (now (ord .entry)) n) ⌝ }
+{
+    let mut i = 0;
+    let mut total = 0;
+    while i < n {
+        total += text_of(store, lens, ord, 0, i).len() + 1;
+        i += 1;
+    }
+    total
+}
+
+// A bar and t, into out from a place on. Returns the place behind them.
+fn put_barred(out: &mut [u8], at: usize, t: &[u8]) -> usize
+    requires { ⌜ at + 1 + length (now t) ≤ length (now out) ⌝ }
+    ensures { λ r. ⌜ (now (out .exit) ≡ sets (now (out .entry)) at (bar ∷ now (t .entry))) × (r ≡ at + 1 + length (now (t .entry))) ⌝ }
+{
+    out[at] = b'|';
+    put(out, at + 1, t);
+    at + 1 + t.len()
+}
+
+// The n texts of set 0, joined by bars, into out from a place on.
+fn put_joined(store: &[u8], lens: &[u8], ord: &[u8], n: usize, out: &mut [u8], at: usize)
+    requires { ⌜ TextsIn (now store) (now lens) (now ord) n ⌝ }
+    requires { ⌜ 0 < n ⌝ }
+    requires { ⌜ at + length (joined (textsIn (now store) (now lens) (now ord) n)) ≤ length (now out) ⌝ }
+    ensures { λ r. ⌜ now (out .exit) ≡ sets (now (out .entry)) at (joined (textsIn (now (store .entry)) (now (lens .entry)) (now (ord .entry)) n)) ⌝ }
+{
+    let t = text_of(store, lens, ord, 0, 0);
+    put(out, at, t);
+    let mut p = at + t.len();
+    let mut i = 1;
+    while i < n {
+        p = put_barred(out, p, text_of(store, lens, ord, 0, i));
+        i += 1;
+    }
+}
+
+// The joined texts of set 0 where they fit into out from a place on. Returns their length.
+fn give(store: &[u8], lens: &[u8], ord: &[u8], n: usize, out: &mut [u8], at: usize) -> usize
+    requires { ⌜ TextsIn (now store) (now lens) (now ord) n ⌝ }
+    ensures { λ r. ⌜ GivenIs (textsIn (now (store .entry)) (now (lens .entry)) (now (ord .entry)) n) (now (out .entry)) (now (out .exit)) at r ⌝ }
+{
+    if n == 0 {
+        return 0;
+    }
+    let length = bytes_barred(store, lens, ord, n) - 1;
+    let room = out.len();
+    if room < at {
+        return length;
+    }
+    if room - at < length {
+        return length;
+    }
+    put_joined(store, lens, ord, n, out, at);
+    length
+}
+
+// Whether buffers have these sizes: four sets of 257 rows, and the tables of an expression's alternatives.
+fn are_buffers(store: usize, lens: usize, langs: usize, ord: usize) -> bool
+    ensures { λ r. ⌜ r ≡ areBuffers store lens langs ord ⌝ }
+{
+    if store == 131584 {
+        if lens == 1028 {
+            if langs == 1028 {
+                return ord == 1024;
+            }
+        }
+    }
+    false
+}
+
+fn are_tables(starts: usize, ends: usize, sets: usize) -> bool
+    ensures { λ r. ⌜ r ≡ areTables starts ends sets ⌝ }
+{
+    if starts == 256 {
+        if ends == 256 {
+            return sets == 256;
+        }
+    }
+    false
+}
+
+fn are_places(pack: usize, main: usize, common: usize, last: usize) -> bool
+    ensures { λ r. ⌜ r ≡ arePlaces pack main common last ⌝ }
+{
+    if main <= pack {
+        if common <= pack {
+            return last <= pack;
+        }
+    }
+    false
+}
+
+// A word spelled from the lists at places of a pack, with the start languages `set`: its texts, joined by bars, go into `out` from
+// `at` on where they fit, else `out` stays as it is. The first seven buffers are lent for the work.
+pub fn word(
+    store: &mut [u8],
+    lens: &mut [u8],
+    langs: &mut [u64],
+    ord: &mut [u8],
+    starts: &mut [usize],
+    ends: &mut [usize],
+    sets: &mut [u64],
+    pack: &[u8],
+    names: &[u8],
+    main: usize,
+    common: usize,
+    last: usize,
+    set: LanguageSet,
+    word: &[u8],
+    limit: usize,
+    out: &mut [u8],
+    at: usize,
+) -> Worded
+    ensures { λ r. ⌜ WordIs (and (leb limit 256) (and (areBuffers (length (now (store .entry))) (length (now (lens .entry))) (length (now (langs .entry))) (length (now (ord .entry)))) (and (areTables (length (now (starts .entry))) (length (now (ends .entry))) (length (now (sets .entry)))) (arePlaces (length (now (pack .entry))) main common last)))) (wordOf limit (now (names .entry)) (listAt (now (pack .entry)) main) (listAt (now (pack .entry)) common) (listAt (now (pack .entry)) last) set (now (word .entry))) (now (out .entry)) (now (out .exit)) at r ⌝ }
+{
+    if 256 < limit {
+        return Worded::Unfit;
+    }
+    if are_buffers(store.len(), lens.len(), langs.len(), ord.len()) {
+        if are_tables(starts.len(), ends.len(), sets.len()) {
+            if are_places(pack.len(), main, common, last) {
+                let g = languages::coded(set);
+                return match spell_word(
+                    store,
+                    lens,
+                    langs,
+                    ord,
+                    starts,
+                    ends,
+                    sets,
+                    pack,
+                    names,
+                    main,
+                    common,
+                    last,
+                    g,
+                    word,
+                    limit,
+                ) {
+                    Finished::Into { texts, flag } => Worded::Done {
+                        length: give(store, lens, ord, texts, out, at),
+                        flag,
+                    },
+                    Finished::TooLong => Worded::TooLong,
+                    Finished::TooMany => Worded::TooMany,
+                };
+            }
+        }
+    }
+    Worded::Unfit
+}
