@@ -263,32 +263,57 @@ pub fn two_decimals(rest: &[u8]) -> Numbers {
     }
 }
 
-// Whether a run of fields is decimal numbers, and where it ends.
-pub struct Run {
+// The number of a field that is not the last; `at` is behind the field.
+struct Counted {
+    value: u32,
+    at: usize,
+    good: bool,
+}
+
+// The number of the next field from `at` on.
+fn decimal_at(rest: &[u8], at: usize) -> Counted
+    requires { ⌜ at ≤ length (now rest) ⌝ }
+    ensures { λ r. ⌜ r .at ≤ length (now (rest .entry)) ⌝ }
+{
+    let f = next(rest, at);
+    let from = f.from;
+    let to = f.to;
+    match decimal(&rest[from..to]) {
+        Number::Is(value) => Counted {
+            value,
+            at: to,
+            good: true,
+        },
+        Number::Bad => Counted {
+            value: 0,
+            at: to,
+            good: false,
+        },
+    }
+}
+
+// Three of them.
+pub struct Three {
+    pub first: u32,
+    pub second: u32,
+    pub third: u32,
     pub at: usize,
     pub good: bool,
 }
 
-// The numbers of the first fields, as many as into takes.
-pub fn decimals(rest: &[u8], into: &mut [u32]) -> Run
+// The numbers of the next three fields from `at` on.
+pub fn three_decimals(rest: &[u8], at: usize) -> Three
+    requires { ⌜ at ≤ length (now rest) ⌝ }
     ensures { λ r. ⌜ r .at ≤ length (now (rest .entry)) ⌝ }
 {
-    let mut at: usize = 0;
-    let mut i: usize = 0;
-    while i < into.len() {
-        let f = next(rest, at);
-        let from = f.from;
-        let to = f.to;
-        match decimal(&rest[from..to]) {
-            Number::Is(n) => {
-                into[i] = n;
-            }
-            Number::Bad => {
-                return Run { at, good: false };
-            }
-        }
-        at = to;
-        i += 1;
+    let a = decimal_at(rest, at);
+    let b = decimal_at(rest, a.at);
+    let c = decimal_at(rest, b.at);
+    Three {
+        first: a.value,
+        second: b.value,
+        third: c.value,
+        at: c.at,
+        good: a.good && b.good && c.good,
     }
-    Run { at, good: true }
 }

@@ -1,5 +1,6 @@
 // The cases of the crate phoneme_builder.
 use crate::fields;
+use crate::fields::Three;
 use crate::said::Said;
 use languages::LanguageSet;
 use pack::Surveyed;
@@ -34,6 +35,14 @@ fn place_of(places: &[usize], languages: usize, number: u32) -> usize {
     usize::MAX
 }
 
+// An answer of so many bytes, where there is room for it.
+fn fitted(flag: bool, length: usize, room: usize) -> Said {
+    if length <= room {
+        return Said::Spelled(flag, length);
+    }
+    Said::NoCase
+}
+
 // A word spelled from three lists of a pack.
 fn spelled(
     kept: &[u8],
@@ -43,7 +52,7 @@ fn spelled(
     last: usize,
     set: LanguageSet,
     word: &[u8],
-    limit: u32,
+    limit: usize,
     made: &mut [u8],
 ) -> Said {
     let mut store = [0u8; 131584];
@@ -68,68 +77,55 @@ fn spelled(
         last,
         set,
         word,
-        limit as usize,
+        limit,
         made,
         0,
     ) {
-        Worded::Done { length, flag } => Said::Spelled(flag, length),
+        Worded::Done { length, flag } => fitted(flag, length, made.len()),
         Worded::TooLong => Said::Number(7),
         Worded::TooMany => Said::Number(8),
         Worded::Unfit => Said::NoCase,
     }
 }
 
-// The word of a case, from the lists by their numbers.
-fn of_lists(
-    kept: &[u8],
-    places: &[usize],
-    languages: usize,
-    guesses: usize,
-    n: &[u32],
-    word: &[u8],
-    made: &mut [u8],
-) -> Said {
-    if n.len() == 6 {
+// The names of a pack, by the place of its guessing section.
+fn names_of(kept: &[u8], guesses: usize) -> &[u8] {
+    if guesses <= kept.len() {
         if 1 <= guesses {
-            if guesses <= kept.len() {
-                return spelled(
-                    kept,
-                    &kept[1..guesses],
-                    place_of(places, languages, n[0]),
-                    place_of(places, languages, n[1]),
-                    place_of(places, languages, n[2]),
-                    set_of(n[4], n[5]),
-                    word,
-                    n[3],
-                    made,
-                );
-            }
+            return &kept[1..guesses];
         }
     }
-    Said::NoCase
+    &kept[0..0]
 }
 
-fn worded(kept: &[u8], n: &[u32], word: &[u8], made: &mut [u8]) -> Said {
+// A word spelled from the lists of these numbers; `more` is the limit and the set's kind and bits.
+fn worded(kept: &[u8], lists: Three, more: Three, word: &[u8], made: &mut [u8]) -> Said {
     let mut places = [0usize; 98];
     match pack::survey(kept, &mut places) {
-        Surveyed::Accepted { languages, guesses } => {
-            of_lists(kept, &places, languages, guesses, n, word, made)
-        }
+        Surveyed::Accepted { languages, guesses } => spelled(
+            kept,
+            names_of(kept, guesses),
+            place_of(&places, languages, lists.first),
+            place_of(&places, languages, lists.second),
+            place_of(&places, languages, lists.third),
+            set_of(more.second, more.third),
+            word,
+            more.first as usize,
+            made,
+        ),
         Surveyed::Refused(place) => Said::Five(place),
     }
 }
 
-// `word MAIN COMMON LAST LIMIT KIND BITS WORD`: a word spelled from the lists of these numbers.
+// `word MAIN COMMON LAST LIMIT KIND BITS WORD`.
 pub fn said_of(rest: &[u8], given: &mut [u8], made: &mut [u8], kept: &[u8]) -> Said {
-    let mut n = [0u32; 6];
-    let d = fields::decimals(rest, &mut n);
-    if d.good {
-        let at = d.at;
-        let a = fields::one_hex(&rest[at..], given);
-        if a.good {
-            let m = a.count;
-            return worded(kept, &n, &given[0..m], made);
-        }
+    let lists = fields::three_decimals(rest, 0);
+    let more = fields::three_decimals(rest, lists.at);
+    let at = more.at;
+    let a = fields::one_hex(&rest[at..], given);
+    if lists.good && more.good && a.good {
+        let n = a.count;
+        return worded(kept, lists, more, &given[0..n], made);
     }
     Said::NoCase
 }
