@@ -8,35 +8,27 @@ use Rattle.phoneme_builder.proofs.finals.start_text.Lts as lts
 use Rattle.phoneme_builder.proofs.set.begin.Reads as begin-reads
 use Rattle.phoneme_builder.proofs.set.copy_text.Reads as copy-text-reads
 
--- src/finals.rt:47:9
 copy-text-requires : tie.Need-copy-text-requires
 copy-text-requires c κs = (text-in (c .before .before .before .before .before .before .before .before .before .pre .0) (c .before .before .before .before .before .before .before .before .before .pre .1 .0) _ (c .before .before .before .before .before .before .before .before .before .pre .1 .1 .0), c .before .before .before .before .before .before .before .before .before .pre .1 .1 .1 .1 .1)
 
--- src/finals.rt:48:5
 begin-requires : tie.Need-begin-requires
 begin-requires c κs = search needs
 
--- src/finals.rt:27:1
 same-length : tie.Need-same-length
 same-length c = search needs
 
--- src/finals.rt:27:1
 same-length-2 : tie.Need-same-length-2
 same-length-2 c = search needs
 
--- src/finals.rt:27:1
 same-length-3 : tie.Need-same-length-3
 same-length-3 c = search needs
 
--- src/finals.rt:27:1
 same-length-4 : tie.Need-same-length-4
 same-length-4 c = search needs
 
--- src/finals.rt:27:1
 same-length-5 : tie.Need-same-length-5
 same-length-5 c = search needs
 
--- src/finals.rt:27:1
 returns : tie.Need-returns
 returns c = started _ _ _ _ _ _ _ _ _ (c .before .before .before .before .before .before .before .before .before .before .before .before .before .before .before .copy-text .ensures) (c .before .before .before .before .before .before .before .before .begin .ensures)
 
