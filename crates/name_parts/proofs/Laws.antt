@@ -1,0 +1,376 @@
+-- What the crates above use of names and of writing, without the definitions. Assumes nothing.
+use mathlib.Core.Path.{_≡_, refl, sym, ap, ap₂, _∙_}
+use mathlib.Core.Bool.{Bool, true, false, not}
+use mathlib.Core.List.{List, [], _∷_, _++_}
+use Prim.Native.Nat.{ℕ, zero, suc, _+_, _-_, _*_, _≤_, _<_, min, zero-le, suc-le-suc}
+use native.Mathlib.Nat.{le-trans}
+use native.Mathlib.Decide.{decLe}
+use native.Mathlib.Omega.{arith}
+use lib.Dec.{eqb}
+use lib.ListN.{length, take, drop, set, length-set, length-append, length-drop, length-take, length-map}
+use lib.Seq.{sets, set-out, take-at, take-length, drop-length, drop-drop, sets-eq, length-sets, length-take-le}
+use borrow.Author.Tests.{eqb-true, not-true, not-false}
+use Rattle.base.specs.Pick.{pick, pick-true, pick-false, pick-all, and-inv}
+use Rattle.base.proofs.Stores.{sets-then}
+use Rattle.texts.specs.Parts.{has, prefixOf}
+use Rattle.texts.proofs.Laws.{prefix-short, first-some-by}
+use Rattle.name_parts.specs.Writing.{Put, cap}
+use Rattle.name_parts.specs.Words.{goesOn, led, wordsOf, firstOf, wordAt, spaces, letters, wordStart, wordEnd, pastWord, oneWord}
+use Rattle.name_parts.specs.Prefixes.{generic, prefixesOf, fits, firstFit, splitOf}
+use Rattle.name_parts.specs.Joining.{spaced, joinedName, afterApostrophe, keptOf, dropsOut, remaining, joinedBySpace, joinedWords}
+use Rattle.name_parts.specs.declared.prefixes.NameType.{NameType}
+use Rattle.name_parts.specs.declared.prefixes.NameType.the-variants.{Ashkenazi, Generic, Sephardic}
+use Rattle.name_parts.specs.declared.prefixes.Prefix.{Prefix}
+use Rattle.name_parts.specs.declared.prefixes.Prefix.the-variants.{Parted}
+
+pub clash : {A : Type 0} → _≡_ {A = ℕ} 0 1 → A
+clash e = absurd (omega arith)
+
+-- ---- writing what fits
+
+sets-out : (vs l : List ℕ) (i : ℕ) → length l ≤ i → sets l i vs ≡ l
+sets-out [] l i h = refl
+sets-out (v ∷ vs) l i h = sets-out vs (set l i v) (suc i) (omega (arith, length-set l i v)) ∙ set-out l i v h
+
+sets-cap : (l : List ℕ) (i : ℕ) (vs : List ℕ) → length l ≤ cap → sets l (min i cap) vs ≡ sets l i vs
+sets-cap l i vs h = elim (decLe i cap) [
+  | yes k ↦ let e : min i cap ≡ i = omega arith in rw e refl
+  | no k ↦ sets-out vs l (min i cap) (omega arith) ∙ sym (sets-out vs l i (omega arith))
+]
+
+-- what is known of a slice of bytes, as the logic states it
+pub slice-room : (o : List ℕ) → length o * 1 < cap → length o < cap
+slice-room o h = omega arith
+
+pub put-none : (o : List ℕ) (at : ℕ) → length o < cap → at ≤ cap → Put o o at at []
+put-none o at r h = record { wrote = refl; ends = omega arith; room = r }
+
+-- one text, and then another
+pub put-then : {o o₁ o₂ : List ℕ} {at p q : ℕ} {t u : List ℕ} → Put o o₁ at p t → Put o₁ o₂ p q u → Put o o₂ at q (t ++ u)
+put-then {o} {o₁} {o₂} {at} {p} {q} {t} {u} x y = record {
+  wrote = y .wrote ∙ rw (x .wrote, x .ends) (sets-cap (sets o at t) (at + length t) u (omega (arith, x .room, length-sets o at t)) ∙ sets-then o at t u);
+  ends = omega (arith, x .ends, y .ends, length-append t u);
+  room = x .room;
+}
+
+pub put-long : (o o₁ : List ℕ) (at p : ℕ) (t : List ℕ) → Put o o₁ at p t → length o₁ ≡ length o
+put-long o o₁ at p t x = ap length (x .wrote) ∙ length-sets o at t
+
+pub put-place : (o o₁ : List ℕ) (at p : ℕ) (t : List ℕ) → Put o o₁ at p t → p ≤ cap
+put-place o o₁ at p t x = omega (arith, x .ends)
+
+-- a text that fits stands at the front, whole
+pub put-fits : {o o′ : List ℕ} {r : ℕ} {t : List ℕ} → Put o o′ 0 r t → length t ≤ length o → (r ≡ length t) × (take r o′ ≡ t)
+put-fits {o} {o′} {r} {t} x h =
+    let e : r ≡ length t = omega (arith, x .ends, x .room) in
+    (e, rw (x .wrote, sets-eq t o 0 (omega arith)) (take-at t _ r (sym e)))
+
+-- ---- the first word of a text, and what follows it
+
+-- what follows the spaces in front
+abbrev body : List ℕ → List ℕ
+body l = drop (spaces l) l
+
+stops : (l : List ℕ) → goesOn l ≡ false → letters l ≡ 0
+unfolding goesOn letters
+stops [] e = refl
+stops (b ∷ l) e = pick-true _ _ _ (not-false _ e)
+
+alone : (b : ℕ) (ws : List (List ℕ)) → led b false ws ≡ (b ∷ []) ∷ ws
+unfolding led pick
+alone b [] = refl
+alone b (w ∷ ws) = refl
+
+led-by : (b : ℕ) (l : List ℕ) (more : Bool) → goesOn l ≡ more → (goesOn l ≡ true → wordsOf l ≡ take (letters l) l ∷ wordsOf (drop (letters l) l))
+    → led b more (wordsOf l) ≡ (b ∷ take (letters l) l) ∷ wordsOf (drop (letters l) l)
+unfolding led pick
+led-by b l true e ih = ap (led b true) (ih e)
+led-by b l false e ih = alone b (wordsOf l) ∙ rw (stops l e) refl
+
+-- a text that starts with a word
+words-go : (l : List ℕ) → goesOn l ≡ true → wordsOf l ≡ take (letters l) l ∷ wordsOf (drop (letters l) l)
+unfolding goesOn letters wordsOf
+words-go [] e = clash (cc)
+words-go (b ∷ l) e =
+    let n = not-true _ e in
+    pick-false _ _ _ n ∙ led-by b l (goesOn l) refl (words-go l) ∙ rw (pick-false _ 0 (suc (letters l)) n) refl
+
+-- a text that is one word
+words-one : (w : List ℕ) → goesOn w ≡ true → letters w ≡ length w → wordsOf w ≡ w ∷ []
+unfolding wordsOf
+words-one w e n = words-go w e ∙ rw (n, take-length w, drop-length w) refl
+
+skip-by : (b : ℕ) (l : List ℕ) (t : Bool) → eqb b 32 ≡ t → wordsOf l ≡ wordsOf (body l) → wordsOf (b ∷ l) ≡ wordsOf (body (b ∷ l))
+unfolding wordsOf spaces
+skip-by b l true e ih = pick-true _ _ _ e ∙ ih ∙ sym (ap (λ (n : ℕ). wordsOf (drop n (b ∷ l))) (pick-true _ _ _ e))
+skip-by b l false e ih = sym (ap (λ (n : ℕ). wordsOf (drop n (b ∷ l))) (pick-false _ _ _ e))
+
+-- spaces in front are passed
+words-skip : (l : List ℕ) → wordsOf l ≡ wordsOf (body l)
+unfolding spaces
+words-skip [] = refl
+words-skip (b ∷ l) = skip-by b l _ refl (words-skip l)
+
+end-by : (b : ℕ) (l : List ℕ) (t : Bool) → eqb b 32 ≡ t → (goesOn (body l) ≡ false → body l ≡ []) → goesOn (body (b ∷ l)) ≡ false → body (b ∷ l) ≡ []
+unfolding spaces goesOn pick
+end-by b l true e ih = rw e ih
+end-by b l false e ih = rw e (λ n. clash (cc))
+
+body-end : (l : List ℕ) → goesOn (body l) ≡ false → body l ≡ []
+unfolding spaces
+body-end [] e = refl
+body-end (b ∷ l) e = end-by b l _ refl (body-end l) e
+
+spaces-within : (l : List ℕ) → spaces l ≤ length l
+unfolding spaces
+spaces-within [] = zero-le
+spaces-within (b ∷ l) = pick-all (λ (n : ℕ). n ≤ suc (length l)) (eqb b 32) _ _ (suc-le-suc (spaces-within l)) zero-le
+
+pub letters-within : (l : List ℕ) → letters l ≤ length l
+unfolding letters
+letters-within [] = zero-le
+letters-within (b ∷ l) = pick-all (λ (n : ℕ). n ≤ suc (length l)) (eqb b 32) _ _ zero-le (suc-le-suc (letters-within l))
+
+goes-some : (l : List ℕ) → goesOn l ≡ true → 1 ≤ letters l
+unfolding goesOn letters
+goes-some [] e = clash (cc)
+goes-some (b ∷ l) e = rw (pick-false _ 0 (suc (letters l)) (not-true _ e)) (omega arith)
+
+cut-by : (b : ℕ) (l : List ℕ) (t : Bool) → eqb b 32 ≡ t → letters (take (letters l) l) ≡ letters l
+    → (letters (take (letters (b ∷ l)) (b ∷ l)) ≡ letters (b ∷ l)) × (goesOn (take (letters (b ∷ l)) (b ∷ l)) ≡ goesOn (b ∷ l))
+unfolding letters goesOn pick
+cut-by b l true e ih = rw e (refl, refl)
+cut-by b l false e ih = rw e (rw e (ap suc ih, refl))
+
+-- a word goes on as far as the text from which it is cut
+letters-cut : (l : List ℕ) → letters (take (letters l) l) ≡ letters l
+unfolding letters
+letters-cut [] = refl
+letters-cut (b ∷ l) = cut-by b l _ refl (letters-cut l) .0
+
+goes-cut : (l : List ℕ) → goesOn (take (letters l) l) ≡ goesOn l
+unfolding letters
+goes-cut [] = refl
+goes-cut (b ∷ l) = cut-by b l _ refl (letters-cut l) .1
+
+none-goes : (l : List ℕ) (t : Bool) → goesOn l ≡ t → letters l ≡ 0 → goesOn l ≡ false
+none-goes l true e n = absurd (omega (arith, goes-some l e))
+none-goes l false e n = e
+
+some-goes : (l : List ℕ) (t : Bool) → goesOn l ≡ t → (letters l ≡ 0 → ⊥) → goesOn l ≡ true
+some-goes l true e n = e
+some-goes l false e n = absurd (n (stops l e))
+
+words-by : (l : List ℕ) (t : Bool) → goesOn (body l) ≡ t → wordsOf l ≡ pick t (take (letters (body l)) (body l) ∷ wordsOf (drop (letters (body l)) (body l))) []
+unfolding pick wordsOf
+words-by l true e = words-skip l ∙ words-go (body l) e
+words-by l false e = words-skip l ∙ ap wordsOf (body-end l e)
+
+first-by : (l : List ℕ) (t : Bool) → goesOn (body l) ≡ t → firstOf (wordsOf l) ≡ take (letters (body l)) (body l)
+unfolding pick firstOf
+first-by l true e = ap firstOf (words-by l true e)
+first-by l false e = ap firstOf (words-by l false e) ∙ rw (stops (body l) e) refl
+
+module _ (s : List ℕ) (p : ℕ) where
+  -- what the word is cut from
+  abbrev from : List ℕ
+  from = body (drop p s)
+
+  pub word-is : wordAt s p ≡ take (letters from) from
+  unfolding wordAt
+  word-is = first-by (drop p s) _ refl
+
+  word-long : length (wordAt s p) ≡ letters from
+  word-long = ap length word-is ∙ length-take-le _ _ (letters-within from)
+
+  past-is : pastWord s p ≡ p + spaces (drop p s) + letters from
+  unfolding pastWord wordEnd wordStart
+  past-is = ap (λ (l : List ℕ). p + spaces (drop p s) + letters l) (sym (drop-drop (spaces (drop p s)) p s))
+
+  past-drop : drop (letters from) from ≡ drop (pastWord s p) s
+  past-drop = ap (drop (letters from)) (drop-drop (spaces (drop p s)) p s) ∙ drop-drop (letters from) (p + spaces (drop p s)) s ∙ ap (λ (n : ℕ). drop n s) (sym past-is)
+
+  -- what the word and the spaces before it take
+  within : spaces (drop p s) + letters from ≤ length s - p
+  within = omega (arith, spaces-within (drop p s), letters-within from, length-drop (spaces (drop p s)) (drop p s), length-drop p s)
+
+  pub words-none : length (wordAt s p) ≡ 0 → wordsOf (drop p s) ≡ []
+  unfolding pick
+  words-none h = words-by (drop p s) false (none-goes from _ refl (sym word-long ∙ h))
+
+  pub word-within : p + length (wordAt s p) ≤ pastWord s p
+  word-within = omega (arith, word-long, past-is)
+
+  pub word-part : length (wordAt s p) ≤ length s - p
+  word-part = omega (arith, word-long, within)
+
+  module _ (h : length (wordAt s p) ≡ 0 → ⊥) where
+    goes : goesOn from ≡ true
+    goes = some-goes from _ refl (λ z. h (word-long ∙ z))
+
+    pub words-next : wordsOf (drop p s) ≡ wordAt s p ∷ wordsOf (drop (pastWord s p) s)
+    unfolding pick
+    words-next = words-by (drop p s) true goes ∙ ap₂ _∷_ (sym word-is) (ap wordsOf past-drop)
+
+    pub word-later : p < pastWord s p
+    word-later = omega (arith, past-is, goes-some from goes)
+
+    pub past-within : pastWord s p ≤ length s
+    past-within = omega (arith, past-is, within, goes-some from goes)
+
+    pub word-past : (p < pastWord s p) × (pastWord s p ≤ length s)
+    word-past = (word-later, past-within)
+
+    -- a word is its own only word
+    words-again : wordsOf (wordAt s p) ≡ wordAt s p ∷ []
+    words-again = rw word-is (words-one _ (goes-cut from ∙ goes) (letters-cut from ∙ sym (length-take-le _ _ (letters-within from))))
+
+    pub one-again : oneWord (wordAt s p) ≡ true
+    unfolding oneWord
+    one-again = ap (λ (ws : List (List ℕ)). eqb (length ws) 1) words-again
+
+    pub word-again : wordAt (wordAt s p) 0 ≡ wordAt s p
+    unfolding wordAt firstOf
+    word-again = ap firstOf words-again
+
+only : (ws : List (List ℕ)) → length ws ≡ 1 → ws ≡ firstOf ws ∷ []
+unfolding firstOf
+only [] e = clash e
+only (w ∷ []) e = refl
+only (w ∷ v ∷ ws) e = absurd (omega arith)
+
+pub one-is : (s : List ℕ) → oneWord s ≡ true → wordsOf s ≡ wordAt s 0 ∷ []
+unfolding oneWord wordAt
+one-is s e = only (wordsOf s) (eqb-true _ _ e)
+
+-- a name that is its own first word
+one-whole : (s : List ℕ) → spaces s ≡ 0 → letters (body s) ≡ length s → goesOn (body s) ≡ true → oneWord s ≡ true
+unfolding oneWord
+one-whole s z n e =
+    let b : body s ≡ s = ap (λ (k : ℕ). drop k s) z in
+    ap (λ (ws : List (List ℕ)). eqb (length ws) 1) (words-one s (rw b at e) (rw b at n))
+
+-- the words of a name with more than one are shorter
+pub word-shorter : (s : List ℕ) (p : ℕ) → oneWord s ≡ false → (length (wordAt s p) ≡ 0 → ⊥) → length (wordAt s p) < length s
+word-shorter s (suc p) o h = omega (arith, word-part s (suc p), word-long s (suc p), goes-some _ (goes s (suc p) h))
+word-shorter s zero o h = elim (decLe (length s) (length (wordAt s 0))) [
+  | yes k ↦ let e = one-whole s (omega (arith, within s 0, word-long s 0)) (omega (arith, within s 0, word-long s 0)) (goes s 0 h) in clash (cc)
+  | no k ↦ omega arith
+]
+
+-- ---- where a name is parted
+
+prefix-within : (t s : List ℕ) → prefixOf t s ≡ true → length t ≤ length s
+prefix-within t s e = elim (decLe (length t) (length s)) [
+  | yes k ↦ k
+  | no k ↦ let n = prefix-short t s (omega arith) in clash (cc)
+]
+
+fits-within : (p s : List ℕ) → fits p s ≡ true → length p < length s
+unfolding fits
+fits-within p s e = let l = first-some-by 32 (drop (length p) s) true (sym (and-inv _ _ e .1)) refl in omega (arith, length-drop (length p) s)
+
+-- no text of a list is empty
+unfoldable filled : List (List ℕ) → Bool
+filled [] = true
+filled ([] ∷ ps) = false
+filled ((b ∷ p) ∷ ps) = filled ps
+
+abbrev Parts : List ℕ → ℕ → ℕ → Type 0
+Parts s keep skip = (keep < skip) × (skip ≤ length s) × (1 ≤ keep)
+
+fit-by : (s : List ℕ) (keep skip n : ℕ) (x : Prefix) (t : Bool) → (t ≡ true → suc n < length s) → (x ≡ Parted keep skip → Parts s keep skip)
+    → pick t (Parted (suc n) (suc (suc n))) x ≡ Parted keep skip → Parts s keep skip
+unfolding pick
+fit-by s keep skip n x true h ih e =
+    let k : suc n ≡ keep = cc in
+    let l : suc (suc n) ≡ skip = cc in
+    let m = h refl in
+    (omega arith, omega arith, omega arith)
+fit-by s keep skip n x false h ih e = ih e
+
+fit-within : (ps : List (List ℕ)) (s : List ℕ) (keep skip : ℕ) → filled ps ≡ true → firstFit ps s ≡ Parted keep skip → Parts s keep skip
+unfolding filled firstFit
+fit-within [] s keep skip f e = clash (cc)
+fit-within ([] ∷ ps) s keep skip f e = clash (cc)
+fit-within ((b ∷ p) ∷ ps) s keep skip f e = fit-by s keep skip (length p) _ _ (fits-within (b ∷ p) s) (fit-within ps s keep skip f) e
+
+module _ (s : List ℕ) (keep skip : ℕ) (e : splitOf s ≡ Parted keep skip) where
+  -- the prefix is not empty, the remainder stands behind it, and both within the name
+  pub split-within : (keep < skip) × (skip ≤ length s) × (1 ≤ keep)
+  unfolding splitOf prefixesOf filled
+  split-within = fit-by s keep skip 0 _ _ (prefix-within (100 ∷ 39 ∷ []) s) (fit-within generic s keep skip refl) e
+
+  pub rest-shorter : length (drop skip s) < length s
+  rest-shorter = let w = split-within in omega (arith, length-drop skip s)
+
+  pub joined-shorter : length (joinedName keep skip s) < length s
+  unfolding joinedName
+  joined-shorter = let w = split-within in omega (arith, length-append (take keep s) (drop skip s), length-take keep s, length-drop skip s)
+
+  pub split-shorter : (length (drop skip s) < length s) × (length (joinedName keep skip s) < length s)
+  split-shorter = (rest-shorter, joined-shorter)
+
+-- ---- joined words are no longer than their name
+
+-- the bytes of some words, with a space behind each
+unfoldable room : List (List ℕ) → ℕ
+room [] = 0
+room (w ∷ ws) = suc (length w + room ws)
+
+after-short : (w : List ℕ) → length (afterApostrophe w) ≤ length w
+unfolding afterApostrophe
+after-short [] = zero-le
+after-short (b ∷ w) =
+    pick-all (λ (l : List ℕ). length l ≤ suc (length w)) (has 39 w) _ _ (omega (arith, after-short w))
+    (pick-all (λ (l : List ℕ). length l ≤ suc (length w)) (eqb b 39) _ _ (omega arith) (omega arith))
+
+kept-short : (kind : NameType) (w : List ℕ) → length (keptOf kind w) ≤ length w
+unfolding keptOf
+kept-short Ashkenazi w = omega arith
+kept-short Generic w = omega arith
+kept-short Sephardic w = after-short w
+
+remaining-room : (kind : NameType) (ws : List (List ℕ)) → room (remaining kind ws) ≤ room ws
+unfolding remaining room
+remaining-room kind [] = zero-le
+remaining-room kind (w ∷ ws) =
+    pick-all (λ (l : List (List ℕ)). room l ≤ suc (length w + room ws)) (dropsOut kind (keptOf kind w)) _ _ (omega (arith, remaining-room kind ws))
+    (omega (arith, remaining-room kind ws, kept-short kind w))
+
+joined-room : (ws : List (List ℕ)) → length (joinedBySpace ws) ≤ room ws - 1
+unfolding joinedBySpace room
+joined-room [] = zero-le
+joined-room (t ∷ []) = omega arith
+joined-room (t ∷ u ∷ l) = omega (arith, joined-room (u ∷ l), length-append t (32 ∷ joinedBySpace (u ∷ l)))
+
+led-room : (b n : ℕ) (more : Bool) (ws : List (List ℕ)) → room ws ≤ pick more (suc n) n → room (led b more ws) ≤ suc (suc n)
+unfolding led room pick
+led-room b n more [] h = omega arith
+led-room b n true (w ∷ ws) h = omega arith
+led-room b n false (w ∷ ws) h = omega arith
+
+most : (n : ℕ) (t : Bool) → pick t (suc n) n ≤ suc n
+most n t = pick-all (λ (m : ℕ). m ≤ suc n) t _ _ (omega arith) (omega arith)
+
+room-by : (b : ℕ) (s : List ℕ) (t : Bool) → room (wordsOf s) ≤ pick (goesOn s) (suc (length s)) (length s)
+    → room (pick t (wordsOf s) (led b (goesOn s) (wordsOf s))) ≤ pick (not t) (suc (suc (length s))) (suc (length s))
+unfolding pick
+room-by b s true h = le-trans h (most (length s) (goesOn s))
+room-by b s false h = led-room b (length s) (goesOn s) (wordsOf s) h
+
+-- a text that starts with no word leaves a byte over
+words-room : (s : List ℕ) → room (wordsOf s) ≤ pick (goesOn s) (suc (length s)) (length s)
+unfolding wordsOf room goesOn pick
+words-room [] = zero-le
+words-room (b ∷ s) = room-by b s (eqb b 32) (words-room s)
+
+pub joined-short : (kind : NameType) (s : List ℕ) → length (joinedWords kind s) ≤ length s
+unfolding joinedWords
+joined-short kind s = omega (arith, joined-room (remaining kind (wordsOf s)), remaining-room kind (wordsOf s), words-room s, most (length s) (goesOn s))
+
+pub spaced-long : (s : List ℕ) → length (spaced s) ≡ length s
+unfolding spaced
+spaced-long s = length-map s _
+
+pub ruleset names-laws = (slice-room, put-none, put-then, put-long, put-place, words-none, words-next, word-later, past-within, word-within, word-part, word-shorter, one-is, one-again, word-again, rest-shorter, joined-shorter, joined-short, spaced-long)

@@ -1,0 +1,5 @@
+pub mod Laws
+pub mod WordLaws
+pub mod WritingLaws
+pub mod PrefixLaws
+pub mod JoinLaws

@@ -1,0 +1,4 @@
+pub mod Writing
+pub mod Words
+pub mod Prefixes
+pub mod Joining
