@@ -1,0 +1,275 @@
+-- What a call is told, and the desk it works at: a pack's numbers, the refusals before the pack, and what known settings give.
+-- Assumes nothing.
+use mathlib.Core.Path.{_≡_, refl, sym, ap, ap₂, _∙_}
+use mathlib.Core.Bool.{Bool, true, false, false≢true}
+use mathlib.Core.List.{List, [], _∷_}
+use Prim.Native.Nat.{ℕ, zero, suc, _+_, _-_, _*_, _%_, _^_, _≤_, _<_, zero-le, suc-le-suc, min}
+use native.Mathlib.Nat.{le-antisymm, lt-of-lt-of-le, lt-of-not-le, not-le-of-lt, le-of-suc-le-suc}
+use native.Mathlib.Omega.{arith}
+use lib.Count.{trailingZeros, trailing-le}
+use lib.Pow.{pow-lt, pow-mono, shl-exact}
+use lib.Dec.{eqb, ltb}
+use lib.ListN.{length, getD, take, drop, List·getD-append}
+use lib.Seq.{sets, sets-eq, length-sets}
+use borrow.Author.Tests.{lt-ltb, le-ltb, leb-true, ltb-true, ltb-false}
+use Rattle.base.specs.Pick.{pick, pick-true, pick-false, and-inv, cases}
+use Rattle.base.proofs.Bits.{single-is, ones-pow}
+use Rattle.letters.specs.Order.{sameText}
+use Rattle.letters.specs.Reading.{firstIll, firstOutside}
+use Rattle.letters.specs.declared.utf8.Found.{Found}
+use Rattle.letters.specs.declared.utf8.Found.the-variants.{At, Nothing}
+use Rattle.languages.specs.Names.{stringsOf, namePlace, bitAt, languageBit}
+use Rattle.languages.specs.Sets.{BitsBelow}
+use Rattle.languages.specs.declared.names.Listed.{Listed}
+use Rattle.languages.specs.declared.names.Listed.the-variants.{Bit, Unlisted}
+use Rattle.languages.specs.declared.sets.LanguageSet.{LanguageSet}
+use Rattle.languages.specs.declared.sets.LanguageSet.the-variants.{Any, NoLanguages, SomeLanguages}
+use Rattle.pack.specs.Packs.{Pack, Verdict, accepted, refused, any, holds, namesGood, listCount, packOf}
+use Rattle.pack.specs.Places.{textBytes, placesOf, surveyedOf, SurveyIs}
+use Rattle.pack.specs.declared.sections.Surveyed.{Surveyed}
+use Rattle.pack.specs.declared.sections.Surveyed.the-variants as surveyed
+use Rattle.pack.proofs.Laws.{is-pack, languages-few, guesses-within, names-strings, places-counted, SurveyedPack, surveyed-pack}
+use Rattle.choices.specs.Texts.{Text}
+use Rattle.choices.proofs.TextLaws.{clash}
+use Rattle.engine.specs.Calls.{kindKnown, settingsKnown, haveLanguages, startSet, Outcome, refusedBy, key, unless, onPack, lettersThen, checkedThen, callOf}
+use Rattle.engine.specs.Walks.{packBy, packIn, DeskIs, foundBy, FoundIs}
+use Rattle.engine.specs.declared.call.Settings.{Settings}
+use Rattle.engine.specs.declared.call.Start.{Start}
+use Rattle.engine.specs.declared.call.Start.the-variants.{Guessed, Given}
+use Rattle.engine.specs.declared.call.Desk.the-variants.{Open, Shut}
+use Rattle.engine.specs.declared.spelling.Named.{Named}
+use Rattle.engine.specs.declared.spelling.Named.the-variants.{Fine, Wrong}
+use Rattle.engine.specs.declared.spelling.Spelled.the-variants as spelled
+
+-- ---- which name is `any`
+
+pow-back : (a b : ℕ) → 2 ^ a ≤ 2 ^ b → a ≤ b
+pow-back a b h = le-of-suc-le-suc (lt-of-not-le (λ l. not-le-of-lt (pow-lt l) h))
+
+trailing-pow : (k : ℕ) → k < 32 → trailingZeros 32 (2 ^ k) ≡ k
+trailing-pow k h =
+    let is = single-is 32 (2 ^ k) (pow-lt h) (ones-pow k) .0 in
+    le-antisymm (pow-back _ k (omega (arith, is))) (pow-back k _ (omega (arith, is)))
+
+-- r is the answer of a search for a name that is one of the first 32
+module _ (s name : List ℕ) (r : Listed) (h : namePlace name (stringsOf s) < min 32 (length (stringsOf s))) (p : r ≡ languageBit s name) where
+  bit-is : r ≡ Bit (2 ^ namePlace name (stringsOf s))
+  unfolding languageBit bitAt
+  bit-is = p ∙ pick-true _ _ _ (lt-ltb _ _ h)
+
+  pub bit-place : (b : ℕ) → r ≡ Bit b → trailingZeros 32 b ≡ namePlace name (stringsOf s)
+  bit-place b e =
+      let is = bit-is in
+      let power : b ≡ 2 ^ namePlace name (stringsOf s) = cc in
+      ap (trailingZeros 32) power ∙ trailing-pow _ (omega arith)
+
+  pub bit-there : r ≡ Unlisted → 0 ≡ namePlace name (stringsOf s)
+  bit-there e = let is = bit-is in clash (cc)
+
+pub place-fits : (b : ℕ) → trailingZeros 32 b < 2 ^ 64
+place-fits b = omega (arith, trailing-le 32 b)
+
+pub ruleset any-laws = (bit-place, bit-there, place-fits)
+
+-- ---- whether bits are below a power
+
+pub shift-below : (bits n : ℕ) → n < 32 → ltb bits ((1 * 2 ^ n) % 4294967296) ≡ ltb bits (2 ^ n)
+shift-below bits n h =
+    let one : 1 * 2 ^ n ≡ 2 ^ n = omega arith in
+    ap (ltb bits) (shl-exact 1 n 32 (omega arith) (omega arith) ∙ one)
+
+pub all-below : (bits n : ℕ) → bits < 4294967296 → 32 ≤ n → true ≡ ltb bits (2 ^ n)
+all-below bits n f h = sym (lt-ltb _ _ (lt-of-lt-of-le f (pow-mono h)))
+
+-- ---- what start languages come to
+
+pub have-guessed : (n : ℕ) (start : Start) → start ≡ Guessed → true ≡ haveLanguages n start
+unfolding haveLanguages
+have-guessed n start e = rw e refl
+
+pub have-given : (n : ℕ) (start : Start) (kind bits : ℕ) (t : Bool) → start ≡ Given kind bits → t ≡ pick (eqb kind 2) (ltb bits (2 ^ n)) true → t ≡ haveLanguages n start
+unfolding haveLanguages
+have-given n start kind bits t e p = rw e p
+
+pub set-guessed : (start : Start) (guess g : LanguageSet) → start ≡ Guessed → g ≡ guess → g ≡ startSet start guess
+unfolding startSet
+set-guessed start guess g e p = rw e p
+
+pub set-given : (start : Start) (guess g : LanguageSet) (kind bits : ℕ) → start ≡ Given kind bits
+    → g ≡ pick (eqb kind 0) Any (pick (eqb kind 1) NoLanguages (SomeLanguages bits)) → g ≡ startSet start guess
+unfolding startSet
+set-given start guess g kind bits e p = rw e p
+
+pub ruleset start-laws = (have-guessed, have-given, set-guessed, set-given, cases)
+
+-- ---- a room that is too small
+
+pub place-kept : (n m : ℕ) → n < m → spelled.Refused 9 n ≡ spelled.Refused 9 (min n m)
+place-kept n m h = ap (spelled.Refused 9) (omega arith)
+
+pub place-cut : (n m : ℕ) → m ≤ n → spelled.Refused 9 m ≡ spelled.Refused 9 (min n m)
+place-cut n m h = ap (spelled.Refused 9) (omega arith)
+
+-- ---- a desk
+
+place-cons : (t : Bool) (p n : ℕ) (h : Bool) → (h ≡ true → p < n) → pick t true h ≡ true → pick t 0 (suc p) < suc n
+unfolding pick
+place-cons true p n h f e = suc-le-suc zero-le
+place-cons false p n h f e = suc-le-suc (f e)
+
+held-place : (name : List ℕ) (xs : List (List ℕ)) → holds name xs ≡ true → namePlace name xs < length xs
+unfolding holds namePlace
+held-place name [] e = absurd (false≢true e)
+held-place name (x ∷ xs) e = place-cons (sameText x name) _ _ _ (held-place name xs) e
+
+any-held : (s : List ℕ) (p : Pack) → packOf s ≡ accepted p → namePlace any (p .names) < length (p .names)
+unfolding namesGood
+any-held s p e =
+    let w = is-pack s p e in
+    let good = and-inv _ _ (and-inv _ _ (and-inv _ _ (w .front .passes) .1) .1) .1 in
+    held-place any (p .names) (ap (holds any) (sym (w .names)) ∙ good)
+
+pack-in : (s : List ℕ) (p : Pack) → packOf s ≡ accepted p → packIn s ≡ p
+unfolding packIn packBy
+pack-in s p e = ap packBy e
+
+front-held : (t vs : List ℕ) (k : ℕ) → length vs ≤ length t → k < length vs → getD (sets t 0 vs) k 0 ≡ getD vs k 0
+front-held t vs k h l = ap (λ (x : List ℕ). getD x k 0) (sets-eq vs t 0 (omega arith)) ∙ List·getD-append vs _ 0 k l
+
+shut-by : (s t : List ℕ) (place : ℕ) (v : Verdict) → packOf s ≡ v → surveyedOf v ≡ surveyed.Refused place → DeskIs s t (Shut place)
+unfolding surveyedOf DeskIs
+shut-by s t place (accepted p) e q = clash (cc)
+shut-by s t place (refused k) e q = let is : k ≡ place = cc in e ∙ ap refused is
+
+module _ (s t t′ : List ℕ) (r : Surveyed) (w : SurveyIs s t r t′) where
+  pub desk-shut : (place : ℕ) → r ≡ surveyed.Refused place → DeskIs s t′ (Shut place)
+  desk-shut place q = shut-by s t′ place _ refl (sym (w .result) ∙ q)
+
+  module _ (n g : ℕ) (q : r ≡ surveyed.Accepted n g) where
+    found : SurveyedPack s n g
+    found = surveyed-pack s n g r (w .result) q
+
+    strings : stringsOf (take (g - 1) (drop 1 s)) ≡ found .pack .names
+    strings = names-strings s (found .pack) g (found .is) (found .guesses)
+
+    few : n ≤ 32
+    few = omega (arith, found .languages, languages-few s (found .pack) g (found .is) (found .guesses))
+
+    -- the names' bytes
+    pub names-start : 1 ≤ g
+    names-start = omega (arith, found .guesses)
+
+    pub names-end : g ≤ length s
+    names-end = guesses-within s (found .pack) g (found .is) (found .guesses)
+
+    pub any-there : namePlace any (stringsOf (take (g - 1) (drop 1 s))) < min 32 (length (stringsOf (take (g - 1) (drop 1 s))))
+    any-there = rw strings (omega (arith, few, found .languages, any-held s (found .pack) (found .is)))
+
+    pub desk-open : (other : ℕ) → length t ≡ 98 → other ≡ namePlace any (stringsOf (take (g - 1) (drop 1 s))) → DeskIs s t′ (Open n g other)
+    unfolding DeskIs listCount
+    desk-open other h o =
+        let p = found .pack in
+        let same : p ≡ packIn s = sym (pack-in s p (found .is)) in
+        let is-any : other ≡ namePlace any (p .names) = o ∙ ap (namePlace any) strings in
+        let size : length t′ ≡ 98 = ap length (w .buffer) ∙ length-sets t 0 (placesOf s) ∙ h in
+        let places : length (placesOf s) ≡ 3 * n + 2 =
+        places-counted s p g (found .is) (found .guesses) ∙ ap listCount (sym (found .languages)) in
+        record {
+          is = found .is ∙ ap accepted same;
+          languages-are = found .languages ∙ ap (λ (x : Pack). length (x .names)) same;
+          guesses-are = found .guesses ∙ ap (λ (x : Pack). 1 + textBytes (x .names)) same;
+          any-is = is-any ∙ ap (λ (x : Pack). namePlace any (x .names)) same;
+          any-below = omega (arith, is-any, found .languages, any-held s p (found .is));
+          room = omega (arith, size, few);
+          places-are = λ k l. ap (λ (x : List ℕ). getD x k 0) (w .buffer) ∙ front-held t (placesOf s) k (omega (arith, h, places, few)) (omega (arith, places));
+        }
+
+pub ruleset desk-laws = (desk-shut, names-start, names-end, any-there, desk-open)
+
+-- ---- the refusals before the pack
+
+module _ (name : Text) where
+  pub found-long : 96 < length name → FoundIs (lettersThen name) (Wrong 3 0)
+  unfolding lettersThen foundBy
+  found-long h = record { is = λ rest. sym (pick-true _ _ _ (lt-ltb _ _ h)) }
+
+  letters-by : (x y : Found) → length name ≤ 96 → firstIll name ≡ x → firstOutside name ≡ y → (rest : Outcome) → unless 1 x (unless 2 y rest) ≡ lettersThen name rest
+  unfolding lettersThen
+  letters-by x y h p q rest = sym (pick-false _ _ _ (le-ltb _ _ h) ∙ ap₂ (λ (f g : Found). unless 1 f (unless 2 g rest)) p q)
+
+  module _ (x : Found) (h : length name ≤ 96) (e : x ≡ firstIll name) where
+    pub found-ill : (place : ℕ) → x ≡ At place → FoundIs (lettersThen name) (Wrong 1 place)
+    unfolding foundBy unless
+    found-ill place p = record { is = letters-by (At place) _ h (sym e ∙ p) refl }
+
+    module _ (y : Found) (p : x ≡ Nothing) (e′ : y ≡ firstOutside name) where
+      pub found-outside : (place : ℕ) → y ≡ At place → FoundIs (lettersThen name) (Wrong 2 place)
+      unfolding foundBy unless
+      found-outside place q = record { is = letters-by Nothing (At place) h (sym e ∙ p) (sym e′ ∙ q) }
+
+      pub found-none : y ≡ Nothing → FoundIs (lettersThen name) Fine
+      unfolding foundBy unless
+      found-none q = record { is = letters-by Nothing Nothing h (sym e ∙ p) (sym e′ ∙ q) }
+
+module _ (c : Settings) (start : Start) (name : Text) (t : Bool) (k : t ≡ settingsKnown c start) where
+  pub found-known : (r : Named) → t ≡ true → FoundIs (lettersThen name) r → FoundIs (checkedThen c start name) r
+  unfolding checkedThen
+  found-known r e w = record { is = λ rest. w .is rest ∙ sym (pick-true _ _ _ (sym k ∙ e)) }
+
+  pub found-unknown : t ≡ false → FoundIs (checkedThen c start name) (Wrong 4 0)
+  unfolding checkedThen foundBy
+  found-unknown e = record { is = λ rest. sym (pick-false _ _ _ (sym k ∙ e)) }
+
+pub ruleset found-laws = (found-long, found-ill, found-outside, found-none, found-known, found-unknown)
+
+-- ---- what that tells
+
+fine-by : (t u : Bool) (x y : Found) → key [] false ≡ pick t (pick u (refusedBy 3 0) (unless 1 x (unless 2 y (key [] false)))) (refusedBy 4 0)
+    → (t ≡ true) × (u ≡ false) × (x ≡ Nothing) × (y ≡ Nothing)
+unfolding pick unless
+fine-by false u x y e = clash (cc)
+fine-by true true x y e = clash (cc)
+fine-by true false (At p) y e = clash (cc)
+fine-by true false Nothing (At p) e = clash (cc)
+fine-by true false Nothing Nothing e = (refl, refl, refl, refl)
+
+module _ (c : Settings) (start : Start) where
+  -- a name that is fine has none of these refusals
+  pub fine-name : (name : Text) (r : Named) → FoundIs (checkedThen c start name) r → r ≡ Fine
+      → (settingsKnown c start ≡ true) × (length name ≤ 96) × (firstIll name ≡ Nothing) × (firstOutside name ≡ Nothing)
+  unfolding checkedThen lettersThen foundBy
+  fine-name name r w e =
+      let all = fine-by _ _ (firstIll name) (firstOutside name) (sym (ap (λ (x : Named). foundBy x (key [] false)) e) ∙ w .is (key [] false)) in
+      (all .0, ltb-false _ _ (all .1), all .2, all .3)
+
+  module _ (s : List ℕ) (name : Text) (r : Named) where
+    call-by : (x : Named) → FoundIs (checkedThen c start name) r → r ≡ x → callOf c start s name ≡ foundBy x (onPack c start s name (packOf s))
+    unfolding callOf
+    call-by x w e = sym (w .is _) ∙ ap (λ (y : Named). foundBy y (onPack c start s name (packOf s))) e
+
+    -- a call is refused as its name is
+    pub wrong-name : (code place : ℕ) → FoundIs (checkedThen c start name) r → r ≡ Wrong code place → callOf c start s name ≡ refusedBy code place
+    unfolding foundBy
+    wrong-name code place = call-by (Wrong code place)
+
+    -- else the pack is looked at
+    pub fine-call : FoundIs (checkedThen c start name) r → r ≡ Fine → callOf c start s name ≡ onPack c start s name (packOf s)
+    unfolding foundBy
+    fine-call = call-by Fine
+
+  pub known-limits : settingsKnown c start ≡ true → (c .limit ≤ 256) × (c .«rule_type» < 2)
+  unfolding settingsKnown
+  known-limits e =
+      let a = and-inv _ _ (and-inv _ _ e .1) in
+      let b = and-inv _ _ (and-inv _ _ (a .1) .1) in
+      (leb-true _ _ (b .0), ltb-true _ _ (a .0))
+
+-- a given set has bits of the pack's languages only
+pub start-below : (start : Start) (guess : LanguageSet) (n : ℕ) → n ≤ 32 → haveLanguages n start ≡ true → kindKnown start ≡ true → BitsBelow n guess
+    → BitsBelow n (startSet start guess)
+unfolding haveLanguages kindKnown startSet BitsBelow pick
+start-below Guessed guess n h a k b = b
+start-below (Given zero bits) guess n h a k b = tt
+start-below (Given (suc zero) bits) guess n h a k b = tt
+start-below (Given (suc (suc zero)) bits) guess n h a k b = ltb-true _ _ a
+start-below (Given (suc (suc (suc kind))) bits) guess n h a k b = let no-way : ⊥ = omega (arith, ltb-true (suc (suc (suc kind))) 3 k) in absurd no-way

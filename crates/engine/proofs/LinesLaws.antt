@@ -1,0 +1,656 @@
+-- The lines of a block: one result and one content, in their bounds; and a law for each way that the code of `lines` can go. Assumes nothing.
+use mathlib.Core.Path.{_≡_, refl, sym, ap, ap₂, _∙_}
+use mathlib.Core.Bool.{Bool, true, false, false≢true}
+use mathlib.Core.List.{List, [], _∷_, _++_, append-assoc, append-nil}
+use mathlib.Core.Logic.{_⊎_, inl, inr}
+use Prim.Native.Nat.{ℕ, zero, suc, _+_, _-_, _/_, _%_, _≤_, _<_, min, max, zero-le}
+use native.Mathlib.Nat.{zero-add, sub-zero}
+use native.Mathlib.Decide.{decLe}
+use native.Mathlib.Omega.{arith}
+use lib.Dec.{eqb, leb}
+use lib.ListN.{length, set, take, drop, length-append, length-take, length-drop, take-append-drop, length-set}
+use lib.Seq.{sets, set-comm, set-append-left, length-sets, drop-drop}
+use borrow.Author.Tests.{lt-ltb, le-ltb, le-leb, lt-leb, eq-eqb, ne-eqb, ltb-false, leb-true, leb-false}
+use Rattle.base.specs.Pick.{pick, and, pick-true, pick-false, pick-cong, pick-all, and-rest, and-none, and-no, and-first, and-inv}
+use Rattle.base.proofs.One.{one}
+use Rattle.base.proofs.Stores.{sets-then}
+use Rattle.texts.specs.Parts.{placeOf, has}
+use Rattle.letters.specs.declared.utf8.Found.{Found}
+use Rattle.letters.specs.declared.utf8.Found.the-variants.{At, Nothing}
+use Rattle.languages.specs.declared.sets.LanguageSet.{LanguageSet}
+use Rattle.name_parts.specs.Writing.{Put}
+use Rattle.name_parts.proofs.Laws.{clash, slice-room, put-then, put-long}
+use Rattle.name_parts.specs.declared.prefixes.Prefix.{Prefix}
+use Rattle.name_parts.specs.declared.prefixes.Prefix.the-variants.{Parted, Whole}
+use Rattle.pack.specs.Packs.{Verdict, accepted, refused, Rule}
+use Rattle.choices.specs.Texts.{Text}
+use Rattle.choices.specs.Apply.{Entry}
+use Rattle.phoneme_builder.specs.Sets.{Spelling, refusal, texts, united}
+use Rattle.phoneme_builder.specs.Passes.{Ran, tooLong, ran, raised, onRan, finalText, finalFrom, finalPass, then, mainOf, wordOf}
+use Rattle.engine.specs.Spelling.{Spelt, bad, good, Steps, both, hyphened, andWords, eachWord, onePart, byWords, byPrefix, nameBy, nameFrom, spelledName}
+use Rattle.engine.specs.Calls.{speltBy, wordBy, stepsBy, stepsOf, spelledBy, Outcome, refusedBy, key, outcomeOf, unless, onPack, lettersThen, checkedThen, callOf, toldOf, filledBy, SpellIs, numbersOf}
+use Rattle.engine.specs.Lines.{decimalBy, decimal, flagDigit, answerLine, refusalLine, lineBy, most, room, textOf, lineOf, lineFor, linesFrom, wholeLines, Taken, andTaken, noneTaken, takeLines, taken, LinesIs, LineAt, headOf, DoneIs, partFilled, PartIs, waitsFor, RefusedIs}
+use Rattle.engine.proofs.EncodeLaws.{rest-is}
+use Rattle.engine.specs.declared.call.Settings.{Settings}
+use Rattle.engine.specs.declared.call.Start.{Start}
+use Rattle.engine.specs.declared.lines.Lines.{Lines}
+use Rattle.engine.specs.declared.spelling.Spelled.{Spelled}
+use Rattle.engine.specs.declared.spelling.Spelled.the-variants.{Done, Refused}
+
+-- ---- the promise
+
+pub lines-one : {f : Text → Text} {block out : List ℕ} {r s : Lines} {o p : List ℕ} → LinesIs f block out r o → LinesIs f block out s p → (r ≡ s) × (o ≡ p)
+lines-one x y = (one (x .result) (y .result), one (x .buffer) (y .buffer))
+
+-- the first line of a text, and what is taken of it
+lines-more : (n : ℕ) (s : List ℕ) → placeOf 10 s < length s → linesFrom (suc n) s ≡ take (placeOf 10 s) s ∷ linesFrom n (drop (suc (placeOf 10 s)) s)
+unfolding linesFrom has
+lines-more n s h = pick-true _ _ _ (lt-ltb _ _ h)
+
+lines-none : (n : ℕ) (s : List ℕ) → length s ≤ placeOf 10 s → linesFrom n s ≡ []
+unfolding linesFrom has
+lines-none zero s h = refl
+lines-none (suc n) s h = pick-false _ _ _ (le-ltb _ _ h)
+
+module _ (f : Text → Text) (size : ℕ) (name : Text) (names : List Text) where
+  take-fits : length (f name) ≤ size → takeLines f size (name ∷ names) ≡ andTaken (suc (length name)) (f name) (takeLines f (size - length (f name)) names)
+  unfolding takeLines
+  take-fits h = pick-true _ _ _ (le-leb _ _ h)
+
+  take-stop : size < length (f name) → takeLines f size (name ∷ names) ≡ noneTaken
+  unfolding takeLines
+  take-stop h = pick-false _ _ _ (lt-leb _ _ h)
+
+  take-read : (k : ℕ) → suc (length name) + takeLines f (size - length (f name)) names .read ≤ k → takeLines f size (name ∷ names) .read ≤ k
+  unfolding takeLines andTaken
+  take-read k h = pick-all (λ (r : Taken). r .read ≤ k) (leb (length (f name)) size) (andTaken (suc (length name)) (f name) (takeLines f (size - length (f name)) names)) noneTaken h zero-le
+
+taken-read : (f : Text → Text) (size n : ℕ) (s : List ℕ) → takeLines f size (linesFrom n s) .read ≤ length s
+unfolding linesFrom takeLines
+taken-read f size zero s = zero-le
+taken-read f size (suc n) s = elim (decLe (length s) (placeOf 10 s)) [
+  | yes h ↦ rw (lines-none (suc n) s h) zero-le
+  | no h ↦
+      rw (lines-more n s (omega arith)) (take-read f size (take (placeOf 10 s) s) (linesFrom n (drop (suc (placeOf 10 s)) s)) (length s) (omega (
+        arith,
+        taken-read f (size - length (f (take (placeOf 10 s) s))) n (drop (suc (placeOf 10 s)) s),
+        length-drop (suc (placeOf 10 s)) s,
+        length-take (placeOf 10 s) s,
+      )))
+]
+
+taken-long : (f : Text → Text) (size : ℕ) (names : List Text) → length (takeLines f size names .text) ≤ size
+unfolding takeLines andTaken
+taken-long f size [] = zero-le
+taken-long f size (name ∷ names) = elim (decLe (length (f name)) size) [
+  | yes h ↦
+      rw (take-fits f size name names h) (omega (arith, taken-long f (size - length (f name)) names, length-append (f name) (takeLines f (size - length (f name)) names .text)))
+  | no h ↦ rw (take-stop f size name names (omega arith)) zero-le
+]
+
+module _ {f : Text → Text} {block out : List ℕ} {r : Lines} {o : List ℕ} (x : LinesIs f block out r o) where
+  pub lines-read : r .read ≤ length block
+  unfolding taken wholeLines
+  lines-read = rw (x .result) (taken-read f _ _ block)
+
+  pub lines-written : r .written ≤ length out
+  unfolding taken
+  lines-written = rw (x .result) (omega (arith, taken-long f (min (length out) most) (wholeLines block)))
+
+-- ---- a number
+
+by-more : (f g n : ℕ) → n ≤ f → n ≤ g → decimalBy f n ≡ decimalBy g n
+unfolding decimalBy
+by-more zero zero n p q = refl
+by-more zero (suc g) n p q = sym (pick-true _ _ _ (lt-ltb n 10 (omega arith)))
+by-more (suc f) zero n p q = pick-true _ _ _ (lt-ltb n 10 (omega arith))
+by-more (suc f) (suc g) n p q =
+    pick-cong _ _ _ _ _ (λ e. refl) (λ e. ap (λ (t : Text). t ++ (48 + n % 10) ∷ []) (by-more f g (n / 10) (omega (arith, ltb-false n 10 e)) (omega (arith, ltb-false n 10 e))))
+
+decimal-one : (n : ℕ) → n < 10 → decimal n ≡ (48 + n % 10) ∷ []
+unfolding decimal decimalBy
+decimal-one zero h = refl
+decimal-one (suc n) h = pick-true _ _ _ (lt-ltb _ _ h)
+
+decimal-more : (n : ℕ) → 10 ≤ n → decimal n ≡ decimal (n / 10) ++ (48 + n % 10) ∷ []
+unfolding decimal decimalBy
+decimal-more zero h = absurd (omega arith)
+decimal-more (suc n) h = pick-false _ _ _ (le-ltb _ _ h) ∙ ap (λ (t : Text). t ++ (48 + suc n % 10) ∷ []) (by-more n (suc n / 10) (suc n / 10) (omega arith) (omega arith))
+
+module _ (n : ℕ) (o o₁ : List ℕ) (at p : ℕ) where
+  pub digit-one : n < 10 → Put o o₁ at p ((48 + n % 10) ∷ []) → Put o o₁ at p (decimal n)
+  digit-one h x = rw (decimal-one n h) x
+
+  pub digit-more : (o₂ : List ℕ) (q : ℕ) → 10 ≤ n → Put o o₁ at p (decimal (n / 10)) → Put o₁ o₂ p q ((48 + n % 10) ∷ []) → Put o o₂ at q (decimal n)
+  digit-more o₂ q h x y = rw (decimal-more n h) (put-then x y)
+
+-- ---- the line of a refusal
+
+pub refusal-put : (code place : ℕ) (o o₁ o₂ o₃ o₄ : List ℕ) (at p q e r : ℕ)
+    → Put o o₁ at p (decimal code) → Put o₁ o₂ p q (32 ∷ []) → Put o₂ o₃ q e (decimal place) → Put o₃ o₄ e r (10 ∷ []) → Put o o₄ at r (refusalLine (numbersOf (Refused code place)))
+unfolding refusalLine numbersOf
+refusal-put code place o o₁ o₂ o₃ o₄ at p q e r w x y z = put-then w (put-then x (put-then y z))
+
+module _ (code place size : ℕ) (o : List ℕ) (at : ℕ) (t : Bool) (w : t ≡ waitsFor code place size) where
+  pub refused-waits : t ≡ true → RefusedIs code place size o o at at
+  refused-waits e = record { waits = λ _. (refl, refl); line = λ z. absurd (false≢true (sym z ∙ sym w ∙ e)) }
+
+  module _ (e : t ≡ false) (none none′ : List ℕ) (n : ℕ) (h : (at ≤ size) × (size ≤ length o)) (x : Put none none′ 0 n (refusalLine (numbersOf (Refused code place)))) where
+    pub refused-fits : (o′ : List ℕ) (r : ℕ) → n ≤ size - at → Put o o′ at r (refusalLine (numbersOf (Refused code place))) → RefusedIs code place size o o′ at r
+    refused-fits o′ r f y = record {
+      waits = λ z. absurd (false≢true (sym e ∙ w ∙ z));
+      line = λ _. record {
+        fits = λ _. (omega (arith, h .0, h .1, x .ends, y .ends, y .room), y .wrote);
+        stops = λ s. absurd (omega (arith, h .1, x .ends, y .room));
+      };
+    }
+
+    pub refused-stops : size - at < n → RefusedIs code place size o o at at
+    refused-stops f = record {
+      waits = λ _. (refl, refl);
+      line = λ _. record { fits = λ s. absurd (omega (arith, x .ends)); stops = λ _. (refl, refl) };
+    }
+
+-- ---- the line of an answer
+
+pub head-up : (flag : Bool) (o o′ : List ℕ) (at r : ℕ) → flag ≡ true → Put o o′ at r (48 ∷ 32 ∷ 49 ∷ 32 ∷ []) → Put o o′ at r (headOf flag)
+unfolding headOf flagDigit
+head-up flag o o′ at r e x = rw e x
+
+pub head-down : (flag : Bool) (o o′ : List ℕ) (at r : ℕ) → flag ≡ false → Put o o′ at r (48 ∷ 32 ∷ 48 ∷ 32 ∷ []) → Put o o′ at r (headOf flag)
+unfolding headOf flagDigit
+head-down flag o o′ at r e x = rw e x
+
+module _ (written : ℕ) (flag : Bool) (size : ℕ) (o : List ℕ) (at : ℕ) (h : (at ≤ size) × (size ≤ length o)) where
+  pub done-fits : (o₁ o₂ : List ℕ) (p r : ℕ) → 5 ≤ size - at → written ≤ size - at - 5 → Put o o₁ at p (headOf flag) → Put o₁ o₂ (at + 4 + written) r (10 ∷ [])
+      → DoneIs written flag size o o₂ at r
+  done-fits o₁ o₂ p r f g x y = record {
+    fits = λ _. (omega (arith, h .0, h .1, x .room, y .ends), y .wrote ∙ ap (λ (l : List ℕ). sets l (at + 4 + written) (10 ∷ [])) (x .wrote));
+    stops = λ s. absurd (omega arith);
+  }
+
+  pub done-small : size - at < 5 → DoneIs written flag size o o at at
+  done-small f = record { fits = λ s. absurd (omega arith); stops = λ _. (refl, refl) }
+
+  pub done-narrow : size - at - 5 < written → DoneIs written flag size o o at at
+  done-narrow f = record { fits = λ s. absurd (omega arith); stops = λ _. (refl, refl) }
+
+set-apart : (ws l : List ℕ) (i v j : ℕ) → i < j → set (sets l j ws) i v ≡ sets (set l i v) j ws
+set-apart [] l i v j h = refl
+set-apart (w ∷ ws) l i v j h =
+    set-apart ws (set l j w) i v (suc j) (omega arith) ∙ ap (λ (m : List ℕ). sets m (suc j) ws) (set-comm l j i w v (λ e. absurd (omega arith)))
+
+-- two runs of which the first ends where the second begins, or before
+sets-apart : (vs ws l : List ℕ) (i j : ℕ) → i + length vs ≤ j → sets (sets l j ws) i vs ≡ sets (sets l i vs) j ws
+sets-apart [] ws l i j h = refl
+sets-apart (v ∷ vs) ws l i j h =
+    ap (λ (m : List ℕ). sets m (suc i) vs) (set-apart ws l i v j (omega arith)) ∙ sets-apart vs ws (set l i v) (suc i) j (omega arith)
+
+sets-none : (vs l : List ℕ) (i : ℕ) → length vs ≡ 0 → sets l i vs ≡ l
+sets-none [] l i h = refl
+sets-none (v ∷ vs) l i h = absurd (omega arith)
+
+answer-long : (written : ℕ) (flag : Bool) (t : Text) → length (answerLine (numbersOf (Done written flag)) t) ≡ 5 + length t
+unfolding answerLine numbersOf decimal decimalBy
+answer-long written flag t = omega (arith, length-append t (10 ∷ []))
+
+answer-stands : (o : List ℕ) (at written : ℕ) (flag : Bool) (t : Text)
+    → sets (sets (sets o (at + 4) t) at (headOf flag)) (at + 4 + length t) (10 ∷ []) ≡ sets o at (answerLine (numbersOf (Done written flag)) t)
+unfolding answerLine numbersOf decimal decimalBy headOf
+answer-stands o at written flag t =
+    ap (λ (l : List ℕ). sets l (at + 4 + length t) (10 ∷ [])) (sets-apart (headOf flag) t o at (at + 4) (omega arith))
+    ∙ sets-then (sets o at (headOf flag)) (at + 4) t (10 ∷ [])
+    ∙ sets-then o at (headOf flag) (t ++ 10 ∷ [])
+
+-- ---- the part of the buffer that is lent
+
+sets-front : (vs xs ys : List ℕ) (i : ℕ) → i + length vs ≤ length xs → sets xs i vs ++ ys ≡ sets (xs ++ ys) i vs
+sets-front [] xs ys i h = refl
+sets-front (v ∷ vs) xs ys i h =
+    sets-front vs (set xs i v) ys (suc i) (omega (arith, length-set xs i v)) ∙ ap (λ (l : List ℕ). sets l (suc i) vs) (sym (set-append-left xs ys i v (omega arith)))
+
+sets-behind : (vs : List ℕ) (x : ℕ) (xs : List ℕ) (i : ℕ) → x ∷ sets xs i vs ≡ sets (x ∷ xs) (suc i) vs
+sets-behind [] x xs i = refl
+sets-behind (v ∷ vs) x xs i = sets-behind vs x (set xs i v) (suc i)
+
+-- what is stored in a part is stored in the whole
+sets-part : (a k : ℕ) (o t : List ℕ) → length t ≤ k → a + k ≤ length o → take a o ++ (sets (take k (drop a o)) 0 t ++ drop k (drop a o)) ≡ sets o a t
+sets-part zero k o t h l = sets-front t (take k o) (drop k o) 0 (omega (arith, length-take k o)) ∙ ap (λ (m : List ℕ). sets m 0 t) (take-append-drop k o)
+sets-part (suc a) k [] t h l = absurd (omega arith)
+sets-part (suc a) k (x ∷ o) t h l = ap (λ (m : List ℕ). x ∷ m) (sets-part a k o t h (omega arith)) ∙ sets-behind t x o a
+
+back-same : (a k : ℕ) (o : List ℕ) → take a o ++ (take k (drop a o) ++ drop k (drop a o)) ≡ o
+back-same a k o = ap (λ (l : List ℕ). take a o ++ l) (take-append-drop k (drop a o)) ∙ take-append-drop a o
+
+filled-by : (a k : ℕ) (o t : List ℕ) (b : Bool) → a + k ≤ length o → leb (length t) k ≡ b
+    → take a o ++ (pick b (sets (take k (drop a o)) 0 t) (take k (drop a o)) ++ drop k (drop a o)) ≡ pick b (sets o a t) o
+unfolding pick
+filled-by a k o t true l e = sets-part a k o t (leb-true _ _ e) l
+filled-by a k o t false l e = back-same a k o
+
+part-filled : (x : Outcome) (a k : ℕ) (o : List ℕ) → a + k ≤ length o → take a o ++ (filledBy x (take k (drop a o)) ++ drop k (drop a o)) ≡ partFilled x a k o
+unfolding filledBy partFilled
+part-filled (refusedBy code place) a k o l = back-same a k o
+part-filled (key t f) a k o l =
+    let long : length (take k (drop a o)) ≡ k = omega (arith, length-take k (drop a o), length-drop a o) in
+    ap (λ (n : ℕ). take a o ++ (pick (leb (length t) n) (sets (take k (drop a o)) 0 t) (take k (drop a o)) ++ drop k (drop a o))) long ∙ filled-by a k o t _ l refl
+
+pub part-back : (x : Outcome) (a e : ℕ) (o : List ℕ) (r : Spelled) (m : List ℕ) → (a ≤ e) × (e ≤ length o)
+    → SpellIs x (take (e - a) (drop a o)) r m → PartIs x a (e - a) o r (take a o ++ (m ++ drop (e - a) (drop a o)))
+part-back x a e o r m h p = record {
+  result = p .result ∙ ap (toldOf x) (omega (arith, h .0, h .1, length-take (e - a) (drop a o), length-drop a o));
+  buffer = ap (λ (l : List ℕ). take a o ++ (l ++ drop (e - a) (drop a o))) (p .buffer) ∙ part-filled x a (e - a) o (omega (arith, h .0, h .1));
+}
+
+-- ---- no refusal but that for room is 9
+
+unfoldable WordBelow : Spelling → Type 0
+WordBelow (refusal k) = k < 9
+WordBelow (texts l f) = Unit {0}
+
+raised-below : (up : Bool) (s : Spelling) → WordBelow s → WordBelow (raised up s)
+unfolding WordBelow raised
+raised-below up (refusal k) h = h
+raised-below up (texts l f) h = tt
+
+united-below : (g : LanguageSet) (xs l : List Entry) (rest : List Entry → Spelling) → ((m : List Entry) → WordBelow (rest m)) → WordBelow (united g xs l rest)
+unfolding WordBelow united
+united-below g [] l rest h = h l
+united-below g (x ∷ xs) l rest h =
+    pick-all WordBelow _ _ _ (united-below g xs _ rest h) (pick-all WordBelow _ _ _ (omega arith) (united-below g xs _ rest h))
+
+ran-below : (g : LanguageSet) (o : Ran) (l : List Entry) (rest : List Entry → Spelling) → ((m : List Entry) → WordBelow (rest m)) → WordBelow (onRan g o l rest)
+unfolding WordBelow onRan
+ran-below g tooLong l rest h = omega arith
+ran-below g (ran new flag) l rest h = raised-below flag _ (united-below g new l rest h)
+
+final-below : (limit : ℕ) (names : List ℕ) (rules : List Rule) (old l : List Entry) → WordBelow (finalFrom limit names rules old l)
+unfolding WordBelow finalFrom finalText
+final-below limit names rules [] l = tt
+final-below limit names rules (e ∷ old) l = ran-below _ _ l _ (final-below limit names rules old)
+
+then-below : (s : Spelling) (rest : List Entry → Spelling) → WordBelow s → ((m : List Entry) → WordBelow (rest m)) → WordBelow (then s rest)
+unfolding WordBelow then
+then-below (refusal k) rest h g = h
+then-below (texts l flag) rest h g = raised-below flag _ (g l)
+
+main-below : (o : Ran) → WordBelow (mainOf o)
+unfolding WordBelow mainOf
+main-below tooLong = omega arith
+main-below (ran l flag) = tt
+
+unfoldable NameBelow : Spelt → Type 0
+NameBelow (bad k) = k < 9
+NameBelow (good t f) = Unit {0}
+
+answer-below : (s : Spelling) → WordBelow s → NameBelow (speltBy s)
+unfolding WordBelow NameBelow speltBy
+answer-below (refusal k) h = h
+answer-below (texts l f) h = tt
+
+both-below : (x y : Spelt) → NameBelow x → NameBelow y → NameBelow (both x y)
+unfolding NameBelow both
+both-below (good t f) (good u g) h k = tt
+both-below (good t f) (bad j) h k = k
+both-below (bad i) (good u g) h k = h
+both-below (bad i) (bad j) h k = k
+
+hyphened-below : (x y : Spelt) → NameBelow x → NameBelow y → NameBelow (hyphened x y)
+unfolding NameBelow hyphened
+hyphened-below (good t f) (good u g) h k = tt
+hyphened-below (good t f) (bad j) h k = k
+hyphened-below (bad i) y h k = h
+
+module _ (afresh : Text → Spelt) (low : (t : Text) → NameBelow (afresh t)) where
+  and-below : (x : Spelt) (ws : List Text) → NameBelow x → NameBelow (andWords afresh x ws)
+  unfolding andWords
+  and-below x [] h = h
+  and-below x (w ∷ ws) h = and-below _ ws (hyphened-below x _ h (low w))
+
+  each-below : (ws : List Text) → NameBelow (eachWord afresh ws)
+  unfolding NameBelow eachWord
+  each-below [] = tt
+  each-below (w ∷ ws) = and-below _ ws (low w)
+
+  prefix-below : (p : Prefix) (s : Text) (whole : Spelt) → NameBelow whole → NameBelow (byPrefix p afresh s whole)
+  unfolding byPrefix
+  prefix-below (Parted keep skip) s whole h = both-below _ _ (low _) (low _)
+  prefix-below Whole s whole h = h
+
+name-below : (n : ℕ) (c : Steps) → ((g : LanguageSet) (w : Text) → NameBelow (c .word g w)) → (g : LanguageSet) (s : Text) → NameBelow (nameFrom n c g s)
+unfolding NameBelow nameFrom nameBy byWords onePart
+name-below zero c low g s = omega arith
+name-below (suc n) c low g s =
+    let again : (t : Text) → NameBelow (nameFrom n c (c .guess t) t) = λ t. name-below n c low (c .guess t) t in
+    prefix-below _ again _ s _ (pick-all NameBelow _ _ _ (pick-all NameBelow _ _ _ (low g _) (low g _)) (each-below _ again _))
+
+unfoldable Below : Outcome → Type 0
+Below (refusedBy k place) = k < 9
+Below (key t f) = Unit {0}
+
+outcome-below : (x : Spelt) → NameBelow x → Below (outcomeOf x)
+unfolding NameBelow Below outcomeOf
+outcome-below (bad k) h = h
+outcome-below (good t f) h = h
+
+unless-below : (code : ℕ) (at : Found) (rest : Outcome) → code < 9 → Below rest → Below (unless code at rest)
+unfolding Below unless
+unless-below code (At place) rest h k = h
+unless-below code Nothing rest h k = k
+
+pack-below : (c : Settings) (start : Start) (s name : List ℕ) (v : Verdict) → Below (onPack c start s name v)
+unfolding Below onPack spelledBy spelledName stepsOf stepsBy wordBy wordOf finalPass
+pack-below c start s name (refused place) = omega arith
+pack-below c start s name (accepted p) =
+    pick-all Below _ _ _ (outcome-below _ (name-below _ _ (λ g w. answer-below _ (then-below _ _ (main-below _) (λ l. then-below _ _ (final-below _ _ _ l []) (λ m. final-below _ _ _ m [])))) _ _)) (omega arith)
+
+call-below : (c : Settings) (start : Start) (s name : List ℕ) → Below (callOf c start s name)
+unfolding Below callOf checkedThen lettersThen
+call-below c start s name =
+    pick-all Below _ _ _ (pick-all Below _ _ _ (omega arith) (unless-below 1 _ _ (omega arith) (unless-below 2 _ _ (omega arith) (pack-below c start s name _)))) (omega arith)
+
+-- ---- the line of a name
+
+-- what a line is by what the call came to
+line-answer : (size : ℕ) (t : Text) (f : Bool) → length t ≤ room size → lineOf size (key t f) ≡ answerLine (numbersOf (Done (length t) f)) t
+unfolding lineOf textOf toldOf lineBy
+line-answer size t f h = ap (λ (r : Spelled). lineBy r t) (pick-true _ _ _ (le-leb _ _ h))
+
+line-long : (size : ℕ) (t : Text) (f : Bool) → room size < length t → lineOf size (key t f) ≡ refusalLine (numbersOf (Refused 9 (min (length t) most)))
+unfolding lineOf textOf toldOf lineBy
+line-long size t f h = ap (λ (r : Spelled). lineBy r t) (pick-false _ _ _ (lt-leb _ _ h))
+
+line-other : (size k place : ℕ) → lineOf size (refusedBy k place) ≡ refusalLine (numbersOf (Refused k place))
+unfolding lineOf textOf toldOf lineBy
+line-other size k place = refl
+
+-- what an answer in the part tells of the call
+record Answered (x : Outcome) (a space : ℕ) (o o₁ : List ℕ) (written : ℕ) (flag : Bool) : Type 0 where
+  text : Text
+  is : x ≡ key text flag
+  long : length text ≡ written
+  room-is : written ≤ space
+  stands : o₁ ≡ sets o a text
+
+record Long (x : Outcome) (space : ℕ) (o o₁ : List ℕ) (code place : ℕ) : Type 0 where
+  text : Text
+  flag : Bool
+  is : x ≡ key text flag
+  code-is : code ≡ 9
+  place-is : place ≡ min (length text) most
+  over : space < length text
+  same : o₁ ≡ o
+
+record Other (x : Outcome) (o o₁ : List ℕ) (code place : ℕ) : Type 0 where
+  is : x ≡ refusedBy code place
+  low : code < 9
+  same : o₁ ≡ o
+
+whole-by : (t : Text) (f : Bool) (a space : ℕ) (o o₁ : List ℕ) (written : ℕ) (flag b : Bool) → leb (length t) space ≡ b
+    → Done written flag ≡ pick b (Done (length t) f) (Refused 9 (min (length t) most)) → o₁ ≡ pick b (sets o a t) o → Answered (key t f) a space o o₁ written flag
+unfolding pick
+whole-by t f a space o o₁ written flag true e p q =
+    let long : length t ≡ written = cc in
+    record { text = t; is = cc; long = long; room-is = omega (arith, leb-true (length t) space e); stands = q }
+whole-by t f a space o o₁ written flag false e p q = clash (cc)
+
+whole-of : (x : Outcome) (a space : ℕ) (o o₁ : List ℕ) (r : Spelled) (written : ℕ) (flag : Bool) → PartIs x a space o r o₁ → r ≡ Done written flag → Answered x a space o o₁ written flag
+unfolding toldOf partFilled
+whole-of (refusedBy k place) a space o o₁ r written flag p e = let no : Done written flag ≡ Refused k place = sym e ∙ p .result in clash (cc)
+whole-of (key t f) a space o o₁ r written flag p e = whole-by t f a space o o₁ written flag _ refl (sym e ∙ p .result) (p .buffer)
+
+refused-by : (t : Text) (f : Bool) (a space : ℕ) (o o₁ : List ℕ) (code place : ℕ) (b : Bool) → leb (length t) space ≡ b
+    → Refused code place ≡ pick b (Done (length t) f) (Refused 9 (min (length t) most)) → o₁ ≡ pick b (sets o a t) o → Long (key t f) space o o₁ code place
+unfolding pick
+refused-by t f a space o o₁ code place true e p q = clash (cc)
+refused-by t f a space o o₁ code place false e p q = record { text = t; flag = f; is = refl; code-is = cc; place-is = cc; over = leb-false _ _ e; same = q }
+
+refused-of : (x : Outcome) (a space : ℕ) (o o₁ : List ℕ) (r : Spelled) (code place : ℕ) → Below x → PartIs x a space o r o₁ → r ≡ Refused code place
+    → Long x space o o₁ code place ⊎ Other x o o₁ code place
+unfolding Below toldOf partFilled
+refused-of (refusedBy k at) a space o o₁ r code place l p e =
+    let same : Refused k at ≡ Refused code place = sym (p .result) ∙ e in
+    let code-is : k ≡ code = cc in
+    inr (record { is = cc; low = omega arith; same = p .buffer })
+refused-of (key t f) a space o o₁ r code place l p e = inl (refused-by t f a space o o₁ code place _ refl (sym e ∙ p .result) (p .buffer))
+
+-- the part of the buffer from a to e, for an answer behind `at`
+record Lent (o : List ℕ) (at size a e : ℕ) : Type 0 where
+  within : at ≤ size
+  size-is : size ≡ min (length o) most
+  front-is : a ≡ min (at + 4) size
+  end-is : e ≡ max a (size - 1)
+
+module _ {o : List ℕ} {at size a e : ℕ} (w : Lent o at size a e) where
+  lent-space : e - a ≡ size - (at + 5)
+  lent-space = omega (arith, w .within, w .front-is, w .end-is)
+
+  lent-room : room (length o) ≡ size - 5
+  unfolding room
+  lent-room = omega (arith, w .size-is)
+
+  -- an answer that has room in the whole buffer
+  line-room : (x : Outcome) (t : Text) (f : Bool) → x ≡ key t f → length t ≤ size - 5 → lineOf (length o) x ≡ answerLine (numbersOf (Done (length t) f)) t
+  line-room x t f p h = ap (lineOf (length o)) p ∙ line-answer (length o) t f (omega (arith, lent-room))
+
+  module _ {x : Outcome} {o₁ o₂ : List ℕ} {r : ℕ} where
+    line-done : {written : ℕ} {flag : Bool} → Answered x a (e - a) o o₁ written flag → DoneIs written flag size o₁ o₂ at r → LineAt (lineOf (length o) x) size o o₂ at r
+    line-done {written} {flag} p d =
+        let long = answer-long (length (p .text)) flag (p .text) in
+        rw (line-room x (p .text) flag (p .is) (omega (arith, lent-space, p .long, p .room-is))) (record {
+          fits = λ s.
+              let put = d .fits (omega (arith, p .long, long)) in
+              let place : a ≡ at + 4 = omega (arith, w .within, w .front-is, long) in (
+                omega (arith, put .0, p .long, long),
+                put .1
+                    ∙ ap₂ (λ (l : List ℕ) (n : ℕ). sets (sets l at (headOf flag)) (at + 4 + n) (10 ∷ [])) (p .stands ∙ ap (λ (n : ℕ). sets o n (p .text)) place) (sym (p .long))
+                    ∙ answer-stands o at (length (p .text)) flag (p .text),
+              );
+          stops = λ s.
+              let left = d .stops (omega (arith, p .long, long)) in
+              (left .0, left .1 ∙ p .stands ∙ sets-none (p .text) o a (omega (arith, lent-space, p .long, p .room-is, long)));
+        })
+
+    line-long-by : {code place : ℕ} (b : Bool) → waitsFor code place size ≡ b → Long x (e - a) o o₁ code place → RefusedIs code place size o₁ o₂ at r → LineAt (lineOf (length o) x) size o o₂ at r
+    unfolding waitsFor and
+    line-long-by {code} {place} true h p d =
+        let small : place + 5 ≤ size = leb-true _ _ (and-inv (eqb code 9) (leb (place + 5) size) h .1) in
+        let left = d .waits h in
+        rw (line-room x (p .text) (p .flag) (p .is) (omega (arith, w .size-is, p .place-is))) (record {
+          fits = λ s. absurd (omega (arith, lent-space, p .over, answer-long (length (p .text)) (p .flag) (p .text)));
+          stops = λ _. (left .0, left .1 ∙ p .same);
+        })
+    line-long-by {code} {place} false h p d =
+        let large : size < place + 5 = leb-false _ _ (rw (eq-eqb _ _ (p .code-is)) at h) in
+        let over : room (length o) < length (p .text) = omega (arith, lent-room, lent-space, p .place-is, p .over) in
+        let line-is : lineOf (length o) x ≡ refusalLine (numbersOf (Refused code place)) =
+        ap (lineOf (length o)) (p .is) ∙ line-long (length o) (p .text) (p .flag) over ∙ ap₂ (λ (k n : ℕ). refusalLine (numbersOf (Refused k n))) (sym (p .code-is)) (sym (p .place-is)) in
+        rw (line-is, ← p .same) (d .line h)
+
+    line-refused : {code place : ℕ} → Long x (e - a) o o₁ code place ⊎ Other x o o₁ code place → RefusedIs code place size o₁ o₂ at r → LineAt (lineOf (length o) x) size o o₂ at r
+    unfolding waitsFor
+    line-refused {code} {place} (inl p) d = line-long-by _ refl p d
+    line-refused {code} {place} (inr p) d = rw (p .is, line-other (length o) code place, ← p .same) (d .line (and-first _ _ (ne-eqb code 9 (λ z. absurd (omega (arith, p .low))))))
+
+module _ (o : List ℕ) (at size a e : ℕ) (h : (at ≤ size) × (size ≡ min (length o) most)) (f : a ≡ min (at + 4) size) (g : e ≡ max a (size - 1)) where
+  pub lent-order : a ≤ e
+  lent-order = omega (arith, g)
+
+  pub lent-within : e ≤ length o
+  lent-within = omega (arith, h .0, h .1, f, g)
+
+  lent : Lent o at size a e
+  lent = record { within = h .0; size-is = h .1; front-is = f; end-is = g }
+
+  module _ (settings : Settings) (start : Start) (pack name o₁ o₂ : List ℕ) (r : Spelled) (next : ℕ) (p : PartIs (callOf settings start pack name) a (e - a) o r o₁) where
+    pub put-done : (written : ℕ) (flag : Bool) → r ≡ Done written flag → DoneIs written flag size o₁ o₂ at next → LineAt (lineFor settings start pack (length o) name) size o o₂ at next
+    unfolding lineFor
+    put-done written flag q d = line-done lent (whole-of _ a (e - a) o o₁ r written flag p q) d
+
+    pub put-refused : (code place : ℕ) → r ≡ Refused code place → RefusedIs code place size o₁ o₂ at next → LineAt (lineFor settings start pack (length o) name) size o o₂ at next
+    unfolding lineFor
+    put-refused code place q d = line-refused lent (refused-of _ a (e - a) o o₁ r code place (call-below settings start pack name) p q) d
+
+-- ---- the lines of a block
+
+by-some : (r : Spelled) (t : Text) → 0 < length (lineBy r t)
+unfolding lineBy refusalLine numbersOf
+by-some (Done written flag) t = let long : length (lineBy (Done written flag) t) ≡ 5 + length t = answer-long written flag t in omega (arith, long)
+by-some (Refused code place) t =
+    let long : length (lineBy (Refused code place) t) ≡ length (decimal code) + suc (length (decimal place ++ 10 ∷ [])) = length-append (decimal code) _ in
+    omega (arith, long)
+
+line-some : (settings : Settings) (start : Start) (pack : List ℕ) (size : ℕ) (name : Text) → 0 < length (lineFor settings start pack size name)
+unfolding lineFor lineOf
+line-some settings start pack size name = by-some (toldOf (callOf settings start pack name) (room size)) _
+
+-- what is read and written so far, and what is left to take
+pub record Going (settings : Settings) (start : Start) (pack block o₀ o : List ℕ) (size read written : ℕ) : Type 0 where
+  pub fuel : ℕ
+  pub enough : length block - read ≤ fuel
+  pub read-in : read ≤ length block
+  pub written-in : written ≤ size
+  pub size-is : size ≡ min (length o₀) most
+  pub text : Text
+  pub long : length text ≡ written
+  pub stands : o ≡ sets o₀ 0 text
+  pub is : taken (lineFor settings start pack (length o₀)) block o₀ ≡ andTaken read text (takeLines (lineFor settings start pack (length o₀)) (size - written) (linesFrom fuel (drop read block)))
+
+and-none-taken : (x : Taken) → x ≡ andTaken 0 [] x
+unfolding andTaken
+and-none-taken x = ap (λ (n : ℕ). record { read = n; text = x .text }) (sym (zero-add (x .read)))
+
+and-twice : (n m : ℕ) (t u : Text) (x : Taken) → andTaken n t (andTaken m u x) ≡ andTaken (n + m) (t ++ u) x
+unfolding andTaken
+and-twice n m t u x = ap₂ (λ (k : ℕ) (v : Text). record { read = k; text = v }) (omega arith) (sym (append-assoc t u (x .text)))
+
+pub going-start : (settings : Settings) (start : Start) (pack block o : List ℕ) (size : ℕ) → size ≡ min (length o) most → Going settings start pack block o o size 0 0
+unfolding taken wholeLines
+going-start settings start pack block o size e = record {
+  fuel = length block;
+  enough = omega arith;
+  read-in = zero-le;
+  written-in = zero-le;
+  size-is = e;
+  text = [];
+  long = refl;
+  stands = refl;
+  is = rw (← e, sub-zero size) (and-none-taken _);
+}
+
+module _ {settings : Settings} {start : Start} {pack block o₀ o : List ℕ} {size read written : ℕ} (w : Going settings start pack block o₀ o size read written) where
+  pub going-in : read ≤ length block
+  going-in = w .read-in
+
+  pub going-long : length o ≡ length o₀
+  going-long = ap length (w .stands) ∙ length-sets o₀ 0 (w .text)
+
+  pub going-room : (written ≤ size) × (size ≡ min (length o) most)
+  going-room = (w .written-in, w .size-is ∙ ap (λ (n : ℕ). min n most) (sym going-long))
+
+  going-over : takeLines (lineFor settings start pack (length o₀)) (size - written) (linesFrom (w .fuel) (drop read block)) ≡ noneTaken
+      → LinesIs (lineFor settings start pack (length o₀)) block o₀ (record { read = read; written = written }) o
+  unfolding andTaken
+  going-over e =
+      let is : taken (lineFor settings start pack (length o₀)) block o₀ ≡ record { read = read; text = w .text } =
+      w .is ∙ ap (andTaken read (w .text)) e ∙ ap₂ (λ (k : ℕ) (v : Text). record { read = k; text = v }) (omega arith) (append-nil (w .text)) in
+      record {
+        result = ap (λ (n : ℕ). record { read = read; written = n }) (sym (w .long)) ∙ ap (λ (x : Taken). record { read = x .read; written = length (x .text) }) (sym is);
+        buffer = w .stands ∙ ap (λ (x : Taken). sets o₀ 0 (x .text)) (sym is);
+      }
+
+  -- the part of the block that is left
+  abbrev left-over : List ℕ
+  left-over = take (length block - read) (drop read block)
+
+  pub going-end : (n : ℕ) → n ≡ placeOf 10 left-over → length left-over ≤ n → LinesIs (lineFor settings start pack (length o₀)) block o₀ (record { read = read; written = written }) o
+  unfolding takeLines
+  going-end n e h =
+      let past : length (drop read block) ≤ placeOf 10 (drop read block) = rw (rest-is block read) at (rw e at h) in
+      going-over (ap (takeLines (lineFor settings start pack (length o₀)) (size - written)) (lines-none _ _ past))
+
+  pub going-most : (n : ℕ) → n < length left-over → read + n + 1 ≤ length block
+  going-most n h = omega (arith, ap length (rest-is block read), length-drop read block)
+
+  pub going-less : (n : ℕ) → n < length left-over → length block - (read + n + 1) < length block - read
+  going-less n h = omega (arith, going-most n h)
+
+  module _ (n : ℕ) (e : n ≡ placeOf 10 left-over) (h : n < length left-over) (o′ : List ℕ) (next : ℕ)
+      (l : LineAt (lineFor settings start pack (length o) (take (n - 0) left-over)) size o o′ written next) where
+    abbrev name : Text
+    name = take n (drop read block)
+
+    abbrev line : Text
+    line = lineFor settings start pack (length o₀) name
+
+    line-at : LineAt line size o o′ written next
+    line-at = rw (going-long, rest-is block read, sub-zero n) at l
+
+    -- the next name, and those behind it
+    names-are : linesFrom (w .fuel) (drop read block) ≡ name ∷ linesFrom (w .fuel - 1) (drop (read + n + 1) block)
+    names-are =
+        let place : n ≡ placeOf 10 (drop read block) = rw (rest-is block read) at e in
+        let inside : n < length (drop read block) = rw (rest-is block read) at h in
+        let more : w .fuel ≡ suc (w .fuel - 1) = omega (arith, w .enough, length-drop read block) in
+        let behind : read + suc n ≡ read + n + 1 = omega arith in
+        ap (λ (f : ℕ). linesFrom f (drop read block)) more ∙ lines-more _ _ (omega arith)
+        ∙ ap (λ (k : ℕ). take k (drop read block) ∷ linesFrom (w .fuel - 1) (drop (suc k) (drop read block))) (sym place)
+        ∙ ap (λ (s : List ℕ). name ∷ linesFrom (w .fuel - 1) s) (drop-drop (suc n) read block ∙ ap (λ (k : ℕ). drop k block) behind)
+
+    pub going-stop : next ≡ written → LinesIs (lineFor settings start pack (length o₀)) block o₀ (record { read = read; written = written }) o′
+    going-stop z = elim (decLe (length line) (size - written)) [
+      | yes k ↦ absurd (omega (arith, line-at .fits k .0, line-some settings start pack (length o₀) name))
+      | no k ↦
+          rw (line-at .stops (omega arith) .1) (going-over (ap (takeLines (lineFor settings start pack (length o₀)) (size - written)) names-are ∙ take-stop _ _ _ _ (omega arith)))
+    ]
+
+    going-fits : (next ≡ written → ⊥) → length line ≤ size - written
+    going-fits z = elim (decLe (length line) (size - written)) [
+      | yes k ↦ k
+      | no k ↦ absurd (z (line-at .stops (omega arith) .0))
+    ]
+
+    pub going-next : (next ≡ written → ⊥) → Going settings start pack block o₀ o′ size (read + n + 1) next
+    going-next z =
+        let put = line-at .fits (going-fits z) in
+        let left : size - written - length line ≡ size - next = omega (arith, put .0) in
+        let read-is : read + suc (length name) ≡ read + n + 1 = omega (arith, going-most n h, length-take n (drop read block), length-drop read block) in
+        record {
+          fuel = w .fuel - 1;
+          enough = omega (arith, w .enough);
+          read-in = going-most n h;
+          written-in = omega (arith, put .0, going-fits z, w .written-in);
+          size-is = w .size-is;
+          text = w .text ++ line;
+          long = omega (arith, length-append (w .text) line, w .long, put .0);
+          stands = put .1 ∙ ap₂ (λ (l : List ℕ) (k : ℕ). sets l k line) (w .stands) (sym (w .long) ∙ sym (zero-add _)) ∙ sets-then o₀ 0 (w .text) line;
+          is =
+              w .is ∙ ap (λ (ns : List Text). andTaken read (w .text) (takeLines (lineFor settings start pack (length o₀)) (size - written) ns)) names-are
+              ∙ ap (andTaken read (w .text)) (take-fits _ _ _ _ (going-fits z))
+              ∙ and-twice read (suc (length name)) (w .text) line _
+              ∙ ap₂ (λ (k m : ℕ). andTaken k (w .text ++ line) (takeLines (lineFor settings start pack (length o₀)) m (linesFrom (w .fuel - 1) (drop (read + n + 1) block)))) read-is left;
+        }
+
+-- ---- what waits for an emptier buffer
+
+module _ (code place size : ℕ) where
+  pub waits-room : code ≡ 9 → 5 ≤ size → leb place (size - 5) ≡ waitsFor code place size
+  unfolding waitsFor
+  waits-room e h = and-rest _ _ _ (eq-eqb _ _ e) (elim (decLe place (size - 5)) [
+    | yes k ↦ le-leb place (size - 5) k ∙ sym (le-leb (place + 5) size (omega arith))
+    | no k ↦ lt-leb place (size - 5) (omega arith) ∙ sym (lt-leb (place + 5) size (omega arith))
+  ])
+
+  pub waits-small : size < 5 → false ≡ waitsFor code place size
+  unfolding waitsFor
+  waits-small h = and-no _ _ (sym (lt-leb (place + 5) size (omega arith)))
+
+  pub waits-other : (code ≡ 9 → ⊥) → false ≡ waitsFor code place size
+  unfolding waitsFor
+  waits-other e = and-none _ _ _ (ne-eqb _ _ e) refl
+
+pub ruleset lines-laws = (slice-room, put-long, digit-one, digit-more, refusal-put, refused-waits, refused-fits, refused-stops, head-up, head-down, done-fits, done-small, done-narrow, part-back, waits-room, waits-small, waits-other)
+
+pub ruleset line-laws = (lent-order, lent-within, put-done, put-refused)
+
+pub ruleset block-laws = (going-in)

@@ -1,0 +1,105 @@
+-- What `spell_name` and `spell_words` ask of each other. Assumes nothing.
+use mathlib.Core.Path.{_≡_, refl, sym, ap, ap₂, _∙_}
+use mathlib.Core.Bool.{Bool, true, false}
+use mathlib.Core.List.{List, [], _∷_, _++_}
+use Prim.Native.Nat.{ℕ, zero, suc, _+_, _-_, _*_, _≤_, _<_, zero-le}
+use native.Mathlib.Omega.{arith}
+use lib.ListN.{length, take, drop}
+use Rattle.base.specs.Pick.{pick}
+use Rattle.choices.specs.Texts.{Text}
+use Rattle.name_parts.specs.Writing.{cap, Put}
+use Rattle.name_parts.specs.Words.{wordsOf, wordAt, pastWord, oneWord}
+use Rattle.name_parts.specs.Joining.{joinedName}
+use Rattle.name_parts.specs.declared.prefixes.NameType.{NameType}
+use Rattle.name_parts.specs.declared.prefixes.Prefix.{Prefix}
+use Rattle.name_parts.specs.declared.prefixes.Prefix.the-variants.{Parted}
+use Rattle.name_parts.proofs.Laws.{slice-room, word-later, past-within, word-shorter}
+use Rattle.engine.specs.Spelling.{Spelt, partedAs, spelledName, eachWord, afreshBy}
+use Rattle.engine.specs.Calls.{stepsBy}
+use Rattle.engine.specs.Walks.{Ready, Scratch, afreshOf, stepsAt, startAt, Told, bothOf}
+use Rattle.engine.specs.Walks as walks
+use Rattle.engine.specs.declared.call.Call.{Call}
+use Rattle.engine.specs.declared.encode.Ends.{Ends}
+use Rattle.engine.proofs.ToldLaws.{WordsTold, words-start, words-end, words-place, words-turn, a-word}
+use Rattle.engine.proofs.EncodeLaws.{rest-is, rest-short, joined-part, front-is}
+
+-- the buffers keep their sizes
+pub scratch-kept : {a b c d a′ b′ c′ d′ : ℕ} → Scratch a b c d → a′ ≡ a → b′ ≡ b → c′ ≡ c → d′ ≡ d → Scratch a′ b′ c′ d′
+scratch-kept x ea eb ec ed = record { store-is = ea ∙ x .store-is; lens-is = eb ∙ x .lens-is; langs-is = ec ∙ x .langs-is; ord-is = ed ∙ x .ord-is }
+
+-- ---- a name with a prefix: both parts are shorter
+
+module _ (kind : NameType) (name : Text) (x : Prefix) (e : x ≡ partedAs kind name) (keep skip : ℕ) (q : x ≡ Parted keep skip) where
+  pub rest-less : length (take (length name - skip) (drop skip name)) < length name
+  rest-less = rw (rest-is name skip) (rest-short kind name x e keep skip q)
+
+  pub joined-small : length name ≤ 96 → length (joinedName keep skip name) ≤ 96
+  joined-small h = omega (arith, joined-part kind name x e keep skip q)
+
+  pub joined-less : {o o′ : List ℕ} {n : ℕ} → length name ≤ 96 → Put o o′ 0 n (joinedName keep skip name) → length o ≡ 96 → length (take (n - 0) (drop 0 o′)) < length name
+  joined-less h p r = rw (front-is p (joined-small h) r) (joined-part kind name x e keep skip q)
+
+-- ---- spelled afresh
+
+module _ (s : List ℕ) (call again : Call) (e : again ≡ afreshOf call) where
+  pub steps-again : stepsAt s again ≡ stepsAt s call
+  unfolding afreshOf stepsAt
+  steps-again = rw e refl
+
+  pub told-again : {o o′ : List ℕ} {at : ℕ} {r : Ends} (t : Text) → Told (spelledName (stepsAt s again) (startAt s again t) t) o o′ at r → Told (afreshBy (stepsAt s again) t) o o′ at r
+  unfolding afreshOf stepsAt startAt afreshBy pick
+  told-again t q = rw e (rw e at q)
+
+-- ---- words
+
+-- the invariant of the loop: the words so far are told, and every buffer has its size
+pub record WordsHeld (f : Text → Spelt) (name : Text) (o₀ o : List ℕ) (at p : ℕ) (all : Ends) (a₀ b₀ c₀ d₀ a b c d : ℕ) : Type 0 where
+  pub told : WordsTold f name o₀ o at p all
+  pub within : p ≤ length name
+  pub store-same : a ≡ a₀
+  pub lens-same : b ≡ b₀
+  pub langs-same : c ≡ c₀
+  pub ord-same : d ≡ d₀
+  pub out-same : length o ≡ length o₀
+
+pub held-start : (f : Text → Spelt) (name : Text) (o : List ℕ) (at a b c d : ℕ) → at ≤ cap → length o * 1 < cap → WordsHeld f name o o at 0 (record { at = at; flag = false; code = 0 }) a b c d a b c d
+held-start f name o at a b c d h r = record {
+  told = words-start f name o at h (slice-room o r);
+  within = zero-le;
+  store-same = refl;
+  lens-same = refl;
+  langs-same = refl;
+  ord-same = refl;
+  out-same = refl;
+}
+
+module _ {f : Text → Spelt} {name : Text} {o₀ o : List ℕ} {at p : ℕ} {all : Ends} {a₀ b₀ c₀ d₀ a b c d : ℕ} (k : WordsHeld f name o₀ o at p all a₀ b₀ c₀ d₀ a b c d) where
+  pub held-scratch : Scratch a₀ b₀ c₀ d₀ → Scratch a b c d
+  held-scratch x = scratch-kept x (k .store-same) (k .lens-same) (k .langs-same) (k .ord-same)
+
+  module _ (w : Text) (ew : w ≡ wordAt name p) where
+    pub held-end : length w ≡ 0 → Told (eachWord f (wordsOf name)) o₀ o at all
+    held-end h = words-end w ew (k .told) h
+
+    module _ (some : length w ≡ 0 → ⊥) where
+      pub held-shorter : oneWord name ≡ false → length w < length name
+      held-shorter h = rw ew (word-shorter name p h (a-word name p w ew some))
+
+      pub held-less : (p′ : ℕ) → p′ ≡ pastWord name p → length name - p′ < length name - p
+      held-less p′ e = omega (arith, e, word-later name p (a-word name p w ew some), past-within name p (a-word name p w ew some))
+
+      module _ {o₁ : List ℕ} {q : ℕ} (h : walks.Parted o o₁ (all .at) p q) where
+        pub held-place : q ≤ cap
+        held-place = words-place w ew some h (k .told)
+
+        pub held-turn : {o₂ : List ℕ} {b′ r : Ends} {p′ a₁ b₁ c₁ d₁ : ℕ} → Told (f w) o₁ o₂ q b′ → r ≡ bothOf all b′ (b′ .at) → p′ ≡ pastWord name p
+            → a₁ ≡ a → b₁ ≡ b → c₁ ≡ c → d₁ ≡ d → length o₂ ≡ length o → WordsHeld f name o₀ o₂ at p′ r a₀ b₀ c₀ d₀ a₁ b₁ c₁ d₁
+        held-turn {p′ = p′} tb e ep ea eb ec ed eo = record {
+          told = words-turn w ew some h tb e (k .told) p′ ep;
+          within = rw ep (past-within name p (a-word name p w ew some));
+          store-same = ea ∙ k .store-same;
+          lens-same = eb ∙ k .lens-same;
+          langs-same = ec ∙ k .langs-same;
+          ord-same = ed ∙ k .ord-same;
+          out-same = eo ∙ k .out-same;
+        }

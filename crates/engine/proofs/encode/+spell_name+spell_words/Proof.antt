@@ -1,0 +1,1335 @@
+use mathlib.Core.Path.{refl, _∙_}
+use mathlib.Core.List.{[]}
+use native.Mathlib.Omega.{arith}
+use lib.ListN.{length}
+use borrow.Author.Needs.{needs}
+use Rattle.name_parts.proofs.Laws.{put-place}
+use Rattle.engine.specs.Spelling.{afreshBy}
+use Rattle.engine.specs.Walks.{stepsAt}
+use Rattle.engine.proofs.EncodeLaws.{ready-afresh, afresh-told, skip-within, parted-told, whole-plain, whole-words, several, front-in, front-is}
+use Rattle.engine.proofs.NameLaws.{scratch-kept, rest-less, joined-small, joined-less, steps-again, told-again, WordsHeld, held-start, held-scratch, held-end, held-shorter, held-less, held-place, held-turn}
+use Prim.Native.Nat.{ℕ, _+_, _-_, _*_, _<_}
+use borrow.Fn.Kinds.{In}
+use borrow.Fn.PlainCycle.{Measures, is, falls, and}
+use Rattle.engine.proofs.encode.spell_name.Reads as spell-name
+use Rattle.engine.proofs.encode.spell_name.Kinds as spell-name-kinds
+use Rattle.engine.proofs.encode.+spell_name+spell_words.Lts-spell_name as spell-name-lts
+use Rattle.engine.proofs.encode.spell_words.Reads as spell-words
+use Rattle.engine.proofs.encode.spell_words.Kinds as spell-words-kinds
+use Rattle.engine.proofs.encode.+spell_name+spell_words.Lts-spell_words as spell-words-lts
+use Rattle.engine.proofs.call.afresh.Reads as afresh-reads
+use Rattle.engine.proofs.encode.both.Reads as both-reads
+use Rattle.engine.proofs.encode.hyphen.Reads as hyphen-reads
+use Rattle.engine.proofs.encode.is_plain.Reads as is-plain-reads
+use Rattle.engine.proofs.encode.middle.Reads as middle-reads
+use Rattle.engine.proofs.encode.part_of.Reads as part-of-reads
+use Rattle.engine.proofs.encode.spell_plain.Reads as spell-plain-reads
+use Rattle.name_parts.proofs.join_prefix.Reads as join-prefix-reads
+use Rattle.name_parts.proofs.next_word.Reads as next-word-reads
+use Rattle.name_parts.proofs.past_word.Reads as past-word-reads
+use Rattle.name_parts.proofs.push.Reads as push-reads
+use Rattle.engine.proofs.encode.+spell_name+spell_words.{statement}
+use Rattle.engine.proofs.encode.+spell_name+spell_words.Tie.{close}
+
+abbrev μ-spell-name : Measures 8 spell-name-kinds.ps ℕ
+μ-spell-name κs a = length (a .1 .1 .1 .1 .1 .1 .1 .0 .now) * 2 + 1
+
+abbrev μ-spell-words : Measures 8 spell-words-kinds.ps ℕ
+μ-spell-words κs a = length (a .1 .1 .1 .1 .1 .1 .1 .0 .now) * 2
+
+abbrev spell-name-at : ℕ → In 8 spell-name-kinds.ps
+spell-name-at t =
+    and 8 spell-name-kinds.ps (is 8 spell-name-kinds.ps μ-spell-name t) spell-name.Pre
+
+abbrev spell-name-below : ℕ → In 8 spell-name-kinds.ps
+spell-name-below t =
+    and 8 spell-name-kinds.ps (falls 8 spell-name-kinds.ps _<_ μ-spell-name t) spell-name.Pre
+
+abbrev spell-words-at : ℕ → In 8 spell-words-kinds.ps
+spell-words-at t =
+    and 8 spell-words-kinds.ps (is 8 spell-words-kinds.ps μ-spell-words t) spell-words.Pre
+
+abbrev spell-words-below : ℕ → In 8 spell-words-kinds.ps
+spell-words-below t =
+    and 8 spell-words-kinds.ps (falls 8 spell-words-kinds.ps _<_ μ-spell-words t) spell-words.Pre
+
+spell-name-part-of-requires : (t : ℕ) → spell-name-lts.Need-part-of-requires (
+  part-of-reads.Asked,
+  part-of-reads.Learnt,
+  afresh-reads.Asked,
+  afresh-reads.Learnt,
+  join-prefix-reads.Asked,
+  join-prefix-reads.Learnt,
+  push-reads.Asked,
+  push-reads.Learnt,
+  spell-name-below t,
+  spell-name.Post,
+  middle-reads.Asked,
+  middle-reads.Learnt,
+  both-reads.Asked,
+  both-reads.Learnt,
+  is-plain-reads.Asked,
+  is-plain-reads.Learnt,
+  spell-plain-reads.Asked,
+  spell-plain-reads.Learnt,
+  spell-words-below t,
+  spell-words.Post,
+) (spell-name-at t) spell-name.Post
+spell-name-part-of-requires t c κs = search needs
+
+spell-name-enum-known-keep : (t : ℕ) → spell-name-lts.Need-enum-known-keep (
+  part-of-reads.Asked,
+  part-of-reads.Learnt,
+  afresh-reads.Asked,
+  afresh-reads.Learnt,
+  join-prefix-reads.Asked,
+  join-prefix-reads.Learnt,
+  push-reads.Asked,
+  push-reads.Learnt,
+  spell-name-below t,
+  spell-name.Post,
+  middle-reads.Asked,
+  middle-reads.Learnt,
+  both-reads.Asked,
+  both-reads.Learnt,
+  is-plain-reads.Asked,
+  is-plain-reads.Learnt,
+  spell-plain-reads.Asked,
+  spell-plain-reads.Learnt,
+  spell-words-below t,
+  spell-words.Post,
+) (spell-name-at t) spell-name.Post
+spell-name-enum-known-keep t c = search needs
+
+spell-name-afresh-requires : (t : ℕ) → spell-name-lts.Need-afresh-requires (
+  part-of-reads.Asked,
+  part-of-reads.Learnt,
+  afresh-reads.Asked,
+  afresh-reads.Learnt,
+  join-prefix-reads.Asked,
+  join-prefix-reads.Learnt,
+  push-reads.Asked,
+  push-reads.Learnt,
+  spell-name-below t,
+  spell-name.Post,
+  middle-reads.Asked,
+  middle-reads.Learnt,
+  both-reads.Asked,
+  both-reads.Learnt,
+  is-plain-reads.Asked,
+  is-plain-reads.Learnt,
+  spell-plain-reads.Asked,
+  spell-plain-reads.Learnt,
+  spell-words-below t,
+  spell-words.Post,
+) (spell-name-at t) spell-name.Post
+spell-name-afresh-requires t c κs = search needs
+
+spell-name-slice-aggregate-join-prefix : (t : ℕ) → spell-name-lts.Need-slice-aggregate-join-prefix (
+  part-of-reads.Asked,
+  part-of-reads.Learnt,
+  afresh-reads.Asked,
+  afresh-reads.Learnt,
+  join-prefix-reads.Asked,
+  join-prefix-reads.Learnt,
+  push-reads.Asked,
+  push-reads.Learnt,
+  spell-name-below t,
+  spell-name.Post,
+  middle-reads.Asked,
+  middle-reads.Learnt,
+  both-reads.Asked,
+  both-reads.Learnt,
+  is-plain-reads.Asked,
+  is-plain-reads.Learnt,
+  spell-plain-reads.Asked,
+  spell-plain-reads.Learnt,
+  spell-words-below t,
+  spell-words.Post,
+) (spell-name-at t) spell-name.Post
+spell-name-slice-aggregate-join-prefix t c = search needs
+
+spell-name-join-prefix-requires : (t : ℕ) → spell-name-lts.Need-join-prefix-requires (
+  part-of-reads.Asked,
+  part-of-reads.Learnt,
+  afresh-reads.Asked,
+  afresh-reads.Learnt,
+  join-prefix-reads.Asked,
+  join-prefix-reads.Learnt,
+  push-reads.Asked,
+  push-reads.Learnt,
+  spell-name-below t,
+  spell-name.Post,
+  middle-reads.Asked,
+  middle-reads.Learnt,
+  both-reads.Asked,
+  both-reads.Learnt,
+  is-plain-reads.Asked,
+  is-plain-reads.Learnt,
+  spell-plain-reads.Asked,
+  spell-plain-reads.Learnt,
+  spell-words-below t,
+  spell-words.Post,
+) (spell-name-at t) spell-name.Post
+spell-name-join-prefix-requires t c κs = search needs
+
+spell-name-push-requires : (t : ℕ) → spell-name-lts.Need-push-requires (
+  part-of-reads.Asked,
+  part-of-reads.Learnt,
+  afresh-reads.Asked,
+  afresh-reads.Learnt,
+  join-prefix-reads.Asked,
+  join-prefix-reads.Learnt,
+  push-reads.Asked,
+  push-reads.Learnt,
+  spell-name-below t,
+  spell-name.Post,
+  middle-reads.Asked,
+  middle-reads.Learnt,
+  both-reads.Asked,
+  both-reads.Learnt,
+  is-plain-reads.Asked,
+  is-plain-reads.Learnt,
+  spell-plain-reads.Asked,
+  spell-plain-reads.Learnt,
+  spell-words-below t,
+  spell-words.Post,
+) (spell-name-at t) spell-name.Post
+spell-name-push-requires t c κs = search needs
+
+spell-name-sub-spell-name : (t : ℕ) → spell-name-lts.Need-sub-spell-name (
+  part-of-reads.Asked,
+  part-of-reads.Learnt,
+  afresh-reads.Asked,
+  afresh-reads.Learnt,
+  join-prefix-reads.Asked,
+  join-prefix-reads.Learnt,
+  push-reads.Asked,
+  push-reads.Learnt,
+  spell-name-below t,
+  spell-name.Post,
+  middle-reads.Asked,
+  middle-reads.Learnt,
+  both-reads.Asked,
+  both-reads.Learnt,
+  is-plain-reads.Asked,
+  is-plain-reads.Learnt,
+  spell-plain-reads.Asked,
+  spell-plain-reads.Learnt,
+  spell-words-below t,
+  spell-words.Post,
+) (spell-name-at t) spell-name.Post
+spell-name-sub-spell-name t c = skip-within _ _ _ (c .before .before .before .before .before .before .before .before .before .before .before .before .before .before .before .part-of .ensures) _ _ (c .before .before .before .before .before .before .before .before .before .before .before .before .before .keep .given .1)
+
+spell-name-part-spell-name-start : (t : ℕ) → spell-name-lts.Need-part-spell-name-start (
+  part-of-reads.Asked,
+  part-of-reads.Learnt,
+  afresh-reads.Asked,
+  afresh-reads.Learnt,
+  join-prefix-reads.Asked,
+  join-prefix-reads.Learnt,
+  push-reads.Asked,
+  push-reads.Learnt,
+  spell-name-below t,
+  spell-name.Post,
+  middle-reads.Asked,
+  middle-reads.Learnt,
+  both-reads.Asked,
+  both-reads.Learnt,
+  is-plain-reads.Asked,
+  is-plain-reads.Learnt,
+  spell-plain-reads.Asked,
+  spell-plain-reads.Learnt,
+  spell-words-below t,
+  spell-words.Post,
+) (spell-name-at t) spell-name.Post
+spell-name-part-spell-name-start t c = skip-within _ _ _ (c .before .before .before .before .before .before .before .before .before .before .before .before .before .before .before .part-of .ensures) _ _ (c .before .before .before .before .before .before .before .before .before .before .before .before .before .keep .given .1)
+
+spell-name-part-spell-name-end : (t : ℕ) → spell-name-lts.Need-part-spell-name-end (
+  part-of-reads.Asked,
+  part-of-reads.Learnt,
+  afresh-reads.Asked,
+  afresh-reads.Learnt,
+  join-prefix-reads.Asked,
+  join-prefix-reads.Learnt,
+  push-reads.Asked,
+  push-reads.Learnt,
+  spell-name-below t,
+  spell-name.Post,
+  middle-reads.Asked,
+  middle-reads.Learnt,
+  both-reads.Asked,
+  both-reads.Learnt,
+  is-plain-reads.Asked,
+  is-plain-reads.Learnt,
+  spell-plain-reads.Asked,
+  spell-plain-reads.Learnt,
+  spell-words-below t,
+  spell-words.Post,
+) (spell-name-at t) spell-name.Post
+spell-name-part-spell-name-end t c = search needs
+
+spell-name-spell-name-requires : (t : ℕ) → spell-name-lts.Need-spell-name-requires (
+  part-of-reads.Asked,
+  part-of-reads.Learnt,
+  afresh-reads.Asked,
+  afresh-reads.Learnt,
+  join-prefix-reads.Asked,
+  join-prefix-reads.Learnt,
+  push-reads.Asked,
+  push-reads.Learnt,
+  spell-name-below t,
+  spell-name.Post,
+  middle-reads.Asked,
+  middle-reads.Learnt,
+  both-reads.Asked,
+  both-reads.Learnt,
+  is-plain-reads.Asked,
+  is-plain-reads.Learnt,
+  spell-plain-reads.Asked,
+  spell-plain-reads.Learnt,
+  spell-words-below t,
+  spell-words.Post,
+) (spell-name-at t) spell-name.Post
+spell-name-spell-name-requires t c κs = (omega (arith, c .before .before .before .before .before .before .before .before .before .before .before .before .before .before .before .before .before .before .before .before .before .before .before .before .before .before .pre .0, rest-less _ _ _ (c .before .before .before .before .before .before .before .before .before .before .before .before .before .before .before .before .before .part-of .ensures) _ _ (c .before .before .before .before .before .before .before .before .before .before .before .before .before .before .before .keep .given .1)), (c .before .before .before .before .before .before .before .before .before .before .before .before .before .before .before .before .before .before .before .before .before .before .before .before .before .before .pre .1 .0, (ready-afresh _ _ _ (c .before .before .before .before .before .before .before .before .before .before .before .before .before .before .before .before .before .before .before .before .before .before .before .before .before .before .pre .1 .1 .0) _ (c .before .before .before .before .before .before .before .before .before .before .before .before .before .afresh .ensures), (omega (arith, rest-less _ _ _ (c .before .before .before .before .before .before .before .before .before .before .before .before .before .before .before .before .before .part-of .ensures) _ _ (c .before .before .before .before .before .before .before .before .before .before .before .before .before .before .before .keep .given .1), (c .before .before .before .before .before .before .before .before .before .before .before .before .before .before .before .before .before .before .before .before .before .before .before .before .before .before .pre .1 .1 .1 .0)), put-place _ _ _ _ _ (c .before .before .before .before .before .before .before .before .push .ensures)))))
+
+spell-name-middle-requires : (t : ℕ) → spell-name-lts.Need-middle-requires (
+  part-of-reads.Asked,
+  part-of-reads.Learnt,
+  afresh-reads.Asked,
+  afresh-reads.Learnt,
+  join-prefix-reads.Asked,
+  join-prefix-reads.Learnt,
+  push-reads.Asked,
+  push-reads.Learnt,
+  spell-name-below t,
+  spell-name.Post,
+  middle-reads.Asked,
+  middle-reads.Learnt,
+  both-reads.Asked,
+  both-reads.Learnt,
+  is-plain-reads.Asked,
+  is-plain-reads.Learnt,
+  spell-plain-reads.Asked,
+  spell-plain-reads.Learnt,
+  spell-words-below t,
+  spell-words.Post,
+) (spell-name-at t) spell-name.Post
+spell-name-middle-requires t c κs = search needs
+
+spell-name-sub-spell-name-2 : (t : ℕ) → spell-name-lts.Need-sub-spell-name-2 (
+  part-of-reads.Asked,
+  part-of-reads.Learnt,
+  afresh-reads.Asked,
+  afresh-reads.Learnt,
+  join-prefix-reads.Asked,
+  join-prefix-reads.Learnt,
+  push-reads.Asked,
+  push-reads.Learnt,
+  spell-name-below t,
+  spell-name.Post,
+  middle-reads.Asked,
+  middle-reads.Learnt,
+  both-reads.Asked,
+  both-reads.Learnt,
+  is-plain-reads.Asked,
+  is-plain-reads.Learnt,
+  spell-plain-reads.Asked,
+  spell-plain-reads.Learnt,
+  spell-words-below t,
+  spell-words.Post,
+) (spell-name-at t) spell-name.Post
+spell-name-sub-spell-name-2 t c = search needs
+
+spell-name-part-spell-name-start-2 : (t : ℕ) → spell-name-lts.Need-part-spell-name-start-2 (
+  part-of-reads.Asked,
+  part-of-reads.Learnt,
+  afresh-reads.Asked,
+  afresh-reads.Learnt,
+  join-prefix-reads.Asked,
+  join-prefix-reads.Learnt,
+  push-reads.Asked,
+  push-reads.Learnt,
+  spell-name-below t,
+  spell-name.Post,
+  middle-reads.Asked,
+  middle-reads.Learnt,
+  both-reads.Asked,
+  both-reads.Learnt,
+  is-plain-reads.Asked,
+  is-plain-reads.Learnt,
+  spell-plain-reads.Asked,
+  spell-plain-reads.Learnt,
+  spell-words-below t,
+  spell-words.Post,
+) (spell-name-at t) spell-name.Post
+spell-name-part-spell-name-start-2 t c = search needs
+
+spell-name-part-spell-name-end-2 : (t : ℕ) → spell-name-lts.Need-part-spell-name-end-2 (
+  part-of-reads.Asked,
+  part-of-reads.Learnt,
+  afresh-reads.Asked,
+  afresh-reads.Learnt,
+  join-prefix-reads.Asked,
+  join-prefix-reads.Learnt,
+  push-reads.Asked,
+  push-reads.Learnt,
+  spell-name-below t,
+  spell-name.Post,
+  middle-reads.Asked,
+  middle-reads.Learnt,
+  both-reads.Asked,
+  both-reads.Learnt,
+  is-plain-reads.Asked,
+  is-plain-reads.Learnt,
+  spell-plain-reads.Asked,
+  spell-plain-reads.Learnt,
+  spell-words-below t,
+  spell-words.Post,
+) (spell-name-at t) spell-name.Post
+spell-name-part-spell-name-end-2 t c = front-in (c .before .before .before .before .before .before .before .before .before .before .before .before .before .before .before .before .before .before .before .before .before .before .before .before .before .before .before .before .before .before .before .join-prefix .ensures) (joined-small _ _ _ (c .before .before .before .before .before .before .before .before .before .before .before .before .before .before .before .before .before .before .before .before .before .before .before .before .before .before .before .before .before .before .before .before .before .before .before .before .before .part-of .ensures) _ _ (c .before .before .before .before .before .before .before .before .before .before .before .before .before .before .before .before .before .before .before .before .before .before .before .before .before .before .before .before .before .before .before .before .before .before .before .keep .given .1) (c .before .before .before .before .before .before .before .before .before .before .before .before .before .before .before .before .before .before .before .before .before .before .before .before .before .before .before .before .before .before .before .before .before .before .before .before .before .before .before .before .before .before .before .before .before .before .pre .1 .1 .1 .0)) refl
+
+spell-name-spell-name-requires-2 : (t : ℕ) → spell-name-lts.Need-spell-name-requires-2 (
+  part-of-reads.Asked,
+  part-of-reads.Learnt,
+  afresh-reads.Asked,
+  afresh-reads.Learnt,
+  join-prefix-reads.Asked,
+  join-prefix-reads.Learnt,
+  push-reads.Asked,
+  push-reads.Learnt,
+  spell-name-below t,
+  spell-name.Post,
+  middle-reads.Asked,
+  middle-reads.Learnt,
+  both-reads.Asked,
+  both-reads.Learnt,
+  is-plain-reads.Asked,
+  is-plain-reads.Learnt,
+  spell-plain-reads.Asked,
+  spell-plain-reads.Learnt,
+  spell-words-below t,
+  spell-words.Post,
+) (spell-name-at t) spell-name.Post
+spell-name-spell-name-requires-2 t c κs = (omega (arith, c .before .before .before .before .before .before .before .before .before .before .before .before .before .before .before .before .before .before .before .before .before .before .before .before .before .before .before .before .before .before .before .before .before .before .before .before .before .before .before .before .before .before .before .before .before .before .before .before .pre .0, joined-less _ _ _ (c .before .before .before .before .before .before .before .before .before .before .before .before .before .before .before .before .before .before .before .before .before .before .before .before .before .before .before .before .before .before .before .before .before .before .before .before .before .before .before .part-of .ensures) _ _ (c .before .before .before .before .before .before .before .before .before .before .before .before .before .before .before .before .before .before .before .before .before .before .before .before .before .before .before .before .before .before .before .before .before .before .before .before .before .keep .given .1) (c .before .before .before .before .before .before .before .before .before .before .before .before .before .before .before .before .before .before .before .before .before .before .before .before .before .before .before .before .before .before .before .before .before .before .before .before .before .before .before .before .before .before .before .before .before .before .before .before .pre .1 .1 .1 .0) (c .before .before .before .before .before .before .before .before .before .before .before .before .before .before .before .before .before .before .before .before .before .before .before .before .before .before .before .before .before .before .before .before .before .join-prefix .ensures) refl), (scratch-kept (c .before .before .before .before .before .before .before .before .before .before .before .before .before .before .before .before .before .before .before .before .before .before .before .before .before .before .before .before .before .before .before .before .before .before .before .before .before .before .before .before .before .before .before .before .before .before .before .before .pre .1 .0) (c .before .before .before .before .before .before .before .before .before .before .before .before .before .before .before .before .before .before .before .before .store .given) (c .before .before .before .before .before .before .before .before .before .before .before .before .before .before .before .before .before .before .lens .given) (c .before .before .before .before .before .before .before .before .before .before .before .before .before .before .before .before .langs .given) (c .before .before .before .before .before .before .before .before .before .before .before .before .before .before .ord .given), (ready-afresh _ _ _ (c .before .before .before .before .before .before .before .before .before .before .before .before .before .before .before .before .before .before .before .before .before .before .before .before .before .before .before .before .before .before .before .before .before .before .before .before .before .before .before .before .before .before .before .before .before .before .before .before .pre .1 .1 .0) _ (c .before .before .before .before .before .before .before .before .before .before .before .before .before .before .before .before .before .before .before .before .before .before .before .before .before .before .before .before .before .before .before .before .before .before .before .afresh .ensures), (omega (arith, joined-less _ _ _ (c .before .before .before .before .before .before .before .before .before .before .before .before .before .before .before .before .before .before .before .before .before .before .before .before .before .before .before .before .before .before .before .before .before .before .before .before .before .before .before .part-of .ensures) _ _ (c .before .before .before .before .before .before .before .before .before .before .before .before .before .before .before .before .before .before .before .before .before .before .before .before .before .before .before .before .before .before .before .before .before .before .before .before .before .keep .given .1) (c .before .before .before .before .before .before .before .before .before .before .before .before .before .before .before .before .before .before .before .before .before .before .before .before .before .before .before .before .before .before .before .before .before .before .before .before .before .before .before .before .before .before .before .before .before .before .before .before .pre .1 .1 .1 .0) (c .before .before .before .before .before .before .before .before .before .before .before .before .before .before .before .before .before .before .before .before .before .before .before .before .before .before .before .before .before .before .before .before .before .join-prefix .ensures) refl, (c .before .before .before .before .before .before .before .before .before .before .before .before .before .before .before .before .before .before .before .before .before .before .before .before .before .before .before .before .before .before .before .before .before .before .before .before .before .before .before .before .before .before .before .before .before .before .before .before .pre .1 .1 .1 .0)), put-place _ _ _ _ _ (c .before .before .before .before .before .before .before .before .before .middle .ensures)))))
+
+spell-name-push-requires-2 : (t : ℕ) → spell-name-lts.Need-push-requires-2 (
+  part-of-reads.Asked,
+  part-of-reads.Learnt,
+  afresh-reads.Asked,
+  afresh-reads.Learnt,
+  join-prefix-reads.Asked,
+  join-prefix-reads.Learnt,
+  push-reads.Asked,
+  push-reads.Learnt,
+  spell-name-below t,
+  spell-name.Post,
+  middle-reads.Asked,
+  middle-reads.Learnt,
+  both-reads.Asked,
+  both-reads.Learnt,
+  is-plain-reads.Asked,
+  is-plain-reads.Learnt,
+  spell-plain-reads.Asked,
+  spell-plain-reads.Learnt,
+  spell-words-below t,
+  spell-words.Post,
+) (spell-name-at t) spell-name.Post
+spell-name-push-requires-2 t c κs = search needs
+
+spell-name-both-requires : (t : ℕ) → spell-name-lts.Need-both-requires (
+  part-of-reads.Asked,
+  part-of-reads.Learnt,
+  afresh-reads.Asked,
+  afresh-reads.Learnt,
+  join-prefix-reads.Asked,
+  join-prefix-reads.Learnt,
+  push-reads.Asked,
+  push-reads.Learnt,
+  spell-name-below t,
+  spell-name.Post,
+  middle-reads.Asked,
+  middle-reads.Learnt,
+  both-reads.Asked,
+  both-reads.Learnt,
+  is-plain-reads.Asked,
+  is-plain-reads.Learnt,
+  spell-plain-reads.Asked,
+  spell-plain-reads.Learnt,
+  spell-words-below t,
+  spell-words.Post,
+) (spell-name-at t) spell-name.Post
+spell-name-both-requires t c κs = search needs
+
+spell-name-enum-told : (t : ℕ) → spell-name-lts.Need-enum-told (
+  part-of-reads.Asked,
+  part-of-reads.Learnt,
+  afresh-reads.Asked,
+  afresh-reads.Learnt,
+  join-prefix-reads.Asked,
+  join-prefix-reads.Learnt,
+  push-reads.Asked,
+  push-reads.Learnt,
+  spell-name-below t,
+  spell-name.Post,
+  middle-reads.Asked,
+  middle-reads.Learnt,
+  both-reads.Asked,
+  both-reads.Learnt,
+  is-plain-reads.Asked,
+  is-plain-reads.Learnt,
+  spell-plain-reads.Asked,
+  spell-plain-reads.Learnt,
+  spell-words-below t,
+  spell-words.Post,
+) (spell-name-at t) spell-name.Post
+spell-name-enum-told t c = search needs
+
+spell-name-is-plain-requires : (t : ℕ) → spell-name-lts.Need-is-plain-requires (
+  part-of-reads.Asked,
+  part-of-reads.Learnt,
+  afresh-reads.Asked,
+  afresh-reads.Learnt,
+  join-prefix-reads.Asked,
+  join-prefix-reads.Learnt,
+  push-reads.Asked,
+  push-reads.Learnt,
+  spell-name-below t,
+  spell-name.Post,
+  middle-reads.Asked,
+  middle-reads.Learnt,
+  both-reads.Asked,
+  both-reads.Learnt,
+  is-plain-reads.Asked,
+  is-plain-reads.Learnt,
+  spell-plain-reads.Asked,
+  spell-plain-reads.Learnt,
+  spell-words-below t,
+  spell-words.Post,
+) (spell-name-at t) spell-name.Post
+spell-name-is-plain-requires t c κs = search needs
+
+spell-name-spell-plain-requires : (t : ℕ) → spell-name-lts.Need-spell-plain-requires (
+  part-of-reads.Asked,
+  part-of-reads.Learnt,
+  afresh-reads.Asked,
+  afresh-reads.Learnt,
+  join-prefix-reads.Asked,
+  join-prefix-reads.Learnt,
+  push-reads.Asked,
+  push-reads.Learnt,
+  spell-name-below t,
+  spell-name.Post,
+  middle-reads.Asked,
+  middle-reads.Learnt,
+  both-reads.Asked,
+  both-reads.Learnt,
+  is-plain-reads.Asked,
+  is-plain-reads.Learnt,
+  spell-plain-reads.Asked,
+  spell-plain-reads.Learnt,
+  spell-words-below t,
+  spell-words.Post,
+) (spell-name-at t) spell-name.Post
+spell-name-spell-plain-requires t c κs = (c .before .before .before .before .before .before .before .before .before .before .before .before .before .before .before .before .before .before .pre .1 .0, (c .before .before .before .before .before .before .before .before .before .before .before .before .before .before .before .before .before .before .pre .1 .1 .0, c .before .before .before .before .before .before .before .before .before .before .before .before .before .before .before .before .before .before .pre .1 .1 .1 .0))
+
+spell-name-spell-words-requires : (t : ℕ) → spell-name-lts.Need-spell-words-requires (
+  part-of-reads.Asked,
+  part-of-reads.Learnt,
+  afresh-reads.Asked,
+  afresh-reads.Learnt,
+  join-prefix-reads.Asked,
+  join-prefix-reads.Learnt,
+  push-reads.Asked,
+  push-reads.Learnt,
+  spell-name-below t,
+  spell-name.Post,
+  middle-reads.Asked,
+  middle-reads.Learnt,
+  both-reads.Asked,
+  both-reads.Learnt,
+  is-plain-reads.Asked,
+  is-plain-reads.Learnt,
+  spell-plain-reads.Asked,
+  spell-plain-reads.Learnt,
+  spell-words-below t,
+  spell-words.Post,
+) (spell-name-at t) spell-name.Post
+spell-name-spell-words-requires t c κs = (omega (arith, c .before .before .before .before .before .before .before .before .before .before .before .before .before .before .before .before .before .before .pre .0), (c .before .before .before .before .before .before .before .before .before .before .before .before .before .before .before .before .before .before .pre .1 .0, (c .before .before .before .before .before .before .before .before .before .before .before .before .before .before .before .before .before .before .pre .1 .1 .0, (c .before .before .before .before .before .before .before .before .before .before .before .before .before .before .before .before .before .before .pre .1 .1 .1 .0, (c .before .before .before .before .before .before .before .before .before .before .before .before .before .before .before .before .before .before .pre .1 .1 .1 .1, several _ _ _ (c .before .before .before .before .before .before .is-plain .ensures) (c .before .before .before .before .before .if1 .left))))))
+
+spell-name-same-length : (t : ℕ) → spell-name-lts.Need-same-length (
+  part-of-reads.Asked,
+  part-of-reads.Learnt,
+  afresh-reads.Asked,
+  afresh-reads.Learnt,
+  join-prefix-reads.Asked,
+  join-prefix-reads.Learnt,
+  push-reads.Asked,
+  push-reads.Learnt,
+  spell-name-below t,
+  spell-name.Post,
+  middle-reads.Asked,
+  middle-reads.Learnt,
+  both-reads.Asked,
+  both-reads.Learnt,
+  is-plain-reads.Asked,
+  is-plain-reads.Learnt,
+  spell-plain-reads.Asked,
+  spell-plain-reads.Learnt,
+  spell-words-below t,
+  spell-words.Post,
+) (spell-name-at t) spell-name.Post
+spell-name-same-length t c = c .before .before .before .before .before .before .before .before .before .before .before .before .before .before .store2 .given ∙ c .before .before .before .before .before .before .before .before .before .before .before .before .before .before .before .before .before .before .before .before .before .before .before .before .before .before .before .before .before .before .before .before .before .before .before .before .store .given
+
+spell-name-same-length-2 : (t : ℕ) → spell-name-lts.Need-same-length-2 (
+  part-of-reads.Asked,
+  part-of-reads.Learnt,
+  afresh-reads.Asked,
+  afresh-reads.Learnt,
+  join-prefix-reads.Asked,
+  join-prefix-reads.Learnt,
+  push-reads.Asked,
+  push-reads.Learnt,
+  spell-name-below t,
+  spell-name.Post,
+  middle-reads.Asked,
+  middle-reads.Learnt,
+  both-reads.Asked,
+  both-reads.Learnt,
+  is-plain-reads.Asked,
+  is-plain-reads.Learnt,
+  spell-plain-reads.Asked,
+  spell-plain-reads.Learnt,
+  spell-words-below t,
+  spell-words.Post,
+) (spell-name-at t) spell-name.Post
+spell-name-same-length-2 t c = c .before .before .before .before .before .before .before .before .before .before .before .before .lens2 .given ∙ c .before .before .before .before .before .before .before .before .before .before .before .before .before .before .before .before .before .before .before .before .before .before .before .before .before .before .before .before .before .before .before .before .before .before .lens .given
+
+spell-name-same-length-3 : (t : ℕ) → spell-name-lts.Need-same-length-3 (
+  part-of-reads.Asked,
+  part-of-reads.Learnt,
+  afresh-reads.Asked,
+  afresh-reads.Learnt,
+  join-prefix-reads.Asked,
+  join-prefix-reads.Learnt,
+  push-reads.Asked,
+  push-reads.Learnt,
+  spell-name-below t,
+  spell-name.Post,
+  middle-reads.Asked,
+  middle-reads.Learnt,
+  both-reads.Asked,
+  both-reads.Learnt,
+  is-plain-reads.Asked,
+  is-plain-reads.Learnt,
+  spell-plain-reads.Asked,
+  spell-plain-reads.Learnt,
+  spell-words-below t,
+  spell-words.Post,
+) (spell-name-at t) spell-name.Post
+spell-name-same-length-3 t c = c .before .before .before .before .before .before .before .before .before .before .langs2 .given ∙ c .before .before .before .before .before .before .before .before .before .before .before .before .before .before .before .before .before .before .before .before .before .before .before .before .before .before .before .before .before .before .before .before .langs .given
+
+spell-name-same-length-4 : (t : ℕ) → spell-name-lts.Need-same-length-4 (
+  part-of-reads.Asked,
+  part-of-reads.Learnt,
+  afresh-reads.Asked,
+  afresh-reads.Learnt,
+  join-prefix-reads.Asked,
+  join-prefix-reads.Learnt,
+  push-reads.Asked,
+  push-reads.Learnt,
+  spell-name-below t,
+  spell-name.Post,
+  middle-reads.Asked,
+  middle-reads.Learnt,
+  both-reads.Asked,
+  both-reads.Learnt,
+  is-plain-reads.Asked,
+  is-plain-reads.Learnt,
+  spell-plain-reads.Asked,
+  spell-plain-reads.Learnt,
+  spell-words-below t,
+  spell-words.Post,
+) (spell-name-at t) spell-name.Post
+spell-name-same-length-4 t c = c .before .before .before .before .before .before .before .before .ord2 .given ∙ c .before .before .before .before .before .before .before .before .before .before .before .before .before .before .before .before .before .before .before .before .before .before .before .before .before .before .before .before .before .before .ord .given
+
+spell-name-same-length-5 : (t : ℕ) → spell-name-lts.Need-same-length-5 (
+  part-of-reads.Asked,
+  part-of-reads.Learnt,
+  afresh-reads.Asked,
+  afresh-reads.Learnt,
+  join-prefix-reads.Asked,
+  join-prefix-reads.Learnt,
+  push-reads.Asked,
+  push-reads.Learnt,
+  spell-name-below t,
+  spell-name.Post,
+  middle-reads.Asked,
+  middle-reads.Learnt,
+  both-reads.Asked,
+  both-reads.Learnt,
+  is-plain-reads.Asked,
+  is-plain-reads.Learnt,
+  spell-plain-reads.Asked,
+  spell-plain-reads.Learnt,
+  spell-words-below t,
+  spell-words.Post,
+) (spell-name-at t) spell-name.Post
+spell-name-same-length-5 t c = c .before .before .out5 .given ∙ c .before .before .before .before .before .before .out4 .given ∙ c .before .before .before .before .before .before .before .before .before .before .before .before .before .before .before .before .before .before .before .before .before .before .before .before .out3 .given ∙ c .before .before .before .before .before .before .before .before .before .before .before .before .before .before .before .before .before .before .before .before .before .before .before .before .before .before .before .before .out2 .given ∙ c .before .before .before .before .before .before .before .before .before .before .before .before .before .before .before .before .before .before .before .before .before .before .before .before .before .before .before .before .before .before .before .before .before .before .before .before .before .before .before .before .before .before .before .before .before .out .given
+
+spell-name-returns : (t : ℕ) → spell-name-lts.Need-returns (
+  part-of-reads.Asked,
+  part-of-reads.Learnt,
+  afresh-reads.Asked,
+  afresh-reads.Learnt,
+  join-prefix-reads.Asked,
+  join-prefix-reads.Learnt,
+  push-reads.Asked,
+  push-reads.Learnt,
+  spell-name-below t,
+  spell-name.Post,
+  middle-reads.Asked,
+  middle-reads.Learnt,
+  both-reads.Asked,
+  both-reads.Learnt,
+  is-plain-reads.Asked,
+  is-plain-reads.Learnt,
+  spell-plain-reads.Asked,
+  spell-plain-reads.Learnt,
+  spell-words-below t,
+  spell-words.Post,
+) (spell-name-at t) spell-name.Post
+spell-name-returns t c = parted-told _ _ _ _ (c .before .before .before .before .before .before .before .before .before .before .before .before .before .before .before .before .before .before .before .before .before .before .before .before .before .before .before .before .before .before .before .before .before .before .before .before .before .before .before .before .before .before .before .before .before .before .before .before .before .before .before .before .before .before .before .part-of .ensures) _ _ (c .before .before .before .before .before .before .before .before .before .before .before .before .before .before .before .before .before .before .before .before .before .before .before .before .before .before .before .before .before .before .before .before .before .before .before .before .before .before .before .before .before .before .before .before .before .before .before .before .before .before .before .before .before .keep .given .1) _ (front-is (c .before .before .before .before .before .before .before .before .before .before .before .before .before .before .before .before .before .before .before .before .before .before .before .before .before .before .before .before .before .before .before .before .before .before .before .before .before .before .before .before .before .before .before .before .before .before .before .before .before .join-prefix .ensures) (joined-small _ _ _ (c .before .before .before .before .before .before .before .before .before .before .before .before .before .before .before .before .before .before .before .before .before .before .before .before .before .before .before .before .before .before .before .before .before .before .before .before .before .before .before .before .before .before .before .before .before .before .before .before .before .before .before .before .before .before .before .part-of .ensures) _ _ (c .before .before .before .before .before .before .before .before .before .before .before .before .before .before .before .before .before .before .before .before .before .before .before .before .before .before .before .before .before .before .before .before .before .before .before .before .before .before .before .before .before .before .before .before .before .before .before .before .before .before .before .before .before .keep .given .1) (c .before .before .before .before .before .before .before .before .before .before .before .before .before .before .before .before .before .before .before .before .before .before .before .before .before .before .before .before .before .before .before .before .before .before .before .before .before .before .before .before .before .before .before .before .before .before .before .before .before .before .before .before .before .before .before .before .before .before .before .before .before .before .before .before .pre .1 .1 .1 .0)) refl) (c .before .before .before .before .before .before .before .before .before .before .before .before .before .before .before .before .before .before .before .before .before .before .before .before .before .before .before .before .before .before .before .before .before .before .before .before .before .before .before .before .before .before .before .before .before .before .push .ensures) (afresh-told _ _ _ _ (c .before .before .before .before .before .before .before .before .before .before .before .before .before .before .before .before .before .before .before .before .before .before .before .before .before .before .before .before .before .before .before .before .before .before .before .before .before .before .before .before .before .before .before .before .before .before .before .before .before .before .before .afresh .ensures) (c .before .before .before .before .before .before .before .before .before .before .before .before .before .before .before .before .before .before .before .before .before .before .before .before .before .before .before .before .before .before .before .before .before .before .before .before .before .spell-name .ensures)) (c .before .before .before .before .before .before .before .before .before .before .before .before .before .before .before .before .before .before .before .before .before .before .before .before .before .middle .ensures) (afresh-told _ _ _ _ (c .before .before .before .before .before .before .before .before .before .before .before .before .before .before .before .before .before .before .before .before .before .before .before .before .before .before .before .before .before .before .before .before .before .before .before .before .before .before .before .before .before .before .before .before .before .before .before .before .before .before .before .afresh .ensures) (c .before .before .before .before .before .before .before .before .before .before .before .before .before .before .before .spell-name2 .ensures)) (c .before .before .before .push2 .ensures) (c .both .ensures)
+
+spell-name-same-length-6 : (t : ℕ) → spell-name-lts.Need-same-length-6 (
+  part-of-reads.Asked,
+  part-of-reads.Learnt,
+  afresh-reads.Asked,
+  afresh-reads.Learnt,
+  join-prefix-reads.Asked,
+  join-prefix-reads.Learnt,
+  push-reads.Asked,
+  push-reads.Learnt,
+  spell-name-below t,
+  spell-name.Post,
+  middle-reads.Asked,
+  middle-reads.Learnt,
+  both-reads.Asked,
+  both-reads.Learnt,
+  is-plain-reads.Asked,
+  is-plain-reads.Learnt,
+  spell-plain-reads.Asked,
+  spell-plain-reads.Learnt,
+  spell-words-below t,
+  spell-words.Post,
+) (spell-name-at t) spell-name.Post
+spell-name-same-length-6 t c = search needs
+
+spell-name-same-length-7 : (t : ℕ) → spell-name-lts.Need-same-length-7 (
+  part-of-reads.Asked,
+  part-of-reads.Learnt,
+  afresh-reads.Asked,
+  afresh-reads.Learnt,
+  join-prefix-reads.Asked,
+  join-prefix-reads.Learnt,
+  push-reads.Asked,
+  push-reads.Learnt,
+  spell-name-below t,
+  spell-name.Post,
+  middle-reads.Asked,
+  middle-reads.Learnt,
+  both-reads.Asked,
+  both-reads.Learnt,
+  is-plain-reads.Asked,
+  is-plain-reads.Learnt,
+  spell-plain-reads.Asked,
+  spell-plain-reads.Learnt,
+  spell-words-below t,
+  spell-words.Post,
+) (spell-name-at t) spell-name.Post
+spell-name-same-length-7 t c = search needs
+
+spell-name-same-length-8 : (t : ℕ) → spell-name-lts.Need-same-length-8 (
+  part-of-reads.Asked,
+  part-of-reads.Learnt,
+  afresh-reads.Asked,
+  afresh-reads.Learnt,
+  join-prefix-reads.Asked,
+  join-prefix-reads.Learnt,
+  push-reads.Asked,
+  push-reads.Learnt,
+  spell-name-below t,
+  spell-name.Post,
+  middle-reads.Asked,
+  middle-reads.Learnt,
+  both-reads.Asked,
+  both-reads.Learnt,
+  is-plain-reads.Asked,
+  is-plain-reads.Learnt,
+  spell-plain-reads.Asked,
+  spell-plain-reads.Learnt,
+  spell-words-below t,
+  spell-words.Post,
+) (spell-name-at t) spell-name.Post
+spell-name-same-length-8 t c = search needs
+
+spell-name-same-length-9 : (t : ℕ) → spell-name-lts.Need-same-length-9 (
+  part-of-reads.Asked,
+  part-of-reads.Learnt,
+  afresh-reads.Asked,
+  afresh-reads.Learnt,
+  join-prefix-reads.Asked,
+  join-prefix-reads.Learnt,
+  push-reads.Asked,
+  push-reads.Learnt,
+  spell-name-below t,
+  spell-name.Post,
+  middle-reads.Asked,
+  middle-reads.Learnt,
+  both-reads.Asked,
+  both-reads.Learnt,
+  is-plain-reads.Asked,
+  is-plain-reads.Learnt,
+  spell-plain-reads.Asked,
+  spell-plain-reads.Learnt,
+  spell-words-below t,
+  spell-words.Post,
+) (spell-name-at t) spell-name.Post
+spell-name-same-length-9 t c = search needs
+
+spell-name-same-length-10 : (t : ℕ) → spell-name-lts.Need-same-length-10 (
+  part-of-reads.Asked,
+  part-of-reads.Learnt,
+  afresh-reads.Asked,
+  afresh-reads.Learnt,
+  join-prefix-reads.Asked,
+  join-prefix-reads.Learnt,
+  push-reads.Asked,
+  push-reads.Learnt,
+  spell-name-below t,
+  spell-name.Post,
+  middle-reads.Asked,
+  middle-reads.Learnt,
+  both-reads.Asked,
+  both-reads.Learnt,
+  is-plain-reads.Asked,
+  is-plain-reads.Learnt,
+  spell-plain-reads.Asked,
+  spell-plain-reads.Learnt,
+  spell-words-below t,
+  spell-words.Post,
+) (spell-name-at t) spell-name.Post
+spell-name-same-length-10 t c = search needs
+
+spell-name-returns-2 : (t : ℕ) → spell-name-lts.Need-returns-2 (
+  part-of-reads.Asked,
+  part-of-reads.Learnt,
+  afresh-reads.Asked,
+  afresh-reads.Learnt,
+  join-prefix-reads.Asked,
+  join-prefix-reads.Learnt,
+  push-reads.Asked,
+  push-reads.Learnt,
+  spell-name-below t,
+  spell-name.Post,
+  middle-reads.Asked,
+  middle-reads.Learnt,
+  both-reads.Asked,
+  both-reads.Learnt,
+  is-plain-reads.Asked,
+  is-plain-reads.Learnt,
+  spell-plain-reads.Asked,
+  spell-plain-reads.Learnt,
+  spell-words-below t,
+  spell-words.Post,
+) (spell-name-at t) spell-name.Post
+spell-name-returns-2 t c = whole-plain _ _ _ _ (c .before .before .before .before .before .before .before .before .before .before .before .before .before .before .before .before .before .before .before .before .part-of .ensures) (c .before .before .before .before .before .before .before .before .before .before .before .before .before .before .before .before .before .before .enum-told .given .1) _ (c .before .before .before .before .before .before .before .before .before .before .before .before .before .before .before .before .before .is-plain .ensures) (c .before .before .before .before .before .before .before .before .before .before .before .before .before .before .before .before .if1 .taken) (c .before .before .before .before .before .before .before .before .before .before .spell-plain .ensures)
+
+spell-name-same-length-11 : (t : ℕ) → spell-name-lts.Need-same-length-11 (
+  part-of-reads.Asked,
+  part-of-reads.Learnt,
+  afresh-reads.Asked,
+  afresh-reads.Learnt,
+  join-prefix-reads.Asked,
+  join-prefix-reads.Learnt,
+  push-reads.Asked,
+  push-reads.Learnt,
+  spell-name-below t,
+  spell-name.Post,
+  middle-reads.Asked,
+  middle-reads.Learnt,
+  both-reads.Asked,
+  both-reads.Learnt,
+  is-plain-reads.Asked,
+  is-plain-reads.Learnt,
+  spell-plain-reads.Asked,
+  spell-plain-reads.Learnt,
+  spell-words-below t,
+  spell-words.Post,
+) (spell-name-at t) spell-name.Post
+spell-name-same-length-11 t c = search needs
+
+spell-name-same-length-12 : (t : ℕ) → spell-name-lts.Need-same-length-12 (
+  part-of-reads.Asked,
+  part-of-reads.Learnt,
+  afresh-reads.Asked,
+  afresh-reads.Learnt,
+  join-prefix-reads.Asked,
+  join-prefix-reads.Learnt,
+  push-reads.Asked,
+  push-reads.Learnt,
+  spell-name-below t,
+  spell-name.Post,
+  middle-reads.Asked,
+  middle-reads.Learnt,
+  both-reads.Asked,
+  both-reads.Learnt,
+  is-plain-reads.Asked,
+  is-plain-reads.Learnt,
+  spell-plain-reads.Asked,
+  spell-plain-reads.Learnt,
+  spell-words-below t,
+  spell-words.Post,
+) (spell-name-at t) spell-name.Post
+spell-name-same-length-12 t c = search needs
+
+spell-name-same-length-13 : (t : ℕ) → spell-name-lts.Need-same-length-13 (
+  part-of-reads.Asked,
+  part-of-reads.Learnt,
+  afresh-reads.Asked,
+  afresh-reads.Learnt,
+  join-prefix-reads.Asked,
+  join-prefix-reads.Learnt,
+  push-reads.Asked,
+  push-reads.Learnt,
+  spell-name-below t,
+  spell-name.Post,
+  middle-reads.Asked,
+  middle-reads.Learnt,
+  both-reads.Asked,
+  both-reads.Learnt,
+  is-plain-reads.Asked,
+  is-plain-reads.Learnt,
+  spell-plain-reads.Asked,
+  spell-plain-reads.Learnt,
+  spell-words-below t,
+  spell-words.Post,
+) (spell-name-at t) spell-name.Post
+spell-name-same-length-13 t c = search needs
+
+spell-name-same-length-14 : (t : ℕ) → spell-name-lts.Need-same-length-14 (
+  part-of-reads.Asked,
+  part-of-reads.Learnt,
+  afresh-reads.Asked,
+  afresh-reads.Learnt,
+  join-prefix-reads.Asked,
+  join-prefix-reads.Learnt,
+  push-reads.Asked,
+  push-reads.Learnt,
+  spell-name-below t,
+  spell-name.Post,
+  middle-reads.Asked,
+  middle-reads.Learnt,
+  both-reads.Asked,
+  both-reads.Learnt,
+  is-plain-reads.Asked,
+  is-plain-reads.Learnt,
+  spell-plain-reads.Asked,
+  spell-plain-reads.Learnt,
+  spell-words-below t,
+  spell-words.Post,
+) (spell-name-at t) spell-name.Post
+spell-name-same-length-14 t c = search needs
+
+spell-name-same-length-15 : (t : ℕ) → spell-name-lts.Need-same-length-15 (
+  part-of-reads.Asked,
+  part-of-reads.Learnt,
+  afresh-reads.Asked,
+  afresh-reads.Learnt,
+  join-prefix-reads.Asked,
+  join-prefix-reads.Learnt,
+  push-reads.Asked,
+  push-reads.Learnt,
+  spell-name-below t,
+  spell-name.Post,
+  middle-reads.Asked,
+  middle-reads.Learnt,
+  both-reads.Asked,
+  both-reads.Learnt,
+  is-plain-reads.Asked,
+  is-plain-reads.Learnt,
+  spell-plain-reads.Asked,
+  spell-plain-reads.Learnt,
+  spell-words-below t,
+  spell-words.Post,
+) (spell-name-at t) spell-name.Post
+spell-name-same-length-15 t c = search needs
+
+spell-name-returns-3 : (t : ℕ) → spell-name-lts.Need-returns-3 (
+  part-of-reads.Asked,
+  part-of-reads.Learnt,
+  afresh-reads.Asked,
+  afresh-reads.Learnt,
+  join-prefix-reads.Asked,
+  join-prefix-reads.Learnt,
+  push-reads.Asked,
+  push-reads.Learnt,
+  spell-name-below t,
+  spell-name.Post,
+  middle-reads.Asked,
+  middle-reads.Learnt,
+  both-reads.Asked,
+  both-reads.Learnt,
+  is-plain-reads.Asked,
+  is-plain-reads.Learnt,
+  spell-plain-reads.Asked,
+  spell-plain-reads.Learnt,
+  spell-words-below t,
+  spell-words.Post,
+) (spell-name-at t) spell-name.Post
+spell-name-returns-3 t c = whole-words _ _ _ _ (c .before .before .before .before .before .before .before .before .before .before .before .before .before .before .before .before .before .before .before .before .part-of .ensures) (c .before .before .before .before .before .before .before .before .before .before .before .before .before .before .before .before .before .before .enum-told .given .1) _ (c .before .before .before .before .before .before .before .before .before .before .before .before .before .before .before .before .before .is-plain .ensures) (c .before .before .before .before .before .before .before .before .before .before .before .before .before .before .before .before .if1 .left) (c .before .before .before .before .before .before .before .before .before .before .spell-words .ensures)
+
+abbrev spell-words-Inv-loop : spell-words-lts.InvT-loop
+spell-words-Inv-loop store₀ lens₀ langs₀ ord₀ pack places name out₀ at again all₀ p₀ store lens langs ord out all p =
+    WordsHeld (afreshBy (stepsAt pack again)) name out₀ out at p all (length store₀) (length lens₀) (length langs₀) (length ord₀) (length store) (length lens) (length langs) (length ord)
+
+abbrev spell-words-μ-loop : spell-words-lts.MeasureT-loop
+spell-words-μ-loop store₀ lens₀ langs₀ ord₀ pack places name out₀ at again all₀ p₀ store lens langs ord out all p = length name - p
+
+spell-words-afresh-requires : (t : ℕ) → spell-words-lts.Need-afresh-requires (
+  afresh-reads.Asked,
+  afresh-reads.Learnt,
+  next-word-reads.Asked,
+  next-word-reads.Learnt,
+  hyphen-reads.Asked,
+  hyphen-reads.Learnt,
+  spell-name-below t,
+  spell-name.Post,
+  both-reads.Asked,
+  both-reads.Learnt,
+  past-word-reads.Asked,
+  past-word-reads.Learnt,
+) (spell-words-at t) spell-words.Post spell-words-Inv-loop spell-words-μ-loop
+spell-words-afresh-requires t c κs = search needs
+
+spell-words-loop-holds : (t : ℕ) → spell-words-lts.Need-loop-holds (
+  afresh-reads.Asked,
+  afresh-reads.Learnt,
+  next-word-reads.Asked,
+  next-word-reads.Learnt,
+  hyphen-reads.Asked,
+  hyphen-reads.Learnt,
+  spell-name-below t,
+  spell-name.Post,
+  both-reads.Asked,
+  both-reads.Learnt,
+  past-word-reads.Asked,
+  past-word-reads.Learnt,
+) (spell-words-at t) spell-words.Post spell-words-Inv-loop spell-words-μ-loop
+spell-words-loop-holds t c = held-start _ _ _ _ _ _ _ _ (c .before .before .before .before .before .before .before .before .before .pre .1 .1 .1 .1 .0) (c .before .before .before .before .before .before .before .before .before .good .1 .1 .1 .1 .1 .1 .1 .1 .0 .1)
+
+spell-words-next-word-requires : (t : ℕ) → spell-words-lts.Need-next-word-requires (
+  afresh-reads.Asked,
+  afresh-reads.Learnt,
+  next-word-reads.Asked,
+  next-word-reads.Learnt,
+  hyphen-reads.Asked,
+  hyphen-reads.Learnt,
+  spell-name-below t,
+  spell-name.Post,
+  both-reads.Asked,
+  both-reads.Learnt,
+  past-word-reads.Asked,
+  past-word-reads.Learnt,
+) (spell-words-at t) spell-words.Post spell-words-Inv-loop spell-words-μ-loop
+spell-words-next-word-requires t c κs = search needs
+
+spell-words-same-length : (t : ℕ) → spell-words-lts.Need-same-length (
+  afresh-reads.Asked,
+  afresh-reads.Learnt,
+  next-word-reads.Asked,
+  next-word-reads.Learnt,
+  hyphen-reads.Asked,
+  hyphen-reads.Learnt,
+  spell-name-below t,
+  spell-name.Post,
+  both-reads.Asked,
+  both-reads.Learnt,
+  past-word-reads.Asked,
+  past-word-reads.Learnt,
+) (spell-words-at t) spell-words.Post spell-words-Inv-loop spell-words-μ-loop
+spell-words-same-length t c = c .before .before .loop .inv .store-same
+
+spell-words-same-length-2 : (t : ℕ) → spell-words-lts.Need-same-length-2 (
+  afresh-reads.Asked,
+  afresh-reads.Learnt,
+  next-word-reads.Asked,
+  next-word-reads.Learnt,
+  hyphen-reads.Asked,
+  hyphen-reads.Learnt,
+  spell-name-below t,
+  spell-name.Post,
+  both-reads.Asked,
+  both-reads.Learnt,
+  past-word-reads.Asked,
+  past-word-reads.Learnt,
+) (spell-words-at t) spell-words.Post spell-words-Inv-loop spell-words-μ-loop
+spell-words-same-length-2 t c = c .before .before .loop .inv .lens-same
+
+spell-words-same-length-3 : (t : ℕ) → spell-words-lts.Need-same-length-3 (
+  afresh-reads.Asked,
+  afresh-reads.Learnt,
+  next-word-reads.Asked,
+  next-word-reads.Learnt,
+  hyphen-reads.Asked,
+  hyphen-reads.Learnt,
+  spell-name-below t,
+  spell-name.Post,
+  both-reads.Asked,
+  both-reads.Learnt,
+  past-word-reads.Asked,
+  past-word-reads.Learnt,
+) (spell-words-at t) spell-words.Post spell-words-Inv-loop spell-words-μ-loop
+spell-words-same-length-3 t c = c .before .before .loop .inv .langs-same
+
+spell-words-same-length-4 : (t : ℕ) → spell-words-lts.Need-same-length-4 (
+  afresh-reads.Asked,
+  afresh-reads.Learnt,
+  next-word-reads.Asked,
+  next-word-reads.Learnt,
+  hyphen-reads.Asked,
+  hyphen-reads.Learnt,
+  spell-name-below t,
+  spell-name.Post,
+  both-reads.Asked,
+  both-reads.Learnt,
+  past-word-reads.Asked,
+  past-word-reads.Learnt,
+) (spell-words-at t) spell-words.Post spell-words-Inv-loop spell-words-μ-loop
+spell-words-same-length-4 t c = c .before .before .loop .inv .ord-same
+
+spell-words-same-length-5 : (t : ℕ) → spell-words-lts.Need-same-length-5 (
+  afresh-reads.Asked,
+  afresh-reads.Learnt,
+  next-word-reads.Asked,
+  next-word-reads.Learnt,
+  hyphen-reads.Asked,
+  hyphen-reads.Learnt,
+  spell-name-below t,
+  spell-name.Post,
+  both-reads.Asked,
+  both-reads.Learnt,
+  past-word-reads.Asked,
+  past-word-reads.Learnt,
+) (spell-words-at t) spell-words.Post spell-words-Inv-loop spell-words-μ-loop
+spell-words-same-length-5 t c = c .before .before .loop .inv .out-same
+
+spell-words-returns : (t : ℕ) → spell-words-lts.Need-returns (
+  afresh-reads.Asked,
+  afresh-reads.Learnt,
+  next-word-reads.Asked,
+  next-word-reads.Learnt,
+  hyphen-reads.Asked,
+  hyphen-reads.Learnt,
+  spell-name-below t,
+  spell-name.Post,
+  both-reads.Asked,
+  both-reads.Learnt,
+  past-word-reads.Asked,
+  past-word-reads.Learnt,
+) (spell-words-at t) spell-words.Post spell-words-Inv-loop spell-words-μ-loop
+spell-words-returns t c = rw (steps-again _ _ _ (c .before .before .before .afresh .ensures)) at (held-end (c .before .before .loop .inv) _ (c .before .next-word .ensures) (c .if1 .taken))
+
+spell-words-hyphen-requires : (t : ℕ) → spell-words-lts.Need-hyphen-requires (
+  afresh-reads.Asked,
+  afresh-reads.Learnt,
+  next-word-reads.Asked,
+  next-word-reads.Learnt,
+  hyphen-reads.Asked,
+  hyphen-reads.Learnt,
+  spell-name-below t,
+  spell-name.Post,
+  both-reads.Asked,
+  both-reads.Learnt,
+  past-word-reads.Asked,
+  past-word-reads.Learnt,
+) (spell-words-at t) spell-words.Post spell-words-Inv-loop spell-words-μ-loop
+spell-words-hyphen-requires t c κs = search needs
+
+spell-words-spell-name-requires : (t : ℕ) → spell-words-lts.Need-spell-name-requires (
+  afresh-reads.Asked,
+  afresh-reads.Learnt,
+  next-word-reads.Asked,
+  next-word-reads.Learnt,
+  hyphen-reads.Asked,
+  hyphen-reads.Learnt,
+  spell-name-below t,
+  spell-name.Post,
+  both-reads.Asked,
+  both-reads.Learnt,
+  past-word-reads.Asked,
+  past-word-reads.Learnt,
+) (spell-words-at t) spell-words.Post spell-words-Inv-loop spell-words-μ-loop
+spell-words-spell-name-requires t c κs = (omega (arith, c .before .before .before .before .before .before .before .before .before .before .before .before .before .before .before .before .before .before .before .before .before .pre .0, held-shorter (c .before .before .before .before .before .before .before .before .before .before .before .loop .inv) _ (c .before .before .before .before .before .before .before .before .before .before .next-word .ensures) (c .before .before .before .before .before .before .before .before .before .if1 .left) (c .before .before .before .before .before .before .before .before .before .before .before .before .before .before .before .before .before .before .before .before .before .pre .1 .1 .1 .1 .1)), (held-scratch (c .before .before .before .before .before .before .before .before .before .before .before .loop .inv) (c .before .before .before .before .before .before .before .before .before .before .before .before .before .before .before .before .before .before .before .before .before .pre .1 .0), (ready-afresh _ _ _ (c .before .before .before .before .before .before .before .before .before .before .before .before .before .before .before .before .before .before .before .before .before .pre .1 .1 .0) _ (c .before .before .before .before .before .before .before .before .before .before .before .before .afresh .ensures), (omega (arith, held-shorter (c .before .before .before .before .before .before .before .before .before .before .before .loop .inv) _ (c .before .before .before .before .before .before .before .before .before .before .next-word .ensures) (c .before .before .before .before .before .before .before .before .before .if1 .left) (c .before .before .before .before .before .before .before .before .before .before .before .before .before .before .before .before .before .before .before .before .before .pre .1 .1 .1 .1 .1), c .before .before .before .before .before .before .before .before .before .before .before .before .before .before .before .before .before .before .before .before .before .pre .1 .1 .1 .0), held-place (c .before .before .before .before .before .before .before .before .before .before .before .loop .inv) _ (c .before .before .before .before .before .before .before .before .before .before .next-word .ensures) (c .before .before .before .before .before .before .before .before .before .if1 .left) (c .before .before .before .before .before .before .before .hyphen .ensures)))))
+
+spell-words-both-requires : (t : ℕ) → spell-words-lts.Need-both-requires (
+  afresh-reads.Asked,
+  afresh-reads.Learnt,
+  next-word-reads.Asked,
+  next-word-reads.Learnt,
+  hyphen-reads.Asked,
+  hyphen-reads.Learnt,
+  spell-name-below t,
+  spell-name.Post,
+  both-reads.Asked,
+  both-reads.Learnt,
+  past-word-reads.Asked,
+  past-word-reads.Learnt,
+) (spell-words-at t) spell-words.Post spell-words-Inv-loop spell-words-μ-loop
+spell-words-both-requires t c κs = search needs
+
+spell-words-past-word-requires : (t : ℕ) → spell-words-lts.Need-past-word-requires (
+  afresh-reads.Asked,
+  afresh-reads.Learnt,
+  next-word-reads.Asked,
+  next-word-reads.Learnt,
+  hyphen-reads.Asked,
+  hyphen-reads.Learnt,
+  spell-name-below t,
+  spell-name.Post,
+  both-reads.Asked,
+  both-reads.Learnt,
+  past-word-reads.Asked,
+  past-word-reads.Learnt,
+) (spell-words-at t) spell-words.Post spell-words-Inv-loop spell-words-μ-loop
+spell-words-past-word-requires t c κs = search needs
+
+spell-words-loop-less : (t : ℕ) → spell-words-lts.Need-loop-less (
+  afresh-reads.Asked,
+  afresh-reads.Learnt,
+  next-word-reads.Asked,
+  next-word-reads.Learnt,
+  hyphen-reads.Asked,
+  hyphen-reads.Learnt,
+  spell-name-below t,
+  spell-name.Post,
+  both-reads.Asked,
+  both-reads.Learnt,
+  past-word-reads.Asked,
+  past-word-reads.Learnt,
+) (spell-words-at t) spell-words.Post spell-words-Inv-loop spell-words-μ-loop
+spell-words-loop-less t c = held-less (c .before .before .before .before .before .before .before .before .before .before .before .before .before .before .before .before .before .before .before .before .before .before .before .before .loop .inv) _ (c .before .before .before .before .before .before .before .before .before .before .before .before .before .before .before .before .before .before .before .before .before .before .before .next-word .ensures) (c .before .before .before .before .before .before .before .before .before .before .before .before .before .before .before .before .before .before .before .before .before .before .if1 .left) _ (c .past-word .ensures)
+
+spell-words-loop-again : (t : ℕ) → spell-words-lts.Need-loop-again (
+  afresh-reads.Asked,
+  afresh-reads.Learnt,
+  next-word-reads.Asked,
+  next-word-reads.Learnt,
+  hyphen-reads.Asked,
+  hyphen-reads.Learnt,
+  spell-name-below t,
+  spell-name.Post,
+  both-reads.Asked,
+  both-reads.Learnt,
+  past-word-reads.Asked,
+  past-word-reads.Learnt,
+) (spell-words-at t) spell-words.Post spell-words-Inv-loop spell-words-μ-loop
+spell-words-loop-again t c = held-turn (c .before .before .before .before .before .before .before .before .before .before .before .before .before .before .before .before .before .before .before .before .before .before .before .before .loop .inv) _ (c .before .before .before .before .before .before .before .before .before .before .before .before .before .before .before .before .before .before .before .before .before .before .before .next-word .ensures) (c .before .before .before .before .before .before .before .before .before .before .before .before .before .before .before .before .before .before .before .before .before .before .if1 .left) (c .before .before .before .before .before .before .before .before .before .before .before .before .before .before .before .before .before .before .before .before .hyphen .ensures) (told-again _ _ _ (c .before .before .before .before .before .before .before .before .before .before .before .before .before .before .before .before .before .before .before .before .before .before .before .before .before .afresh .ensures) _ (c .before .before .before .before .before .before .before .before .before .before .before .before .spell-name .ensures)) (c .before .both .ensures) (c .past-word .ensures) (c .before .before .before .before .before .before .before .before .before .before .before .store .given) (c .before .before .before .before .before .before .before .before .before .lens .given) (c .before .before .before .before .before .before .before .langs .given) (c .before .before .before .before .before .ord .given) (c .before .before .before .out2 .given ∙ c .before .before .before .before .before .before .before .before .before .before .before .before .before .before .before .before .before .before .before .out .given)
+
+pub +spell-name+spell-words-spec : {M : Type 1} → statement M
++spell-name+spell-words-spec = close μ-spell-name μ-spell-words (λ t. spell-name-lts.spec (
+  part-of-reads.Asked,
+  part-of-reads.Learnt,
+  afresh-reads.Asked,
+  afresh-reads.Learnt,
+  join-prefix-reads.Asked,
+  join-prefix-reads.Learnt,
+  push-reads.Asked,
+  push-reads.Learnt,
+  spell-name-below t,
+  spell-name.Post,
+  middle-reads.Asked,
+  middle-reads.Learnt,
+  both-reads.Asked,
+  both-reads.Learnt,
+  is-plain-reads.Asked,
+  is-plain-reads.Learnt,
+  spell-plain-reads.Asked,
+  spell-plain-reads.Learnt,
+  spell-words-below t,
+  spell-words.Post,
+)
+    (spell-name-at t)
+    spell-name.Post
+    (spell-name-part-of-requires t)
+    (spell-name-enum-known-keep t)
+    (spell-name-afresh-requires t)
+    (spell-name-slice-aggregate-join-prefix t)
+    (spell-name-join-prefix-requires t)
+    (spell-name-push-requires t)
+    (spell-name-sub-spell-name t)
+    (spell-name-part-spell-name-start t)
+    (spell-name-part-spell-name-end t)
+    (spell-name-spell-name-requires t)
+    (spell-name-middle-requires t)
+    (spell-name-sub-spell-name-2 t)
+    (spell-name-part-spell-name-start-2 t)
+    (spell-name-part-spell-name-end-2 t)
+    (spell-name-spell-name-requires-2 t)
+    (spell-name-push-requires-2 t)
+    (spell-name-both-requires t)
+    (spell-name-enum-told t)
+    (spell-name-is-plain-requires t)
+    (spell-name-spell-plain-requires t)
+    (spell-name-spell-words-requires t)
+    (spell-name-same-length t)
+    (spell-name-same-length-2 t)
+    (spell-name-same-length-3 t)
+    (spell-name-same-length-4 t)
+    (spell-name-same-length-5 t)
+    (spell-name-returns t)
+    (spell-name-same-length-6 t)
+    (spell-name-same-length-7 t)
+    (spell-name-same-length-8 t)
+    (spell-name-same-length-9 t)
+    (spell-name-same-length-10 t)
+    (spell-name-returns-2 t)
+    (spell-name-same-length-11 t)
+    (spell-name-same-length-12 t)
+    (spell-name-same-length-13 t)
+    (spell-name-same-length-14 t)
+    (spell-name-same-length-15 t)
+    (spell-name-returns-3 t))
+    λ t. spell-words-lts.spec (
+      afresh-reads.Asked,
+      afresh-reads.Learnt,
+      next-word-reads.Asked,
+      next-word-reads.Learnt,
+      hyphen-reads.Asked,
+      hyphen-reads.Learnt,
+      spell-name-below t,
+      spell-name.Post,
+      both-reads.Asked,
+      both-reads.Learnt,
+      past-word-reads.Asked,
+      past-word-reads.Learnt,
+    )
+    (spell-words-at t)
+    spell-words.Post
+    spell-words-Inv-loop
+    spell-words-μ-loop
+    (spell-words-afresh-requires t)
+    (spell-words-loop-holds t)
+    (spell-words-next-word-requires t)
+    (spell-words-same-length t)
+    (spell-words-same-length-2 t)
+    (spell-words-same-length-3 t)
+    (spell-words-same-length-4 t)
+    (spell-words-same-length-5 t)
+    (spell-words-returns t)
+    (spell-words-hyphen-requires t)
+    (spell-words-spell-name-requires t)
+    (spell-words-both-requires t)
+    (spell-words-past-word-requires t)
+    (spell-words-loop-less t)
+    (spell-words-loop-again t)

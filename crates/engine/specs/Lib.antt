@@ -1,0 +1,4 @@
+pub mod Spelling
+pub mod Calls
+pub mod Walks
+pub mod Lines

@@ -1,0 +1,136 @@
+-- The lines that are printed for a block of names (01, example 14: "one name a line; code, flag, answer, or code and place").
+use mathlib.Core.Path.{_≡_}
+use Prim.Native.Nat.{ℕ, zero, suc, _+_, _-_, _/_, _%_, _≤_, _<_, min}
+use mathlib.Core.Bool.{Bool, true, false}
+use mathlib.Core.List.{List, [], _∷_, _++_}
+use lib.Dec.{eqb, leb, ltb}
+use lib.ListN.{length, take, drop}
+use lib.Seq.{sets}
+use Rattle.base.specs.Pick.{pick, and}
+use Rattle.texts.specs.Parts.{placeOf, has}
+use Rattle.choices.specs.Texts.{Text}
+use Rattle.engine.specs.Calls.{Outcome, refusedBy, key, callOf, toldOf, Numbers, numbersOf}
+use Rattle.engine.specs.declared.call.Settings.{Settings}
+use Rattle.engine.specs.declared.call.Start.{Start}
+use Rattle.engine.specs.declared.lines.Lines.{Lines}
+use Rattle.engine.specs.declared.spelling.Spelled.{Spelled}
+use Rattle.engine.specs.declared.spelling.Spelled.the-variants.{Done, Refused}
+
+-- ---- a line
+
+-- "code", "place": a number is at least its count of digits less one, so it is fuel enough
+unfoldable pub decimalBy : ℕ → ℕ → Text
+decimalBy zero n = (48 + n % 10) ∷ []
+decimalBy (suc f) n = pick (ltb n 10) ((48 + n % 10) ∷ []) (decimalBy f (n / 10) ++ (48 + n % 10) ∷ [])
+
+unfoldable pub decimal : ℕ → Text
+decimal n = decimalBy n n
+
+-- "flag": 1 where it is up, else 0
+unfoldable pub flagDigit : Bool → ℕ
+flagDigit true = 49
+flagDigit false = 48
+
+-- "code, flag, answer"
+unfoldable pub answerLine : Numbers → Text → Text
+answerLine n t = decimal (n .code) ++ ((32 ∷ flagDigit (n .flag) ∷ 32 ∷ []) ++ (t ++ 10 ∷ []))
+
+-- "or code and place"
+unfoldable pub refusalLine : Numbers → Text
+refusalLine n = decimal (n .code) ++ ((32 ∷ []) ++ (decimal (n .place) ++ 10 ∷ []))
+
+-- "one name a line", t being the answer's text
+unfoldable pub lineBy : Spelled → Text → Text
+lineBy (Done written flag) t = answerLine (numbersOf (Done written flag)) t
+lineBy (Refused code place) t = refusalLine (numbersOf (Refused code place))
+
+-- ---- its room
+
+-- a place number is at most this
+abbrev pub most : ℕ
+most = 4294967295
+
+-- bytes of an answer that a line in a buffer has room for: four bytes stand before the answer, and LF behind it
+unfoldable pub room : ℕ → ℕ
+room size = min size most - 5
+
+unfoldable pub textOf : Outcome → Text
+textOf (refusedBy k place) = []
+textOf (key t f) = t
+
+-- "9: answer .. longer than the output buffer": one that has no room in the whole buffer
+unfoldable pub lineOf : ℕ → Outcome → Text
+lineOf size x = lineBy (toldOf x (room size)) (textOf x)
+
+unfoldable pub lineFor : Settings → Start → List ℕ → ℕ → Text → Text
+lineFor settings start pack size name = lineOf size (callOf settings start pack name)
+
+-- ---- the lines of a block
+
+-- each name is ended by LF; what follows the last LF is none
+unfoldable pub linesFrom : ℕ → List ℕ → List Text
+linesFrom zero s = []
+linesFrom (suc f) s = pick (has 10 s) (take (placeOf 10 s) s ∷ linesFrom f (drop (suc (placeOf 10 s)) s)) []
+
+unfoldable pub wholeLines : List ℕ → List Text
+wholeLines s = linesFrom (length s) s
+
+-- how many bytes of the block were read, and what is printed for them
+pub record Taken : Type 0 where
+  pub read : ℕ
+  pub text : Text
+
+-- so many bytes read, what is printed for them, and then the rest
+unfoldable pub andTaken : ℕ → Text → Taken → Taken
+andTaken n t rest = record { read = n + rest .read; text = t ++ rest .text }
+
+abbrev pub noneTaken : Taken
+noneTaken = record { read = 0; text = [] }
+
+-- as many lines, in order, as fit into so many bytes
+unfoldable pub takeLines : (Text → Text) → ℕ → List Text → Taken
+takeLines f size [] = noneTaken
+takeLines f size (name ∷ names) =
+    pick (leb (length (f name)) size) (andTaken (suc (length name)) (f name) (takeLines f (size - length (f name)) names)) noneTaken
+
+unfoldable pub taken : (Text → Text) → List ℕ → List ℕ → Taken
+taken f block out = takeLines f (min (length out) most) (wholeLines block)
+
+-- the promise for a block: one result, and one content of the lent buffer
+pub record LinesIs (f : Text → Text) (block out : List ℕ) (r : Lines) (out′ : List ℕ) : Type 0 where
+  pub result : r ≡ record { read = taken f block out .read; written = length (taken f block out .text) }
+  pub buffer : out′ ≡ sets out 0 (taken f block out .text)
+
+-- ---- what the functions of a line tell
+
+-- a line stands from a place on where it fits, else nothing is written; next is the place behind it
+pub record LineAt (line : Text) (size : ℕ) (o o′ : List ℕ) (at next : ℕ) : Type 0 where
+  pub fits : length line ≤ size - at → (next ≡ at + length line) × (o′ ≡ sets o at line)
+  pub stops : size - at < length line → (next ≡ at) × (o′ ≡ o)
+
+-- what stands before an answer
+unfoldable pub headOf : Bool → Text
+headOf flag = 48 ∷ 32 ∷ flagDigit flag ∷ 32 ∷ []
+
+-- it and LF around an answer that stands, where they have room
+pub record DoneIs (written : ℕ) (flag : Bool) (size : ℕ) (o o′ : List ℕ) (at next : ℕ) : Type 0 where
+  pub fits : written + 5 ≤ size - at → (next ≡ at + 4 + written + 1) × (o′ ≡ sets (sets o at (headOf flag)) (at + 4 + written) (10 ∷ []))
+  pub stops : size - at < written + 5 → (next ≡ at) × (o′ ≡ o)
+
+-- a call's answer in a part of a buffer
+unfoldable pub partFilled : Outcome → ℕ → ℕ → List ℕ → List ℕ
+partFilled (refusedBy k place) a space out = out
+partFilled (key t f) a space out = pick (leb (length t) space) (sets out a t) out
+
+pub record PartIs (x : Outcome) (a space : ℕ) (out : List ℕ) (r : Spelled) (out′ : List ℕ) : Type 0 where
+  pub result : r ≡ toldOf x space
+  pub buffer : out′ ≡ partFilled x a space out
+
+-- an answer that has no room here, but has in the whole buffer
+unfoldable pub waitsFor : ℕ → ℕ → ℕ → Bool
+waitsFor code place size = and (eqb code 9) (leb (place + 5) size)
+
+-- nothing for an answer that waits, else the line of a refusal where it fits
+pub record RefusedIs (code place size : ℕ) (o o′ : List ℕ) (at next : ℕ) : Type 0 where
+  pub waits : waitsFor code place size ≡ true → (next ≡ at) × (o′ ≡ o)
+  pub line : waitsFor code place size ≡ false → LineAt (refusalLine (numbersOf (Refused code place))) size o o′ at next

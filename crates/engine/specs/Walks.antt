@@ -1,0 +1,195 @@
+-- What the functions of a call tell of the pack's bytes and of the lent buffers.
+use mathlib.Core.Path.{_≡_}
+use Prim.Native.Nat.{ℕ, _+_, _*_, _≤_, _<_, min}
+use mathlib.Core.Bool.{Bool, true, false}
+use mathlib.Core.List.{List, [], _∷_}
+use lib.Dec.{eqb, leb}
+use lib.ListN.{length, getD}
+use lib.Seq.{sets}
+use Rattle.base.specs.Pick.{pick}
+use Rattle.languages.specs.Sets.{singleOf, BitsBelow}
+use Rattle.languages.specs.Names.{namePlace}
+use Rattle.languages.specs.declared.sets.LanguageSet.{LanguageSet}
+use Rattle.letters.specs.Reading.{firstIll, firstOutside}
+use Rattle.letters.specs.declared.utf8.Found.the-variants.{Nothing}
+use Rattle.name_parts.specs.Writing.{cap, Put}
+use Rattle.name_parts.specs.declared.prefixes.Prefix.{Prefix}
+use Rattle.name_parts.specs.declared.prefixes.Prefix.the-variants as prefix
+use Rattle.pack.specs.Packs.{Pack, Verdict, accepted, refused, packOf, listCount, any}
+use Rattle.pack.specs.Places.{textBytes, placesOf}
+use Rattle.choices.specs.Texts.{Text}
+use Rattle.phoneme_builder.specs.declared.words.Worded.{Worded}
+use Rattle.phoneme_builder.specs.declared.words.Worded.the-variants.{Done, TooLong, TooMany, Unfit}
+use Rattle.engine.specs.Spelling.{Spelt, bad, good, Steps, or}
+use Rattle.engine.specs.Calls.{languageBy, stepsBy, startSet, typeOf, settingsKnown, haveLanguages, Outcome, refusedBy}
+use Rattle.engine.specs.declared.spelling.Spelled.{Spelled}
+use Rattle.engine.specs.declared.spelling.Spelled.the-variants as spelled
+use Rattle.engine.specs.declared.call.Settings.{Settings}
+use Rattle.engine.specs.declared.call.Start.{Start}
+use Rattle.engine.specs.declared.call.Desk.{Desk}
+use Rattle.engine.specs.declared.call.Desk.the-variants.{Open, Shut}
+use Rattle.engine.specs.declared.call.Call.{Call}
+use Rattle.engine.specs.declared.encode.Ends.{Ends}
+use Rattle.engine.specs.declared.encode.Lists.{Lists}
+use Rattle.engine.specs.declared.spelling.Named.{Named}
+use Rattle.engine.specs.declared.spelling.Named.the-variants.{Fine, Wrong}
+
+-- ---- the pack
+
+unfoldable pub packBy : Verdict → Pack
+packBy (accepted p) = p
+packBy (refused place) = record { names = []; guesses = []; lists = [] }
+
+-- the pack that bytes are
+unfoldable pub packIn : List ℕ → Pack
+packIn s = packBy (packOf s)
+
+-- the numbers of an accepted pack, and a table with its lists' places
+pub record AtDesk (s places : List ℕ) (languages guesses other : ℕ) : Type 0 where
+  pub is : packOf s ≡ accepted (packIn s)
+  pub languages-are : languages ≡ length (packIn s .names)
+  pub guesses-are : guesses ≡ 1 + textBytes (packIn s .names)
+  pub any-is : other ≡ namePlace any (packIn s .names)
+  pub any-below : other < languages
+  pub room : listCount languages ≤ length places
+  pub places-are : (k : ℕ) → k < listCount languages → getD places k 0 ≡ getD (placesOf s) k 0
+
+unfoldable pub DeskIs : List ℕ → List ℕ → Desk → Type 0
+DeskIs s places (Open languages guesses other) = AtDesk s places languages guesses other
+DeskIs s places (Shut place) = packOf s ≡ refused place
+
+-- ---- a call on it
+
+pub record Ready (s places : List ℕ) (call : Call) : Type 0 where
+  pub desk : AtDesk s places (call .languages) (call .guesses) (call .any)
+  pub few : call .limit ≤ 256
+  pub known : call .rules < 2
+  pub below : BitsBelow (call .languages) (call .set)
+
+unfoldable pub callFor : Settings → Start → ℕ → ℕ → ℕ → LanguageSet → Call
+callFor c start languages guesses other guess = record {
+  kind = typeOf (c .«name_type»);
+  rules = c .«rule_type»;
+  concat = eqb (c .concat) 1;
+  limit = c .limit;
+  languages = languages;
+  guesses = guesses;
+  any = other;
+  fresh = false;
+  set = startSet start guess;
+}
+
+unfoldable pub afreshOf : Call → Call
+afreshOf c = record {
+  kind = c .kind;
+  rules = c .rules;
+  concat = c .concat;
+  limit = c .limit;
+  languages = c .languages;
+  guesses = c .guesses;
+  any = c .any;
+  fresh = true;
+  set = c .set;
+}
+
+unfoldable pub stepsAt : List ℕ → Call → Steps
+stepsAt s c = stepsBy s (packIn s) (c .kind) (c .rules) (c .concat) (c .limit)
+
+-- the set that a name starts with
+unfoldable pub startAt : List ℕ → Call → Text → LanguageSet
+startAt s c t = pick (c .fresh) (stepsAt s c .guess t) (c .set)
+
+-- the sizes of the buffers that are lent for the work
+pub record Scratch (store lens langs ord : ℕ) : Type 0 where
+  pub store-is : store ≡ 131584
+  pub lens-is : lens ≡ 1028
+  pub langs-is : langs ≡ 1028
+  pub ord-is : ord ≡ 1024
+
+-- the places of a language's lists
+unfoldable pub listsAt : List ℕ → Call → ℕ → Lists
+listsAt places c l =
+    record { main = getD places (3 * l) 0; common = getD places (3 * (c .languages) + c .rules) 0; own = getD places (3 * l + 1 + c .rules) 0 }
+
+-- ---- an answer in a buffer
+
+-- t stands in out from a place on if it fits there; next is the place behind it, at most cap
+pub record Wrote (t : Text) (o o′ : List ℕ) (at next : ℕ) : Type 0 where
+  pub ends : next ≡ min (at + length t) cap
+  pub wrote : at + length t ≤ length o → o′ ≡ sets o at t
+  pub same : length o′ ≡ length o
+  pub room : length o < cap
+
+unfoldable pub codeOf : Spelt → ℕ
+codeOf (bad k) = k
+codeOf (good t f) = 0
+
+unfoldable pub ToldBy : Spelt → List ℕ → List ℕ → ℕ → Ends → Type 0
+ToldBy (bad k) o o′ at r = 0 < k
+ToldBy (good t f) o o′ at r = Wrote t o o′ at (r .at) × (r .flag ≡ f)
+
+pub record Told (x : Spelt) (o o′ : List ℕ) (at : ℕ) (r : Ends) : Type 0 where
+  pub code : r .code ≡ codeOf x
+  pub is : ToldBy x o o′ at r
+
+-- the same, and what does not fit as a whole is not written at all
+unfoldable pub wholeBy : Spelt → List ℕ → ℕ → List ℕ
+wholeBy (bad k) o at = o
+wholeBy (good t f) o at = pick (leb (at + length t) (length o)) (sets o at t) o
+
+pub record ToldWhole (x : Spelt) (o o′ : List ℕ) (at : ℕ) (r : Ends) : Type 0 where
+  pub told : Told x o o′ at r
+  pub whole : o′ ≡ wholeBy x o at
+
+-- what a word's answer comes to: its end, or its refusal
+unfoldable pub EndedIs : Worded → ℕ → Ends → Type 0
+EndedIs (Done length flag) at r = (r .at ≡ min (at + length) cap) × (r .flag ≡ flag) × (r .code ≡ 0)
+EndedIs TooLong at r = r .code ≡ 7
+EndedIs TooMany at r = r .code ≡ 8
+EndedIs Unfit at r = Unit {0}
+
+-- two answers as one that ends at a place
+unfoldable pub bothOf : Ends → Ends → ℕ → Ends
+bothOf first second at = pick (eqb (first .code) 0) (record { at = at; flag = or (first .flag) (second .flag); code = second .code }) first
+
+-- a hyphen where the name is read already
+pub record Parted (o o′ : List ℕ) (at p next : ℕ) : Type 0 where
+  pub first : p ≡ 0 → (next ≡ at) × (o′ ≡ o)
+  pub later : (p ≡ 0 → ⊥) → Put o o′ at next (45 ∷ [])
+
+-- ---- one name
+
+unfoldable pub foundBy : Named → Outcome → Outcome
+foundBy Fine rest = rest
+foundBy (Wrong code place) rest = refusedBy code place
+
+-- what is found of a name before the pack is looked at
+pub record FoundIs (f : Outcome → Outcome) (r : Named) : Type 0 where
+  pub is : (rest : Outcome) → foundBy r rest ≡ f rest
+
+-- no refusal but 7, 8 and 9 is left
+pub record FineName (c : Settings) (start : Start) (languages : ℕ) (name : Text) : Type 0 where
+  pub known : settingsKnown c start ≡ true
+  pub have : haveLanguages languages start ≡ true
+  pub short : length name ≤ 96
+  pub formed : firstIll name ≡ Nothing
+  pub within : firstOutside name ≡ Nothing
+
+-- an answer of so many bytes, or that they have no room
+unfoldable pub answeredBy : Ends → ℕ → Spelled
+answeredBy a room =
+    pick (eqb (a .code) 0) (pick (leb (a .at) room) (spelled.Done (a .at) (a .flag)) (spelled.Refused 9 (min (a .at) 4294967295))) (spelled.Refused (a .code) 0)
+
+-- a name with no prefix, of which a test holds
+unfoldable pub wholeAnd : Prefix → Bool → Bool
+wholeAnd (prefix.Parted keep skip) t = false
+wholeAnd prefix.Whole t = t
+
+unfoldable pub MeasuredBy : Spelt → Ends → Type 0
+MeasuredBy (bad k) r = 0 < k
+MeasuredBy (good t f) r = (r .at ≡ min (length t) cap) × (r .flag ≡ f)
+
+-- how long an answer is
+pub record Measured (x : Spelt) (r : Ends) : Type 0 where
+  pub code : r .code ≡ codeOf x
+  pub is : MeasuredBy x r

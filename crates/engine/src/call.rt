@@ -1,0 +1,208 @@
+// What a call is told, and what it works with once that is found good.
+ghost use mathlib.Core.Path.{_≡_};
+ghost use Prim.Native.Nat.{_≤_, _<_, _^_, min};
+ghost use lib.Dec.{ltb};
+ghost use lib.ListN.{length};
+ghost use Rattle.languages.specs.Names.{namePlace, stringsOf};
+ghost use Rattle.pack.specs.Packs.{any};
+ghost use Rattle.pack.specs.Guessing.{guessedAt};
+ghost use Rattle.engine.specs.Calls.{settingsKnown, kindKnown, haveLanguages, typeOf, startSet};
+ghost use Rattle.engine.specs.Walks.{DeskIs, callFor, afreshOf};
+use languages::LanguageSet;
+use languages::Listed;
+use name_parts::NameType;
+use pack::Surveyed;
+
+// The settings in the paper's numbers: Ashkenazi 0, Generic 1, Sephardic 2; approx 0, exact 1; concat 0 or 1; the limit.
+pub struct Settings {
+    pub name_type: u32,
+    pub rule_type: u32,
+    pub concat: u32,
+    pub limit: u32,
+}
+
+// The start languages: guessed, or given by kind (0 Any, 1 None, 2 Some) and bits.
+pub enum Start {
+    Guessed,
+    Given { kind: u32, bits: u32 },
+}
+
+// A survey's verdict, and where it accepts, the numbers that spelling works with: how many languages, the place of the guessing
+// section, and which language is `any`.
+pub enum Desk {
+    Open {
+        languages: usize,
+        guesses: usize,
+        any: usize,
+    },
+    Shut {
+        place: usize,
+    },
+}
+
+// What a name is spelled by. The set counts where the name is not spelled afresh.
+pub struct Call {
+    pub kind: NameType,
+    pub rules: usize,
+    pub concat: bool,
+    pub limit: usize,
+    pub languages: usize,
+    pub guesses: usize,
+    pub any: usize,
+    pub fresh: bool,
+    pub set: LanguageSet,
+}
+
+// The pack's numbers, and its lists' places in the table.
+pub fn open(pack: &[u8], places: &mut [usize]) -> Desk
+    requires { ⌜ length (now places) ≡ 98 ⌝ }
+    ensures { λ r. ⌜ DeskIs (now (pack .entry)) (now (places .exit)) r ⌝ }
+{
+    match pack::survey(pack, places) {
+        Surveyed::Accepted { languages, guesses } => Desk::Open {
+            languages,
+            guesses,
+            any: any_of(&pack[1..guesses]),
+        },
+        Surveyed::Refused(place) => Desk::Shut { place },
+    }
+}
+
+// Which of the names is `any`.
+fn any_of(listed: &[u8]) -> usize
+    requires { ⌜ namePlace any (stringsOf (now listed)) < min 32 (length (stringsOf (now listed))) ⌝ }
+    ensures { λ r. ⌜ r ≡ namePlace any (stringsOf (now (listed .entry))) ⌝ }
+{
+    match languages::find_language(listed, b"any") {
+        Listed::Bit(bit) => u32::trailing_zeros(bit) as usize,
+        Listed::Unlisted => 0,
+    }
+}
+
+// Whether the settings' numbers are known (else 4).
+pub fn are_known(settings: Settings, start: Start) -> bool
+    ensures { λ r. ⌜ r ≡ settingsKnown settings start ⌝ }
+{
+    if settings.name_type < 3 {
+        if settings.rule_type < 2 {
+            if settings.concat < 2 {
+                if settings.limit <= 256 {
+                    return is_known(start);
+                }
+            }
+        }
+    }
+    false
+}
+
+fn is_known(start: Start) -> bool
+    ensures { λ r. ⌜ r ≡ kindKnown start ⌝ }
+{
+    match start {
+        Start::Guessed => true,
+        Start::Given { kind, bits: _ } => kind < 3,
+    }
+}
+
+// Whether each given bit has a language (else 6); only with kind 2 the bits count.
+pub fn have_languages(start: Start, languages: usize) -> bool
+    requires { ⌜ languages ≤ 32 ⌝ }
+    ensures { λ r. ⌜ r ≡ haveLanguages languages start ⌝ }
+{
+    match start {
+        Start::Guessed => true,
+        Start::Given { kind, bits } => {
+            if kind == 2 {
+                are_below(bits, languages)
+            } else {
+                true
+            }
+        }
+    }
+}
+
+// Whether bits are of the first n languages alone.
+fn are_below(bits: u32, n: usize) -> bool
+    requires { ⌜ n ≤ 32 ⌝ }
+    ensures { λ r. ⌜ r ≡ ltb bits (2 ^ n) ⌝ }
+{
+    if n < 32 {
+        bits < (1u32 << (n as u32))
+    } else {
+        true
+    }
+}
+
+fn type_of(number: u32) -> NameType
+    ensures { λ r. ⌜ r ≡ typeOf number ⌝ }
+{
+    if number == 0 {
+        NameType::Ashkenazi
+    } else if number == 1 {
+        NameType::Generic
+    } else {
+        NameType::Sephardic
+    }
+}
+
+// The set to start with, on the lower-cased name, hyphens still there.
+fn set_of(start: Start, pack: &[u8], languages: usize, guesses: usize, name: &[u8]) -> LanguageSet
+    ensures { λ r. ⌜ r ≡ startSet start (guessedAt (now (pack .entry)) guesses languages (now (name .entry))) ⌝ }
+{
+    match start {
+        Start::Guessed => pack::guess_languages(pack, guesses, languages, name),
+        Start::Given { kind, bits } => {
+            if kind == 0 {
+                LanguageSet::Any
+            } else if kind == 1 {
+                LanguageSet::NoLanguages
+            } else {
+                LanguageSet::SomeLanguages(bits)
+            }
+        }
+    }
+}
+
+// The call of known settings on a good pack.
+pub fn call_of(
+    settings: Settings,
+    start: Start,
+    pack: &[u8],
+    languages: usize,
+    guesses: usize,
+    any: usize,
+    name: &[u8],
+) -> Call
+    ensures { λ r. ⌜ r ≡ callFor settings start languages guesses any (guessedAt (now (pack .entry)) guesses languages (now (name .entry))) ⌝ }
+{
+    Call {
+        kind: type_of(settings.name_type),
+        rules: settings.rule_type as usize,
+        concat: settings.concat == 1,
+        limit: settings.limit as usize,
+        languages,
+        guesses,
+        any,
+        fresh: false,
+        set: set_of(start, pack, languages, guesses, name),
+    }
+}
+
+// The same call for a name that is spelled afresh.
+pub fn afresh(call: Call) -> Call
+    ensures { λ r. ⌜ r ≡ afreshOf call ⌝ }
+{
+    let kind = call.kind;
+    let set = call.set;
+    Call {
+        kind,
+        rules: call.rules,
+        concat: call.concat,
+        limit: call.limit,
+        languages: call.languages,
+        guesses: call.guesses,
+        any: call.any,
+        fresh: true,
+        set,
+    }
+}

@@ -1,0 +1,367 @@
+// A name spelled (01, Spelling a name, steps 2 to 5): by its prefix, by its words, or as one word.
+ghost use mathlib.Core.Path.{_≡_};
+ghost use mathlib.Core.Bool.{true, false};
+ghost use mathlib.Core.List.{_∷_};
+ghost use Prim.Native.Nat.{_+_, _≤_, _<_, min};
+ghost use lib.ListN.{length};
+ghost use Rattle.base.specs.Pick.{pick};
+ghost use Rattle.languages.specs.Sets.{singleOf, BitsBelow};
+ghost use Rattle.name_parts.specs.Words.{oneWord, wordsOf};
+ghost use Rattle.name_parts.specs.Writing.{cap, Put};
+ghost use Rattle.pack.specs.Packs.{listCount};
+ghost use Rattle.pack.specs.Guessing.{guessedAt};
+ghost use Rattle.engine.specs.Spelling.{partedAs, or, spelledName, onePart, eachWord, afreshBy};
+ghost use Rattle.engine.specs.Calls.{languageBy, languageOf, wordBy};
+ghost use Rattle.engine.specs.Walks.{packIn, Ready, Scratch, stepsAt, startAt, listsAt, EndedIs, Told, ToldWhole, bothOf, Parted};
+use crate::call::Call;
+use crate::call::afresh;
+use languages::LanguageSet;
+use languages::Single;
+use name_parts::NameType;
+use name_parts::Prefix;
+use phoneme_builder::Worded;
+
+// No slice has more bytes; a place stays at most this.
+const CAP: usize = 0x8000_0000_0000_0000;
+
+// Where an answer ends and its flag; or the code of a refusal, which is not 0.
+pub struct Ends {
+    pub at: usize,
+    pub flag: bool,
+    pub code: u8,
+}
+
+// The places of the three lists that a word is spelled by.
+pub struct Lists {
+    pub main: usize,
+    pub common: usize,
+    pub own: usize,
+}
+
+// The language whose lists are used: the single one, else `any`.
+fn language_of(set: LanguageSet, any: usize) -> usize
+    ensures { λ r. ⌜ r ≡ languageBy (singleOf set) any ⌝ }
+{
+    match set.single() {
+        Single::Language(l) => l as usize,
+        Single::NotSingle => any,
+    }
+}
+
+fn lists_of(places: &[usize], call: Call, l: usize) -> Lists
+    requires { ⌜ (l < call .languages) × (call .languages ≤ 32) × (call .rules < 2) × (listCount (call .languages) ≤ length (now places)) ⌝ }
+    ensures { λ r. ⌜ r ≡ listsAt (now (places .entry)) call l ⌝ }
+{
+    let n = call.languages;
+    let k = call.rules;
+    Lists {
+        main: places[3 * l],
+        common: places[3 * n + k],
+        own: places[3 * l + 1 + k],
+    }
+}
+
+// The place behind n bytes more.
+fn forward(at: usize, n: usize) -> usize
+    ensures { λ r. ⌜ r ≡ min (at + n) cap ⌝ }
+{
+    if n < CAP {
+        if at < CAP - n {
+            return at + n;
+        }
+    }
+    CAP
+}
+
+// What a word's answer comes to.
+fn ended(answer: Worded, at: usize) -> Ends
+    ensures { λ r. ⌜ EndedIs answer at r ⌝ }
+{
+    match answer {
+        Worded::Done { length, flag } => Ends {
+            at: forward(at, length),
+            flag,
+            code: 0,
+        },
+        Worded::TooLong => Ends {
+            at,
+            flag: false,
+            code: 7,
+        },
+        Worded::TooMany => Ends {
+            at,
+            flag: false,
+            code: 8,
+        },
+        Worded::Unfit => Ends {
+            at,
+            flag: false,
+            code: 8,
+        },
+    }
+}
+
+// A word spelled with a set, into `out` from `at` on where it fits as a whole.
+fn spell_one(
+    store: &mut [u8],
+    lens: &mut [u8],
+    langs: &mut [u64],
+    ord: &mut [u8],
+    pack: &[u8],
+    places: &[usize],
+    call: Call,
+    set: LanguageSet,
+    word: &[u8],
+    out: &mut [u8],
+    at: usize,
+) -> Ends
+    requires { ⌜ Scratch (length (now store)) (length (now lens)) (length (now langs)) (length (now ord)) ⌝ }
+    requires { ⌜ Ready (now pack) (now places) call ⌝ }
+    requires { ⌜ BitsBelow (call .languages) set ⌝ }
+    ensures { λ r. ⌜ ToldWhole (stepsAt (now (pack .entry)) call .word set (now (word .entry))) (now (out .entry)) (now (out .exit)) at r ⌝ }
+{
+    let guesses = call.guesses;
+    let l = language_of(set, call.any);
+    let lists = lists_of(places, call, l);
+    let mut starts = [0usize; 256];
+    let mut ends = [0usize; 256];
+    let mut sets = [0u64; 256];
+    let answer = phoneme_builder::word(
+        store,
+        lens,
+        langs,
+        ord,
+        &mut starts,
+        &mut ends,
+        &mut sets,
+        pack,
+        &pack[1..guesses],
+        lists.main,
+        lists.common,
+        lists.own,
+        set,
+        word,
+        call.limit,
+        out,
+        at,
+    );
+    ended(answer, at)
+}
+
+// The set that a name starts with.
+fn start_of(pack: &[u8], call: Call, name: &[u8]) -> LanguageSet
+    ensures { λ r. ⌜ r ≡ pick (call .fresh) (guessedAt (now (pack .entry)) (call .guesses) (call .languages) (now (name .entry))) (call .set) ⌝ }
+{
+    if call.fresh {
+        pack::guess_languages(pack, call.guesses, call.languages, name)
+    } else {
+        call.set
+    }
+}
+
+// Whether a name with no prefix is spelled as one word.
+pub fn is_plain(call: Call, name: &[u8]) -> bool
+    ensures { λ r. ⌜ r ≡ pick (call .concat) true (oneWord (now (name .entry))) ⌝ }
+{
+    if call.concat {
+        true
+    } else {
+        name_parts::one_word(name)
+    }
+}
+
+// That word spelled: the words joined, or the only one.
+pub fn spell_plain(
+    store: &mut [u8],
+    lens: &mut [u8],
+    langs: &mut [u64],
+    ord: &mut [u8],
+    pack: &[u8],
+    places: &[usize],
+    call: Call,
+    name: &[u8],
+    out: &mut [u8],
+    at: usize,
+) -> Ends
+    requires { ⌜ Scratch (length (now store)) (length (now lens)) (length (now langs)) (length (now ord)) ⌝ }
+    requires { ⌜ Ready (now pack) (now places) call ⌝ }
+    requires { ⌜ length (now name) ≤ 96 ⌝ }
+    ensures { λ r. ⌜ ToldWhole (onePart (stepsAt (now (pack .entry)) call) (startAt (now (pack .entry)) call (now (name .entry))) (now (name .entry))) (now (out .entry)) (now (out .exit)) at r ⌝ }
+{
+    let set = start_of(pack, call, name);
+    if call.concat {
+        let kind = call.kind;
+        let mut joined = [0u8; 96];
+        let n = name_parts::join_words(kind, name, &mut joined);
+        spell_one(
+            store,
+            lens,
+            langs,
+            ord,
+            pack,
+            places,
+            call,
+            set,
+            &joined[0..n],
+            out,
+            at,
+        )
+    } else {
+        let w = name_parts::next_word(name, 0);
+        spell_one(store, lens, langs, ord, pack, places, call, set, w, out, at)
+    }
+}
+
+// Where a name is parted: only Generic ones are.
+pub fn part_of(kind: NameType, name: &[u8]) -> Prefix
+    ensures { λ r. ⌜ r ≡ partedAs kind (now (name .entry)) ⌝ }
+{
+    match kind {
+        NameType::Ashkenazi => Prefix::Whole,
+        NameType::Generic => name_parts::prefix_of(name),
+        NameType::Sephardic => Prefix::Whole,
+    }
+}
+
+// Between remainder and joined name.
+fn middle(out: &mut [u8], at: usize) -> usize
+    ensures { λ r. ⌜ Put (now (out .entry)) (now (out .exit)) at r (41 ∷ 45 ∷ 40 ∷ mathlib.Core.List.[]) ⌝ }
+{
+    name_parts::copy(b")-(", out, at)
+}
+
+// Between words, and not before the first: p is how far the name is read.
+fn hyphen(out: &mut [u8], at: usize, p: usize) -> usize
+    ensures { λ r. ⌜ Parted (now (out .entry)) (now (out .exit)) at p r ⌝ }
+{
+    if p == 0 {
+        at
+    } else {
+        name_parts::push(out, at, b'-')
+    }
+}
+
+fn either(a: bool, b: bool) -> bool
+    ensures { λ r. ⌜ r ≡ or a b ⌝ }
+{
+    if a { true } else { b }
+}
+
+// Two answers as one that ends at a place; the refusal of the first goes before.
+fn both(first: Ends, second: Ends, at: usize) -> Ends
+    ensures { λ r. ⌜ r ≡ bothOf first second at ⌝ }
+{
+    if first.code == 0 {
+        Ends {
+            at,
+            flag: either(first.flag, second.flag),
+            code: second.code,
+        }
+    } else {
+        first
+    }
+}
+
+// A name spelled, into `out` from `at` on, as far as there is room: by its prefix, the remainder and the joined name both, or by its
+// words.
+pub fn spell_name(
+    store: &mut [u8],
+    lens: &mut [u8],
+    langs: &mut [u64],
+    ord: &mut [u8],
+    pack: &[u8],
+    places: &[usize],
+    call: Call,
+    name: &[u8],
+    out: &mut [u8],
+    at: usize,
+) -> Ends
+    requires { ⌜ Scratch (length (now store)) (length (now lens)) (length (now langs)) (length (now ord)) ⌝ }
+    requires { ⌜ Ready (now pack) (now places) call ⌝ }
+    requires { ⌜ length (now name) ≤ 96 ⌝ }
+    requires { ⌜ at ≤ cap ⌝ }
+    ensures { λ r. ⌜ Told (spelledName (stepsAt (now (pack .entry)) call) (startAt (now (pack .entry)) call (now (name .entry))) (now (name .entry))) (now (out .entry)) (now (out .exit)) at r ⌝ }
+{
+    let kind = call.kind;
+    match part_of(kind, name) {
+        Prefix::Parted { keep, skip } => {
+            let again = afresh(call);
+            let mut joined = [0u8; 96];
+            let n = name_parts::join_prefix(name, keep, skip, &mut joined);
+            let p = name_parts::push(out, at, b'(');
+            let a = spell_name(
+                store,
+                lens,
+                langs,
+                ord,
+                pack,
+                places,
+                again,
+                &name[skip..],
+                out,
+                p,
+            );
+            let q = middle(out, a.at);
+            let b = spell_name(
+                store,
+                lens,
+                langs,
+                ord,
+                pack,
+                places,
+                again,
+                &joined[0..n],
+                out,
+                q,
+            );
+            let end = name_parts::push(out, b.at, b')');
+            both(b, a, end)
+        }
+        Prefix::Whole => {
+            if is_plain(call, name) {
+                spell_plain(store, lens, langs, ord, pack, places, call, name, out, at)
+            } else {
+                spell_words(store, lens, langs, ord, pack, places, call, name, out, at)
+            }
+        }
+    }
+}
+
+// Each word of a name spelled afresh, a hyphen between them.
+fn spell_words(
+    store: &mut [u8],
+    lens: &mut [u8],
+    langs: &mut [u64],
+    ord: &mut [u8],
+    pack: &[u8],
+    places: &[usize],
+    call: Call,
+    name: &[u8],
+    out: &mut [u8],
+    at: usize,
+) -> Ends
+    requires { ⌜ Scratch (length (now store)) (length (now lens)) (length (now langs)) (length (now ord)) ⌝ }
+    requires { ⌜ Ready (now pack) (now places) call ⌝ }
+    requires { ⌜ length (now name) ≤ 96 ⌝ }
+    requires { ⌜ at ≤ cap ⌝ }
+    requires { ⌜ oneWord (now name) ≡ false ⌝ }
+    ensures { λ r. ⌜ Told (eachWord (afreshBy (stepsAt (now (pack .entry)) call)) (wordsOf (now (name .entry)))) (now (out .entry)) (now (out .exit)) at r ⌝ }
+{
+    let again = afresh(call);
+    let mut all = Ends {
+        at,
+        flag: false,
+        code: 0,
+    };
+    let mut p: usize = 0;
+    loop {
+        let w = name_parts::next_word(name, p);
+        if w.len() == 0 {
+            return all;
+        }
+        let q = hyphen(out, all.at, p);
+        let b = spell_name(store, lens, langs, ord, pack, places, again, w, out, q);
+        all = both(all, b, b.at);
+        p = name_parts::past_word(name, p);
+    }
+}
