@@ -510,6 +510,52 @@ def words_random(rng, count):
             yield word_case(data, numbers_of(rng, sounds.names), limit, *set_over(rng, sounds.names), word_over(rng, sounds))
 
 
+# ---- spelling a name
+
+def spell_case(data, settings, given, room, name):
+    fields = settings + (given or ())
+    word = "spell" if given is None else "given"
+    return unasked("pack %s\n%s %s %d %s" % (hex_of(data), word, " ".join(map(str, fields)), room, hex_of(name)))
+
+
+def spelling_all():
+    """Example 14, the table's bounds at each number, and the edges of a word."""
+    for room, name in itertools.product((0, 1, 3, 8), ("aba", "de a", "a-a", "d'", "Ω", "", "-", "de  a", "d'de a", "A-D'A")):
+        yield spell_case(PAPER_PACK, (1, 0, 0, 20), None, room, name.encode())
+    for name in (b"a" * 96, b"a" * 97, b"a\xe2\x82A", "Ω".encode() + b"\xff", b"a\x7f", "aİ".encode(), b"\x00", b"a\n"):
+        for settings in ((1, 0, 0, 20), (0, 1, 1, 256), (3, 0, 0, 20), (1, 2, 0, 20), (1, 0, 2, 20), (1, 0, 0, 257)):
+            yield spell_case(PAPER_PACK, settings, None, 100, name)
+    for given in ((0, 9), (1, 9), (2, 0), (2, 1), (2, 2), (3, 0), (2, 2 ** 32 - 1)):
+        yield spell_case(PAPER_PACK, (1, 0, 0, 20), given, 8, b"aba")
+        yield spell_case(PAPER_PACK[:-1], (1, 0, 0, 20), given, 8, b"aba")
+    for data, words in edges():
+        for settings in itertools.product(range(3), (0,), range(2), (1, 20, 256)):
+            yield spell_case(data, settings, None, 40, "-".join(words[:2]).encode())
+            yield spell_case(data, settings, (0, 0), 40, ("de " + words[0]).encode())
+
+
+def name_over(rng, sounds):
+    """Words of a pack's letters, parted and led as steps 2 to 5 look for; seldom bytes that are no name."""
+    name = rng.choice((" ", "-", "'", "  ")).join(word_over(rng, sounds, 6) for _ in range(rng.choice((1, 1, 1, 2, 2, 3))))
+    prefixes = [prefix for some in second.PREFIXES.values() for prefix in some]
+    name = rng.choice(("", "", "", "d'", rng.choice(prefixes) + " ", rng.choice(prefixes) + "-", rng.choice(prefixes) + "  ")) + name
+    data = name.encode()
+    return data + damaged(rng) if rng.randrange(25) == 0 else data[:rng.choice((97, 200))] if rng.randrange(4) == 0 else data[:60]
+
+
+def spelling_random(rng, count):
+    for _ in range(count):
+        sounds, data = spelling_pack(rng)
+        if rng.randrange(25) == 0:
+            data = data[:rng.randrange(len(data))]
+        for _ in range(40):
+            settings = (rng.randrange(3), rng.randrange(2), rng.randrange(2), rng.choice(LIMITS))
+            if rng.randrange(30) == 0:
+                settings = tuple(number + rng.choice((0, 2, 300)) for number in settings)
+            given = None if rng.randrange(2) else set_over(rng, sounds.names)
+            yield spell_case(data, settings, given, rng.choice((0, 5, 20, 80, 80, 200)), name_over(rng, sounds))
+
+
 LAYERS = {
     "letters": (letters_all, letters_random),
     "languages": (languages_all, languages_random),
@@ -519,6 +565,7 @@ LAYERS = {
     "rules": (None, rules_random),
     "packs": (packs_all, packs_random),
     "words": (words_all, words_random),
+    "spelling": (spelling_all, spelling_random),
 }
 
 

@@ -76,7 +76,9 @@ def sampled(layer, seed, count, sample):
 
 
 def stored(layer):
-    """Some cases of each kind, by the last line's word."""
+    """Some cases of each kind, by the last line's word; of spelling those of some packs, all of them."""
+    if layer == "spelling":
+        return list(cases.cases_of(layer, 1, 40))
     kinds = {}
     for case in cases.cases_of(layer, 1, 2000):
         kinds.setdefault(case[0].split("\n")[-1].split(" ")[0], []).append(case)
@@ -88,11 +90,13 @@ def store(layers):
     lines, answers = list(NO_CASES), ["?"] * len(NO_CASES)
     for layer in layers:
         some = stored(layer)
-        second = run(SECOND, [line for line, _, _ in some])
+        second, pack = run(SECOND, [line for line, _, _ in some]), None
         for (line, _, _), other, may in zip(some, second, original_of(some)):
             if may is not None and other not in may:
                 sys.exit("the second check and the original differ: " + line)
-            lines.append(line)
+            setting, _, last = line.rpartition("\n")
+            lines.append(last if setting and setting == pack else line)
+            pack = setting or pack
             answers.append(other)
     for name, content in (("stdin", lines), ("stdout", answers)):
         with open(os.path.join(ROOT, "crates", "ask", name), "w") as file:

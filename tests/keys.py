@@ -1,12 +1,13 @@
 #!/usr/bin/env python3
 """Holds keys and flags of the second check, and of the port, against those of the original.
 
-    tests/keys.py [--packs N] [--names N] [--seed N] [--real] [--port ask]
+    tests/keys.py [--packs N] [--names N] [--seed N] [--real] [--port ask] [--bulk N]
 
 Tried are the edges of cases.py, N random packs, and with --real the real rules (oracle/rules fetches them) less the lines that
 document 01 refuses; each under settings of every kind, with N random names a setting. With --port the port's program answers the
 same as case lines, and odd ones besides. Every difference is printed, then what was compared; the exit status is 1 where there is
-a difference. The original is built by oracle/build; bm-probe gives its keys.
+a difference. The original is built by oracle/build; bm-probe gives its keys. With --bulk the program keys spells every surname and N
+mixed names under every setting of the real rules, and as many of random packs, and is held against the original itself.
 
 Where document 01 refuses with 7 or 8 the original gives a key; compared is that its counts show the cause. It has no bounds, so it
 is asked for the shortest such names only, and with a bound on its time; where it does not come to an end it is counted as silent.
@@ -437,6 +438,56 @@ def try_real(rng, count, tally, port):
                 compare(rng, rules, Setting(settings, given), names, tally, port)
 
 
+# ---- many names: the program against the original
+
+def answer_of(line):
+    """A line of the program keys: code, flag and key, or code and place."""
+    if line.startswith(b"0 "):
+        return 0, int(line[2:3]), line[4:]
+    code, place = line.split(b" ")
+    return int(code), 0, int(place)
+
+
+def program(path, setting, names):
+    command = [os.path.join(ROOT, "bin", "keys"), path] + [str(number) for number in setting.settings + (setting.given or ())]
+    done = subprocess.run(command, input=b"".join(name + b"\n" for name in names), stdout=subprocess.PIPE, check=True)
+    answers = [answer_of(line) for line in done.stdout.split(b"\n")[:-1]]
+    if len(answers) != len(names):
+        sys.exit("%s: %d answers to %d names" % (" ".join(command), len(answers), len(names)))
+    return answers
+
+
+def compare_bulk(rules, setting, names, tally):
+    with tempfile.NamedTemporaryFile() as pack:
+        pack.write(rules.packs[setting.settings.name_type])
+        pack.flush()
+        answers = program(pack.name, setting, names)
+    told = original(rules, setting, names, answers)
+    for place, (name, answer) in enumerate(zip(names, answers)):
+        if place in told and told[place] is None:
+            tally.silent(rules, setting)
+        tally.key(rules, setting, name, answer, told.get(place))
+
+
+def try_bulk(rng, count, tally):
+    """The real rules under every setting, guessed and with a given set, and random packs of as many names."""
+    with open(SURNAMES, encoding="utf-8") as file:
+        surnames = file.read().split("\n")[:-1]
+    with tempfile.TemporaryDirectory() as folder:
+        rules = real_rules(folder)._replace(part="bulk")
+        for settings in settings_over(REAL_LIMITS):
+            names = [cut(name) for name in surnames] + [mixed_name(rng, surnames) for _ in range(count)]
+            compare_bulk(rules, Setting(settings, None), names, tally)
+            given = some_set(rng, rules.checked[settings.name_type].names)
+            compare_bulk(rules, Setting(settings, given), [mixed_name(rng, surnames) for _ in range(count // 4)], tally)
+    for settings in settings_over(cases.LIMITS):
+        sounds, data = cases.spelling_pack(rng)
+        with tempfile.TemporaryDirectory() as folder:
+            rules = rules_of_pack("packs", folder, data)
+            setting = Setting(settings, some_set(rng, sounds.names) if rng.randrange(2) else None)
+            compare_bulk(rules, setting, [random_name(rng, sounds.letters) for _ in range(count)], tally)
+
+
 def main():
     parser = argparse.ArgumentParser(usage=__doc__)
     parser.add_argument("--packs", type=int, default=100)
@@ -444,6 +495,7 @@ def main():
     parser.add_argument("--seed", type=int, default=1)
     parser.add_argument("--real", action="store_true")
     parser.add_argument("--port", choices=["ask"])
+    parser.add_argument("--bulk", type=int, default=0)
     given = parser.parse_args()
     tally = Tally()
     port = Port(given.port, tally) if given.port else None
@@ -452,6 +504,8 @@ def main():
     try_random(rng, given.packs, given.names, tally, port)
     if given.real:
         try_real(rng, given.names, tally, port)
+    if given.bulk:
+        try_bulk(rng, given.bulk, tally)
     if port:
         port.flush()
     tally.show()

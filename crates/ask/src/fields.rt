@@ -264,14 +264,14 @@ pub fn two_decimals(rest: &[u8]) -> Numbers {
 }
 
 // The number of a field that is not the last; `at` is behind the field.
-struct Counted {
-    value: u32,
-    at: usize,
-    good: bool,
+pub struct Counted {
+    pub value: u32,
+    pub at: usize,
+    pub good: bool,
 }
 
 // The number of the next field from `at` on.
-fn decimal_at(rest: &[u8], at: usize) -> Counted
+pub fn decimal_at(rest: &[u8], at: usize) -> Counted
     requires { ⌜ at ≤ length (now rest) ⌝ }
     ensures { λ r. ⌜ r .at ≤ length (now (rest .entry)) ⌝ }
 {

@@ -8,6 +8,7 @@ mod out;
 mod packs_cases;
 mod rules_cases;
 mod said;
+mod spelling_cases;
 mod words_cases;
 
 ghost use Prim.Native.Nat.{_≤_};
@@ -35,6 +36,9 @@ fn said_of(line: &[u8], given: &mut [u8], made: &mut [u8], kept: &[u8]) -> Said 
     }
     if words_cases::knows(word) {
         return words_cases::said_of(rest, given, made, kept);
+    }
+    if spelling_cases::knows(word) {
+        return spelling_cases::said_of(word, rest, given, made, kept);
     }
     Said::NoCase
 }

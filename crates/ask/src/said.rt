@@ -9,7 +9,8 @@ use rule::Alternative;
 
 // `Codes` is the code points of so many bytes of `given`, `Hex` so many bytes of `made`; `Alternatives` is so many of the
 // expression that `given` has up to the second number, with the names from there up to the third; `Pack` is so many bytes
-// of `given` to keep, and prints nothing; `Spelled` is the flag and so many bytes of `made`.
+// of `given` to keep, and prints nothing; `Spelled` is the flag and so many bytes of `made`; `Lent` is the flag, how many bytes
+// were written, and how many of `made` were lent; `Refused` is a refusal's number and place, and how many were lent.
 pub enum Said {
     NoCase,
     Dash,
@@ -26,6 +27,8 @@ pub enum Said {
     Five(usize),
     Guessed(LanguageSet),
     Spelled(bool, usize),
+    Lent(bool, usize, usize),
+    Refused(u8, usize, usize),
 }
 
 // The first n bytes of s, or all where there are fewer.
@@ -214,6 +217,31 @@ fn spelled_line(flag: bool, s: &[u8], out: &mut [u8], used: usize) -> usize
     out::hex_line(out, used, s)
 }
 
+// Puts the line of an answer in a lent buffer: 0, the flag, how many bytes were written, the buffer.
+fn lent_line(flag: bool, written: usize, s: &[u8], out: &mut [u8], used: usize) -> usize
+    requires { ⌜ used ≤ length (now out) ⌝ }
+    ensures { λ r. ⌜ r ≤ length (now (out .exit)) ⌝ }
+{
+    let used = out::put(out, used, b"0 ");
+    let used = out::decimal(out, used, flag as u64);
+    let used = out::put(out, used, b" ");
+    let used = out::decimal(out, used, written as u64);
+    let used = out::put(out, used, b" ");
+    out::hex_line(out, used, s)
+}
+
+// Puts the line of a refusal: its number, its place, the lent buffer.
+fn refused_line(code: u8, place: usize, s: &[u8], out: &mut [u8], used: usize) -> usize
+    requires { ⌜ used ≤ length (now out) ⌝ }
+    ensures { λ r. ⌜ r ≤ length (now (out .exit)) ⌝ }
+{
+    let used = out::decimal(out, used, code as u64);
+    let used = out::put(out, used, b" ");
+    let used = out::decimal(out, used, place as u64);
+    let used = out::put(out, used, b" ");
+    out::hex_line(out, used, s)
+}
+
 // Puts the line of what is said.
 pub fn say(s: Said, given: &[u8], made: &[u8], out: &mut [u8], used: usize) -> usize
     requires { ⌜ used ≤ length (now out) ⌝ }
@@ -233,6 +261,8 @@ pub fn say(s: Said, given: &[u8], made: &[u8], out: &mut [u8], used: usize) -> u
         Said::Five(place) => labelled(b"5 ", place as u64, out, used),
         Said::Guessed(set) => guessed_line(set, out, used),
         Said::Spelled(flag, n) => spelled_line(flag, front(made, n), out, used),
+        Said::Lent(flag, n, room) => lent_line(flag, n, front(made, room), out, used),
+        Said::Refused(code, place, room) => refused_line(code, place, front(made, room), out, used),
         Said::Form(form, fits) => form_line(form, fits, out, used),
         Said::Alternatives(n, middle, end) => alternatives_line(
             n,

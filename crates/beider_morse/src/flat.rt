@@ -44,8 +44,8 @@ pub extern "C" fn bm_check(pack: &[u8], tail: &mut [u64]) -> u32
             tail[0] = 0;
             0
         }
-        Checked::Refused(place) => {
-            tail[0] = place as u64;
+        Checked::Refused(at) => {
+            tail[0] = at as u64;
             5
         }
     }

@@ -126,10 +126,10 @@ module _ (n : ℕ) (o o₁ : List ℕ) (at p : ℕ) where
 
 -- ---- the line of a refusal
 
-pub refusal-put : (code place : ℕ) (o o₁ o₂ o₃ o₄ : List ℕ) (at p q e r : ℕ)
+pub refusal-put : (code place : ℕ) {o o₁ o₂ o₃ o₄ : List ℕ} {at p q e r : ℕ}
     → Put o o₁ at p (decimal code) → Put o₁ o₂ p q (32 ∷ []) → Put o₂ o₃ q e (decimal place) → Put o₃ o₄ e r (10 ∷ []) → Put o o₄ at r (refusalLine (numbersOf (Refused code place)))
 unfolding refusalLine numbersOf
-refusal-put code place o o₁ o₂ o₃ o₄ at p q e r w x y z = put-then w (put-then x (put-then y z))
+refusal-put code place w x y z = put-then w (put-then x (put-then y z))
 
 module _ (code place size : ℕ) (o : List ℕ) (at : ℕ) (t : Bool) (w : t ≡ waitsFor code place size) where
   pub refused-waits : t ≡ true → RefusedIs code place size o o at at
@@ -386,24 +386,24 @@ record Other (x : Outcome) (o o₁ : List ℕ) (code place : ℕ) : Type 0 where
   low : code < 9
   same : o₁ ≡ o
 
-whole-by : (t : Text) (f : Bool) (a space : ℕ) (o o₁ : List ℕ) (written : ℕ) (flag b : Bool) → leb (length t) space ≡ b
+answered-by : (t : Text) (f : Bool) (a space : ℕ) (o o₁ : List ℕ) (written : ℕ) (flag b : Bool) → leb (length t) space ≡ b
     → Done written flag ≡ pick b (Done (length t) f) (Refused 9 (min (length t) most)) → o₁ ≡ pick b (sets o a t) o → Answered (key t f) a space o o₁ written flag
 unfolding pick
-whole-by t f a space o o₁ written flag true e p q =
+answered-by t f a space o o₁ written flag true e p q =
     let long : length t ≡ written = cc in
     record { text = t; is = cc; long = long; room-is = omega (arith, leb-true (length t) space e); stands = q }
-whole-by t f a space o o₁ written flag false e p q = clash (cc)
+answered-by t f a space o o₁ written flag false e p q = clash (cc)
 
-whole-of : (x : Outcome) (a space : ℕ) (o o₁ : List ℕ) (r : Spelled) (written : ℕ) (flag : Bool) → PartIs x a space o r o₁ → r ≡ Done written flag → Answered x a space o o₁ written flag
+answered-of : (x : Outcome) (a space : ℕ) (o o₁ : List ℕ) (r : Spelled) (written : ℕ) (flag : Bool) → PartIs x a space o r o₁ → r ≡ Done written flag → Answered x a space o o₁ written flag
 unfolding toldOf partFilled
-whole-of (refusedBy k place) a space o o₁ r written flag p e = let no : Done written flag ≡ Refused k place = sym e ∙ p .result in clash (cc)
-whole-of (key t f) a space o o₁ r written flag p e = whole-by t f a space o o₁ written flag _ refl (sym e ∙ p .result) (p .buffer)
+answered-of (refusedBy k place) a space o o₁ r written flag p e = let no : Done written flag ≡ Refused k place = sym e ∙ p .result in clash (cc)
+answered-of (key t f) a space o o₁ r written flag p e = answered-by t f a space o o₁ written flag _ refl (sym e ∙ p .result) (p .buffer)
 
-refused-by : (t : Text) (f : Bool) (a space : ℕ) (o o₁ : List ℕ) (code place : ℕ) (b : Bool) → leb (length t) space ≡ b
+long-by : (t : Text) (f : Bool) (a space : ℕ) (o o₁ : List ℕ) (code place : ℕ) (b : Bool) → leb (length t) space ≡ b
     → Refused code place ≡ pick b (Done (length t) f) (Refused 9 (min (length t) most)) → o₁ ≡ pick b (sets o a t) o → Long (key t f) space o o₁ code place
 unfolding pick
-refused-by t f a space o o₁ code place true e p q = clash (cc)
-refused-by t f a space o o₁ code place false e p q = record { text = t; flag = f; is = refl; code-is = cc; place-is = cc; over = leb-false _ _ e; same = q }
+long-by t f a space o o₁ code place true e p q = clash (cc)
+long-by t f a space o o₁ code place false e p q = record { text = t; flag = f; is = refl; code-is = cc; place-is = cc; over = leb-false _ _ e; same = q }
 
 refused-of : (x : Outcome) (a space : ℕ) (o o₁ : List ℕ) (r : Spelled) (code place : ℕ) → Below x → PartIs x a space o r o₁ → r ≡ Refused code place
     → Long x space o o₁ code place ⊎ Other x o o₁ code place
@@ -412,7 +412,7 @@ refused-of (refusedBy k at) a space o o₁ r code place l p e =
     let same : Refused k at ≡ Refused code place = sym (p .result) ∙ e in
     let code-is : k ≡ code = cc in
     inr (record { is = cc; low = omega arith; same = p .buffer })
-refused-of (key t f) a space o o₁ r code place l p e = inl (refused-by t f a space o o₁ code place _ refl (sym e ∙ p .result) (p .buffer))
+refused-of (key t f) a space o o₁ r code place l p e = inl (long-by t f a space o o₁ code place _ refl (sym e ∙ p .result) (p .buffer))
 
 -- the part of the buffer from a to e, for an answer behind `at`
 record Lent (o : List ℕ) (at size a e : ℕ) : Type 0 where
@@ -485,7 +485,7 @@ module _ (o : List ℕ) (at size a e : ℕ) (h : (at ≤ size) × (size ≡ min 
   module _ (settings : Settings) (start : Start) (pack name o₁ o₂ : List ℕ) (r : Spelled) (next : ℕ) (p : PartIs (callOf settings start pack name) a (e - a) o r o₁) where
     pub put-done : (written : ℕ) (flag : Bool) → r ≡ Done written flag → DoneIs written flag size o₁ o₂ at next → LineAt (lineFor settings start pack (length o) name) size o o₂ at next
     unfolding lineFor
-    put-done written flag q d = line-done lent (whole-of _ a (e - a) o o₁ r written flag p q) d
+    put-done written flag q d = line-done lent (answered-of _ a (e - a) o o₁ r written flag p q) d
 
     pub put-refused : (code place : ℕ) → r ≡ Refused code place → RefusedIs code place size o₁ o₂ at next → LineAt (lineFor settings start pack (length o) name) size o o₂ at next
     unfolding lineFor
@@ -649,8 +649,4 @@ module _ (code place size : ℕ) where
   unfolding waitsFor
   waits-other e = and-none _ _ _ (ne-eqb _ _ e) refl
 
-pub ruleset lines-laws = (slice-room, put-long, digit-one, digit-more, refusal-put, refused-waits, refused-fits, refused-stops, head-up, head-down, done-fits, done-small, done-narrow, part-back, waits-room, waits-small, waits-other)
-
-pub ruleset line-laws = (lent-order, lent-within, put-done, put-refused)
-
-pub ruleset block-laws = (going-in)
+pub ruleset lines-laws = (slice-room, put-long, digit-one, digit-more, refused-waits, refused-fits, refused-stops, head-up, head-down, done-fits, done-small, done-narrow, part-back, waits-room, waits-small, waits-other)

@@ -18,7 +18,7 @@ use Rattle.engine.specs.declared.spelling.Spelled.the-variants.{Done, Re
 
 -- ---- a line
 
--- "code", "place": a number is at least its count of digits less one, so it is fuel enough
+-- a "code" or "place" in decimal digits; each step leaves a tenth of the number, so it is fuel enough
 unfoldable pub decimalBy : ℕ → ℕ → Text
 decimalBy zero n = (48 + n % 10) ∷ []
 decimalBy (suc f) n = pick (ltb n 10) ((48 + n % 10) ∷ []) (decimalBy f (n / 10) ++ (48 + n % 10) ∷ [])
@@ -46,28 +46,30 @@ lineBy (Refused code place) t = refusalLine (numbersOf (Refused code place))
 
 -- ---- its room
 
--- a place number is at most this
+-- "length needed, 4294967295 if more": of a longer buffer no more is used
 abbrev pub most : ℕ
 most = 4294967295
 
--- bytes of an answer that a line in a buffer has room for: four bytes stand before the answer, and LF behind it
+-- bytes of an answer that a buffer of so many bytes holds in a line: four stand before the answer, and LF behind it
 unfoldable pub room : ℕ → ℕ
 room size = min size most - 5
 
+-- "answer"
 unfoldable pub textOf : Outcome → Text
 textOf (refusedBy k place) = []
 textOf (key t f) = t
 
--- "9: answer .. longer than the output buffer": one that has no room in the whole buffer
+-- "answer .. longer than the output buffer": 9 where a line with it has no room in the whole buffer
 unfoldable pub lineOf : ℕ → Outcome → Text
 lineOf size x = lineBy (toldOf x (room size)) (textOf x)
 
+-- the line of a name
 unfoldable pub lineFor : Settings → Start → List ℕ → ℕ → Text → Text
 lineFor settings start pack size name = lineOf size (callOf settings start pack name)
 
 -- ---- the lines of a block
 
--- each name is ended by LF; what follows the last LF is none
+-- "one name a line": each name is ended by LF, and what follows the last LF is none
 unfoldable pub linesFrom : ℕ → List ℕ → List Text
 linesFrom zero s = []
 linesFrom (suc f) s = pick (has 10 s) (take (placeOf 10 s) s ∷ linesFrom f (drop (suc (placeOf 10 s)) s)) []
@@ -93,6 +95,7 @@ takeLines f size [] = noneTaken
 takeLines f size (name ∷ names) =
     pick (leb (length (f name)) size) (andTaken (suc (length name)) (f name) (takeLines f (size - length (f name)) names)) noneTaken
 
+-- what is printed for a block, into a buffer
 unfoldable pub taken : (Text → Text) → List ℕ → List ℕ → Taken
 taken f block out = takeLines f (min (length out) most) (wholeLines block)
 

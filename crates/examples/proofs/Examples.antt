@@ -13,9 +13,11 @@ use Rattle.choices.specs.Texts.{byOrder}
 use Rattle.choices.specs.Apply.{insert, under, candidates, enter, apply}
 use Rattle.phoneme_builder.specs.Sets.{sorted, allShort, appended}
 use Rattle.phoneme_builder.specs.Passes.{offered, flagged, applied as onApplied, after, unmatched, run}
-use Rattle.examples.specs.Table.{told, expression, left, applied, appending, table, AllSame}
+use Rattle.examples.specs.Table.{told, expression, left, applied, appending, partsBy, partsOf, table, AllSame}
+use Rattle.name_parts.specs.Prefixes.{prefixesOf, fits as fitsSpace, firstFit, splitOf}
+use Rattle.name_parts.specs.Joining.{joinedName}
 
--- 01, Examples 1 to 11
+-- 01, Examples 1 to 12
 pub examples : AllSame table
 unfolding
     pick and within lowSecond highSecond code2 code3 code4 decode2 decode3 decode4 decodeBytes decodeAt piecesOn piecesFrom piecesOf codesIn codesOf
@@ -23,5 +25,6 @@ unfolding
     literalForm boxForm withoutCaret withoutDollar boxInner boxed formIn formOf leftForm memberOf codeAt firstChar codeOf backChar wholeChar orElse lastChar charFits fits
     onFirst cutAt inside extra piecesIn allOf formedPiece formed boxOf withBits namesMask pieceMask isListed textOf maskSet setOf checkedOf
     byOrder insert under candidates enter apply sorted allShort appended offered flagged onApplied after unmatched run
+    prefixesOf fitsSpace firstFit splitOf joinedName partsBy partsOf
     told expression left applied appending table
-examples = (refl, (refl, (refl, (refl, (refl, (refl, (refl, (refl, (refl, (refl, (refl, (refl, (refl, (refl, (refl, (refl, tt))))))))))))))))
+examples = (refl, (refl, (refl, (refl, (refl, (refl, (refl, (refl, (refl, (refl, (refl, (refl, (refl, (refl, (refl, (refl, (refl, tt)))))))))))))))))

@@ -1,4 +1,4 @@
--- Document 01's first examples: what the definitions compute, beside what the paper says.
+-- Document 01's first twelve examples: what the definitions compute, beside what the paper says.
 use Prim.Native.Nat.{ℕ}
 use mathlib.Core.Path.{_≡_}
 use mathlib.Core.Bool.{Bool, true, false}
@@ -10,6 +10,11 @@ use Rattle.rule.specs.Expressions.{piecesIn, textOf, setOf, checkedOf}
 use Rattle.rule.specs.declared.answers.Expression.{Expression}
 use Rattle.rule.specs.declared.answers.Expression.the-variants.{Good, Malformed, Stranger}
 use Rattle.regex_optim.specs.Contexts.{leftForm, fits}
+use lib.ListN.{drop}
+use Rattle.name_parts.specs.Prefixes.{splitOf}
+use Rattle.name_parts.specs.Joining.{joinedName}
+use Rattle.name_parts.specs.declared.prefixes.Prefix.{Prefix}
+use Rattle.name_parts.specs.declared.prefixes.Prefix.the-variants.{Parted, Whole}
 use Rattle.choices.specs.Apply.{Entry, start}
 use Rattle.phoneme_builder.specs.Passes.{offered, rule, letter, Ran, ran, run}
 
@@ -20,6 +25,8 @@ pub data Answer : Type 0 where
   fitting : Bool → Answer
   languages : LanguageSet → Answer
   spellings : Ran → Answer
+  parts : List ℕ → List ℕ → Answer
+  unparted : Answer
 
 pub record Row : Type 0 where
   pub computed : Answer
@@ -56,6 +63,14 @@ applied limit e = spellings (run false limit (rule (offered names e) ∷ []) (st
 unfoldable pub appending : List ℕ → List Entry → Answer
 appending c l = spellings (run true 5 (letter c ∷ []) l)
 
+-- a Generic name's remainder and joined name
+unfoldable pub partsBy : Prefix → List ℕ → Answer
+partsBy (Parted keep skip) s = parts (drop skip s) (joinedName keep skip s)
+partsBy Whole s = unparted
+
+unfoldable pub partsOf : List ℕ → Answer
+partsOf s = partsBy (splitOf s) s
+
 abbrev pub entry : List ℕ → LanguageSet → Entry
 entry t s = record { text = t; langs = s }
 
@@ -63,7 +78,7 @@ entry t s = record { text = t; langs = s }
 abbrev pub choice : List ℕ
 choice = 40 ∷ 98 ∷ 91 ∷ 102 ∷ 114 ∷ 93 ∷ 124 ∷ 97 ∷ 124 ∷ 98 ∷ 91 ∷ 100 ∷ 101 ∷ 93 ∷ 41 ∷ []
 
--- in bytes: `a` 97, `b` 98, `z` 122, `(` 40, `)` 41, `|` 124, `[` 91, `]` 93, `+` 43, `^` 94, `-` 45
+-- in bytes: space 32, `a` 97, `b` 98, `z` 122, `(` 40, `)` 41, `|` 124, `[` 91, `]` 93, `+` 43, `^` 94, `-` 45
 unfoldable pub table : List Row
 table =
     row (expression (97 ∷ 91 ∷ 102 ∷ 114 ∷ 43 ∷ 100 ∷ 101 ∷ 93 ∷ [])) (alternatives (alternative (97 ∷ []) (SomeLanguages 3) ∷ []))
@@ -83,6 +98,7 @@ table =
     ∷ row (applied 0 choice) (spellings (ran [] true))
     ∷ row (appending (122 ∷ []) (entry (97 ∷ []) Any ∷ entry (97 ∷ 98 ∷ []) Any ∷ []))
     (spellings (ran (entry (97 ∷ 98 ∷ 122 ∷ []) Any ∷ entry (97 ∷ 122 ∷ []) Any ∷ []) false))
+    ∷ row (partsOf (100 ∷ 101 ∷ 32 ∷ 108 ∷ 97 ∷ 32 ∷ 99 ∷ 114 ∷ 117 ∷ 122 ∷ [])) (parts (108 ∷ 97 ∷ 32 ∷ 99 ∷ 114 ∷ 117 ∷ 122 ∷ []) (100 ∷ 101 ∷ 108 ∷ 97 ∷ 32 ∷ 99 ∷ 114 ∷ 117 ∷ 122 ∷ []))
     ∷ []
 
 -- each row's two sides are the same

@@ -18,8 +18,8 @@ enum-told c = search needs
 slice-write-tail : tie.Need-slice-write-tail
 slice-write-tail c = search needs
 
-enum-known-place : tie.Need-enum-known-place
-enum-known-place c = search needs
+enum-known-at : tie.Need-enum-known-at
+enum-known-at c = search needs
 
 slice-write-tail-2 : tie.Need-slice-write-tail-2
 slice-write-tail-2 c = search needs
@@ -44,7 +44,7 @@ bm-check-spec =
     check-requires
     enum-told
     slice-write-tail
-    enum-known-place
+    enum-known-at
     slice-write-tail-2
     same-length
     returns-2

@@ -1,6 +1,6 @@
 use native.Mathlib.Omega.{arith}
 use borrow.Author.Needs.{needs}
-use Rattle.engine.proofs.LinesLaws.{line-laws, put-done, put-refused}
+use Rattle.engine.proofs.LinesLaws.{lent-order, lent-within, put-done, put-refused}
 use Rattle.engine.proofs.lines.put_line.Statement.{statement}
 use Rattle.engine.proofs.lines.put_line.Tie as tie
 use Rattle.engine.proofs.lines.put_line.Reads as reads
@@ -18,7 +18,7 @@ end-of-requires : tie.Need-end-of-requires
 end-of-requires c κs = search needs
 
 spell-part-requires : tie.Need-spell-part-requires
-spell-part-requires c κs = (search needs, (search needs, (search (line-laws, needs), search (line-laws, needs))))
+spell-part-requires c κs = (search needs, (search needs, (search (lent-order, needs), search (lent-within, needs))))
 
 enum-known-written : tie.Need-enum-known-written
 enum-known-written c = search needs

@@ -5,7 +5,7 @@ use lib.ListN.{length}
 use borrow.Author.Needs.{needs}
 use Rattle.engine.specs.Walks.{Scratch}
 use Rattle.engine.proofs.NameLaws.{scratch-kept}
-use Rattle.engine.proofs.LinesLaws.{block-laws, Going, going-start, going-long, going-room, going-end, going-most, going-less, going-stop, going-next}
+use Rattle.engine.proofs.LinesLaws.{Going, going-in, going-start, going-long, going-room, going-end, going-most, going-less, going-stop, going-next}
 use Rattle.engine.proofs.lines.put_lines.Statement.{statement}
 use Rattle.engine.proofs.lines.put_lines.Tie as tie
 use Rattle.engine.proofs.lines.put_lines.Reads as reads
@@ -23,34 +23,34 @@ abbrev μ-loop : tie.MeasureT-loop
     length block - read
 
 size-of-requires : tie.Need-size-of-requires Inv-loop μ-loop
-size-of-requires c κs = search (block-laws, needs)
+size-of-requires c κs = search (going-in, needs)
 
 loop-holds : tie.Need-loop-holds Inv-loop μ-loop
 loop-holds c = (going-start _ _ _ _ _ _ (c .size-of .ensures), c .before .before .before .before .before .before .before .before .before .pre .0)
 
 sub-rest : tie.Need-sub-rest Inv-loop μ-loop
-sub-rest c = search (block-laws, needs)
+sub-rest c = search (going-in, needs)
 
 part-rest-start : tie.Need-part-rest-start Inv-loop μ-loop
-part-rest-start c = search (block-laws, needs)
+part-rest-start c = search (going-in, needs)
 
 part-rest-end : tie.Need-part-rest-end Inv-loop μ-loop
-part-rest-end c = search (block-laws, needs)
+part-rest-end c = search (going-in, needs)
 
 find-byte-requires : tie.Need-find-byte-requires Inv-loop μ-loop
-find-byte-requires c κs = search (block-laws, needs)
+find-byte-requires c κs = search (going-in, needs)
 
 same-length : tie.Need-same-length Inv-loop μ-loop
-same-length c = search (block-laws, needs)
+same-length c = search (going-in, needs)
 
 same-length-2 : tie.Need-same-length-2 Inv-loop μ-loop
-same-length-2 c = search (block-laws, needs)
+same-length-2 c = search (going-in, needs)
 
 same-length-3 : tie.Need-same-length-3 Inv-loop μ-loop
-same-length-3 c = search (block-laws, needs)
+same-length-3 c = search (going-in, needs)
 
 same-length-4 : tie.Need-same-length-4 Inv-loop μ-loop
-same-length-4 c = search (block-laws, needs)
+same-length-4 c = search (going-in, needs)
 
 same-length-5 : tie.Need-same-length-5 Inv-loop μ-loop
 same-length-5 c = going-long (c .before .before .before .loop .inv .0)
@@ -59,28 +59,28 @@ returns : tie.Need-returns Inv-loop μ-loop
 returns c = going-end (c .before .before .before .loop .inv .0) _ (c .before .find-byte .ensures) (c .if1 .taken)
 
 sub-put-line : tie.Need-sub-put-line Inv-loop μ-loop
-sub-put-line c = search (block-laws, needs)
+sub-put-line c = search (going-in, needs)
 
 part-put-line-start : tie.Need-part-put-line-start Inv-loop μ-loop
-part-put-line-start c = search (block-laws, needs)
+part-put-line-start c = search (going-in, needs)
 
 part-put-line-end : tie.Need-part-put-line-end Inv-loop μ-loop
-part-put-line-end c = search (block-laws, needs)
+part-put-line-end c = search (going-in, needs)
 
 put-line-requires : tie.Need-put-line-requires Inv-loop μ-loop
 put-line-requires c κs = (c .before .before .before .before .before .before .before .before .before .loop .inv .1, (c .before .before .before .before .before .before .before .before .before .before .before .before .before .before .before .before .before .before .before .pre .1, going-room (c .before .before .before .before .before .before .before .before .before .loop .inv .0)))
 
 same-length-6 : tie.Need-same-length-6 Inv-loop μ-loop
-same-length-6 c = search (block-laws, needs)
+same-length-6 c = search (going-in, needs)
 
 same-length-7 : tie.Need-same-length-7 Inv-loop μ-loop
-same-length-7 c = search (block-laws, needs)
+same-length-7 c = search (going-in, needs)
 
 same-length-8 : tie.Need-same-length-8 Inv-loop μ-loop
-same-length-8 c = search (block-laws, needs)
+same-length-8 c = search (going-in, needs)
 
 same-length-9 : tie.Need-same-length-9 Inv-loop μ-loop
-same-length-9 c = search (block-laws, needs)
+same-length-9 c = search (going-in, needs)
 
 same-length-10 : tie.Need-same-length-10 Inv-loop μ-loop
 same-length-10 c = c .before .before .out .given ∙ going-long (c .before .before .before .before .before .before .before .before .before .before .before .before .before .before .before .before .before .before .before .before .before .loop .inv .0)

@@ -1,5 +1,5 @@
 use borrow.Author.Needs.{needs}
-use Rattle.engine.proofs.LinesLaws.{lines-laws}
+use Rattle.engine.proofs.LinesLaws.{refusal-put}
 use Rattle.engine.proofs.lines.put_refusal.Statement.{statement}
 use Rattle.engine.proofs.lines.put_refusal.Tie as tie
 use Rattle.engine.proofs.lines.put_refusal.Reads as reads
@@ -23,7 +23,7 @@ same-length : tie.Need-same-length
 same-length c = search needs
 
 returns : tie.Need-returns
-returns c = search (lines-laws, needs)
+returns c = refusal-put _ _ (c .before .before .before .before .before .before .before .before .before .before .before .before .before .before .put-decimal .ensures) (c .before .before .before .before .before .before .before .before .before .before .push .ensures) (c .before .before .before .before .before .before .put-decimal2 .ensures) (c .before .before .push2 .ensures)
 
 pub put-refusal-spec : {M : Type 1} → statement M
 put-refusal-spec =

@@ -1,0 +1,31 @@
+/* The static library libbeider_morse.a (`rt staticlib beider_morse`): keys of names, for C.
+   Each call answers with its code (0 done, else the number of the refusal); `tail` takes its other numbers. Where `tail` has
+   fewer elements than a call needs, the answer is 255 and nothing is written. A refused call leaves `out` as it was. Any
+   bytes and any numbers may be given: no call has to be checked first. A pointer must not be null, and `out` and `tail`
+   must not overlap anything else that is lent. */
+#ifndef BEIDER_MORSE_H
+#define BEIDER_MORSE_H
+
+#include <stddef.h>
+#include <stdint.h>
+
+/* Is this a pack? 0, or 5. tail[0]: the first byte of the section at fault. */
+uint32_t bm_check(const uint8_t *pack, size_t pack_length, uint64_t *tail, size_t tail_length);
+
+/* A name's key, its languages guessed. name_type: 0 Ashkenazi, 1 Generic, 2 Sephardic; rule_type: 0 approx, 1 exact;
+   concat: 0 or 1; limit: at most 256. tail[0]: bytes written, or the refusal's place; tail[1]: the flag. */
+uint32_t bm_spell(uint32_t name_type, uint32_t rule_type, uint32_t concat, uint32_t limit, const uint8_t *pack, size_t pack_length,
+                  const uint8_t *name, size_t name_length, uint8_t *out, size_t out_length, uint64_t *tail, size_t tail_length);
+
+/* The same with given languages. kind: 0 Any, 1 None, 2 Some, whose languages are the bits. */
+uint32_t bm_spell_given(uint32_t name_type, uint32_t rule_type, uint32_t concat, uint32_t limit, uint32_t kind, uint32_t bits,
+                        const uint8_t *pack, size_t pack_length, const uint8_t *name, size_t name_length, uint8_t *out,
+                        size_t out_length, uint64_t *tail, size_t tail_length);
+
+/* The lines that the program keys prints for a block of names, each ended by LF: as many as fit into `out`. given: 0 guesses,
+   else kind and bits count. Answers 0. tail[0]: bytes of the block that were read; tail[1]: bytes written. */
+uint32_t bm_spell_lines(uint32_t name_type, uint32_t rule_type, uint32_t concat, uint32_t limit, uint32_t given, uint32_t kind,
+                        uint32_t bits, const uint8_t *pack, size_t pack_length, const uint8_t *block, size_t block_length,
+                        uint8_t *out, size_t out_length, uint64_t *tail, size_t tail_length);
+
+#endif
