@@ -53,940 +53,128 @@ abbrev spell-words-below : ℕ → In 8 spell-words-kinds.ps
 spell-words-below t =
     and 8 spell-words-kinds.ps (falls 8 spell-words-kinds.ps _<_ μ-spell-words t) spell-words.Pre
 
-spell-name-part-of-requires : (t : ℕ) → spell-name-lts.Need-part-of-requires (
-  part-of-reads.Asked,
-  part-of-reads.Learnt,
-  afresh-reads.Asked,
-  afresh-reads.Learnt,
-  join-prefix-reads.Asked,
-  join-prefix-reads.Learnt,
-  push-reads.Asked,
-  push-reads.Learnt,
-  spell-name-below t,
-  spell-name.Post,
-  middle-reads.Asked,
-  middle-reads.Learnt,
-  both-reads.Asked,
-  both-reads.Learnt,
-  is-plain-reads.Asked,
-  is-plain-reads.Learnt,
-  spell-plain-reads.Asked,
-  spell-plain-reads.Learnt,
-  spell-words-below t,
-  spell-words.Post,
-) (spell-name-at t) spell-name.Post
+-- the promises that each one calls on
+abbrev spell-name-calls : ℕ → spell-name-lts.Claims
+spell-name-calls t = (part-of-reads.Asked, part-of-reads.Learnt, afresh-reads.Asked, afresh-reads.Learnt, join-prefix-reads.Asked, join-prefix-reads.Learnt, push-reads.Asked, push-reads.Learnt, spell-name-below t, spell-name.Post, middle-reads.Asked, middle-reads.Learnt, both-reads.Asked, both-reads.Learnt, is-plain-reads.Asked, is-plain-reads.Learnt, spell-plain-reads.Asked, spell-plain-reads.Learnt, spell-words-below t, spell-words.Post)
+
+abbrev spell-words-calls : ℕ → spell-words-lts.Claims
+spell-words-calls t = (afresh-reads.Asked, afresh-reads.Learnt, next-word-reads.Asked, next-word-reads.Learnt, hyphen-reads.Asked, hyphen-reads.Learnt, spell-name-below t, spell-name.Post, both-reads.Asked, both-reads.Learnt, past-word-reads.Asked, past-word-reads.Learnt)
+
+spell-name-part-of-requires : (t : ℕ) → spell-name-lts.Need-part-of-requires (spell-name-calls t) (spell-name-at t) spell-name.Post
 spell-name-part-of-requires t c κs = search needs
 
-spell-name-enum-known-keep : (t : ℕ) → spell-name-lts.Need-enum-known-keep (
-  part-of-reads.Asked,
-  part-of-reads.Learnt,
-  afresh-reads.Asked,
-  afresh-reads.Learnt,
-  join-prefix-reads.Asked,
-  join-prefix-reads.Learnt,
-  push-reads.Asked,
-  push-reads.Learnt,
-  spell-name-below t,
-  spell-name.Post,
-  middle-reads.Asked,
-  middle-reads.Learnt,
-  both-reads.Asked,
-  both-reads.Learnt,
-  is-plain-reads.Asked,
-  is-plain-reads.Learnt,
-  spell-plain-reads.Asked,
-  spell-plain-reads.Learnt,
-  spell-words-below t,
-  spell-words.Post,
-) (spell-name-at t) spell-name.Post
+spell-name-enum-known-keep : (t : ℕ) → spell-name-lts.Need-enum-known-keep (spell-name-calls t) (spell-name-at t) spell-name.Post
 spell-name-enum-known-keep t c = search needs
 
-spell-name-afresh-requires : (t : ℕ) → spell-name-lts.Need-afresh-requires (
-  part-of-reads.Asked,
-  part-of-reads.Learnt,
-  afresh-reads.Asked,
-  afresh-reads.Learnt,
-  join-prefix-reads.Asked,
-  join-prefix-reads.Learnt,
-  push-reads.Asked,
-  push-reads.Learnt,
-  spell-name-below t,
-  spell-name.Post,
-  middle-reads.Asked,
-  middle-reads.Learnt,
-  both-reads.Asked,
-  both-reads.Learnt,
-  is-plain-reads.Asked,
-  is-plain-reads.Learnt,
-  spell-plain-reads.Asked,
-  spell-plain-reads.Learnt,
-  spell-words-below t,
-  spell-words.Post,
-) (spell-name-at t) spell-name.Post
+spell-name-afresh-requires : (t : ℕ) → spell-name-lts.Need-afresh-requires (spell-name-calls t) (spell-name-at t) spell-name.Post
 spell-name-afresh-requires t c κs = search needs
 
-spell-name-slice-aggregate-join-prefix : (t : ℕ) → spell-name-lts.Need-slice-aggregate-join-prefix (
-  part-of-reads.Asked,
-  part-of-reads.Learnt,
-  afresh-reads.Asked,
-  afresh-reads.Learnt,
-  join-prefix-reads.Asked,
-  join-prefix-reads.Learnt,
-  push-reads.Asked,
-  push-reads.Learnt,
-  spell-name-below t,
-  spell-name.Post,
-  middle-reads.Asked,
-  middle-reads.Learnt,
-  both-reads.Asked,
-  both-reads.Learnt,
-  is-plain-reads.Asked,
-  is-plain-reads.Learnt,
-  spell-plain-reads.Asked,
-  spell-plain-reads.Learnt,
-  spell-words-below t,
-  spell-words.Post,
-) (spell-name-at t) spell-name.Post
+spell-name-slice-aggregate-join-prefix : (t : ℕ) → spell-name-lts.Need-slice-aggregate-join-prefix (spell-name-calls t) (spell-name-at t) spell-name.Post
 spell-name-slice-aggregate-join-prefix t c = search needs
 
-spell-name-join-prefix-requires : (t : ℕ) → spell-name-lts.Need-join-prefix-requires (
-  part-of-reads.Asked,
-  part-of-reads.Learnt,
-  afresh-reads.Asked,
-  afresh-reads.Learnt,
-  join-prefix-reads.Asked,
-  join-prefix-reads.Learnt,
-  push-reads.Asked,
-  push-reads.Learnt,
-  spell-name-below t,
-  spell-name.Post,
-  middle-reads.Asked,
-  middle-reads.Learnt,
-  both-reads.Asked,
-  both-reads.Learnt,
-  is-plain-reads.Asked,
-  is-plain-reads.Learnt,
-  spell-plain-reads.Asked,
-  spell-plain-reads.Learnt,
-  spell-words-below t,
-  spell-words.Post,
-) (spell-name-at t) spell-name.Post
+spell-name-join-prefix-requires : (t : ℕ) → spell-name-lts.Need-join-prefix-requires (spell-name-calls t) (spell-name-at t) spell-name.Post
 spell-name-join-prefix-requires t c κs = search needs
 
-spell-name-push-requires : (t : ℕ) → spell-name-lts.Need-push-requires (
-  part-of-reads.Asked,
-  part-of-reads.Learnt,
-  afresh-reads.Asked,
-  afresh-reads.Learnt,
-  join-prefix-reads.Asked,
-  join-prefix-reads.Learnt,
-  push-reads.Asked,
-  push-reads.Learnt,
-  spell-name-below t,
-  spell-name.Post,
-  middle-reads.Asked,
-  middle-reads.Learnt,
-  both-reads.Asked,
-  both-reads.Learnt,
-  is-plain-reads.Asked,
-  is-plain-reads.Learnt,
-  spell-plain-reads.Asked,
-  spell-plain-reads.Learnt,
-  spell-words-below t,
-  spell-words.Post,
-) (spell-name-at t) spell-name.Post
+spell-name-push-requires : (t : ℕ) → spell-name-lts.Need-push-requires (spell-name-calls t) (spell-name-at t) spell-name.Post
 spell-name-push-requires t c κs = search needs
 
-spell-name-sub-spell-name : (t : ℕ) → spell-name-lts.Need-sub-spell-name (
-  part-of-reads.Asked,
-  part-of-reads.Learnt,
-  afresh-reads.Asked,
-  afresh-reads.Learnt,
-  join-prefix-reads.Asked,
-  join-prefix-reads.Learnt,
-  push-reads.Asked,
-  push-reads.Learnt,
-  spell-name-below t,
-  spell-name.Post,
-  middle-reads.Asked,
-  middle-reads.Learnt,
-  both-reads.Asked,
-  both-reads.Learnt,
-  is-plain-reads.Asked,
-  is-plain-reads.Learnt,
-  spell-plain-reads.Asked,
-  spell-plain-reads.Learnt,
-  spell-words-below t,
-  spell-words.Post,
-) (spell-name-at t) spell-name.Post
+spell-name-sub-spell-name : (t : ℕ) → spell-name-lts.Need-sub-spell-name (spell-name-calls t) (spell-name-at t) spell-name.Post
 spell-name-sub-spell-name t c = skip-within _ _ _ (c .before .before .before .before .before .before .before .before .before .before .before .before .before .before .before .part-of .ensures) _ _ (c .before .before .before .before .before .before .before .before .before .before .before .before .before .keep .given .1)
 
-spell-name-part-spell-name-start : (t : ℕ) → spell-name-lts.Need-part-spell-name-start (
-  part-of-reads.Asked,
-  part-of-reads.Learnt,
-  afresh-reads.Asked,
-  afresh-reads.Learnt,
-  join-prefix-reads.Asked,
-  join-prefix-reads.Learnt,
-  push-reads.Asked,
-  push-reads.Learnt,
-  spell-name-below t,
-  spell-name.Post,
-  middle-reads.Asked,
-  middle-reads.Learnt,
-  both-reads.Asked,
-  both-reads.Learnt,
-  is-plain-reads.Asked,
-  is-plain-reads.Learnt,
-  spell-plain-reads.Asked,
-  spell-plain-reads.Learnt,
-  spell-words-below t,
-  spell-words.Post,
-) (spell-name-at t) spell-name.Post
+spell-name-part-spell-name-start : (t : ℕ) → spell-name-lts.Need-part-spell-name-start (spell-name-calls t) (spell-name-at t) spell-name.Post
 spell-name-part-spell-name-start t c = skip-within _ _ _ (c .before .before .before .before .before .before .before .before .before .before .before .before .before .before .before .part-of .ensures) _ _ (c .before .before .before .before .before .before .before .before .before .before .before .before .before .keep .given .1)
 
-spell-name-part-spell-name-end : (t : ℕ) → spell-name-lts.Need-part-spell-name-end (
-  part-of-reads.Asked,
-  part-of-reads.Learnt,
-  afresh-reads.Asked,
-  afresh-reads.Learnt,
-  join-prefix-reads.Asked,
-  join-prefix-reads.Learnt,
-  push-reads.Asked,
-  push-reads.Learnt,
-  spell-name-below t,
-  spell-name.Post,
-  middle-reads.Asked,
-  middle-reads.Learnt,
-  both-reads.Asked,
-  both-reads.Learnt,
-  is-plain-reads.Asked,
-  is-plain-reads.Learnt,
-  spell-plain-reads.Asked,
-  spell-plain-reads.Learnt,
-  spell-words-below t,
-  spell-words.Post,
-) (spell-name-at t) spell-name.Post
+spell-name-part-spell-name-end : (t : ℕ) → spell-name-lts.Need-part-spell-name-end (spell-name-calls t) (spell-name-at t) spell-name.Post
 spell-name-part-spell-name-end t c = search needs
 
-spell-name-spell-name-requires : (t : ℕ) → spell-name-lts.Need-spell-name-requires (
-  part-of-reads.Asked,
-  part-of-reads.Learnt,
-  afresh-reads.Asked,
-  afresh-reads.Learnt,
-  join-prefix-reads.Asked,
-  join-prefix-reads.Learnt,
-  push-reads.Asked,
-  push-reads.Learnt,
-  spell-name-below t,
-  spell-name.Post,
-  middle-reads.Asked,
-  middle-reads.Learnt,
-  both-reads.Asked,
-  both-reads.Learnt,
-  is-plain-reads.Asked,
-  is-plain-reads.Learnt,
-  spell-plain-reads.Asked,
-  spell-plain-reads.Learnt,
-  spell-words-below t,
-  spell-words.Post,
-) (spell-name-at t) spell-name.Post
+spell-name-spell-name-requires : (t : ℕ) → spell-name-lts.Need-spell-name-requires (spell-name-calls t) (spell-name-at t) spell-name.Post
 spell-name-spell-name-requires t c κs = (omega (arith, c .before .before .before .before .before .before .before .before .before .before .before .before .before .before .before .before .before .before .before .before .before .before .before .before .before .before .pre .0, rest-less _ _ _ (c .before .before .before .before .before .before .before .before .before .before .before .before .before .before .before .before .before .part-of .ensures) _ _ (c .before .before .before .before .before .before .before .before .before .before .before .before .before .before .before .keep .given .1)), (c .before .before .before .before .before .before .before .before .before .before .before .before .before .before .before .before .before .before .before .before .before .before .before .before .before .before .pre .1 .0, (ready-afresh _ _ _ (c .before .before .before .before .before .before .before .before .before .before .before .before .before .before .before .before .before .before .before .before .before .before .before .before .before .before .pre .1 .1 .0) _ (c .before .before .before .before .before .before .before .before .before .before .before .before .before .afresh .ensures), (omega (arith, rest-less _ _ _ (c .before .before .before .before .before .before .before .before .before .before .before .before .before .before .before .before .before .part-of .ensures) _ _ (c .before .before .before .before .before .before .before .before .before .before .before .before .before .before .before .keep .given .1), (c .before .before .before .before .before .before .before .before .before .before .before .before .before .before .before .before .before .before .before .before .before .before .before .before .before .before .pre .1 .1 .1 .0)), put-place _ _ _ _ _ (c .before .before .before .before .before .before .before .before .push .ensures)))))
 
-spell-name-middle-requires : (t : ℕ) → spell-name-lts.Need-middle-requires (
-  part-of-reads.Asked,
-  part-of-reads.Learnt,
-  afresh-reads.Asked,
-  afresh-reads.Learnt,
-  join-prefix-reads.Asked,
-  join-prefix-reads.Learnt,
-  push-reads.Asked,
-  push-reads.Learnt,
-  spell-name-below t,
-  spell-name.Post,
-  middle-reads.Asked,
-  middle-reads.Learnt,
-  both-reads.Asked,
-  both-reads.Learnt,
-  is-plain-reads.Asked,
-  is-plain-reads.Learnt,
-  spell-plain-reads.Asked,
-  spell-plain-reads.Learnt,
-  spell-words-below t,
-  spell-words.Post,
-) (spell-name-at t) spell-name.Post
+spell-name-middle-requires : (t : ℕ) → spell-name-lts.Need-middle-requires (spell-name-calls t) (spell-name-at t) spell-name.Post
 spell-name-middle-requires t c κs = search needs
 
-spell-name-sub-spell-name-2 : (t : ℕ) → spell-name-lts.Need-sub-spell-name-2 (
-  part-of-reads.Asked,
-  part-of-reads.Learnt,
-  afresh-reads.Asked,
-  afresh-reads.Learnt,
-  join-prefix-reads.Asked,
-  join-prefix-reads.Learnt,
-  push-reads.Asked,
-  push-reads.Learnt,
-  spell-name-below t,
-  spell-name.Post,
-  middle-reads.Asked,
-  middle-reads.Learnt,
-  both-reads.Asked,
-  both-reads.Learnt,
-  is-plain-reads.Asked,
-  is-plain-reads.Learnt,
-  spell-plain-reads.Asked,
-  spell-plain-reads.Learnt,
-  spell-words-below t,
-  spell-words.Post,
-) (spell-name-at t) spell-name.Post
+spell-name-sub-spell-name-2 : (t : ℕ) → spell-name-lts.Need-sub-spell-name-2 (spell-name-calls t) (spell-name-at t) spell-name.Post
 spell-name-sub-spell-name-2 t c = search needs
 
-spell-name-part-spell-name-start-2 : (t : ℕ) → spell-name-lts.Need-part-spell-name-start-2 (
-  part-of-reads.Asked,
-  part-of-reads.Learnt,
-  afresh-reads.Asked,
-  afresh-reads.Learnt,
-  join-prefix-reads.Asked,
-  join-prefix-reads.Learnt,
-  push-reads.Asked,
-  push-reads.Learnt,
-  spell-name-below t,
-  spell-name.Post,
-  middle-reads.Asked,
-  middle-reads.Learnt,
-  both-reads.Asked,
-  both-reads.Learnt,
-  is-plain-reads.Asked,
-  is-plain-reads.Learnt,
-  spell-plain-reads.Asked,
-  spell-plain-reads.Learnt,
-  spell-words-below t,
-  spell-words.Post,
-) (spell-name-at t) spell-name.Post
+spell-name-part-spell-name-start-2 : (t : ℕ) → spell-name-lts.Need-part-spell-name-start-2 (spell-name-calls t) (spell-name-at t) spell-name.Post
 spell-name-part-spell-name-start-2 t c = search needs
 
-spell-name-part-spell-name-end-2 : (t : ℕ) → spell-name-lts.Need-part-spell-name-end-2 (
-  part-of-reads.Asked,
-  part-of-reads.Learnt,
-  afresh-reads.Asked,
-  afresh-reads.Learnt,
-  join-prefix-reads.Asked,
-  join-prefix-reads.Learnt,
-  push-reads.Asked,
-  push-reads.Learnt,
-  spell-name-below t,
-  spell-name.Post,
-  middle-reads.Asked,
-  middle-reads.Learnt,
-  both-reads.Asked,
-  both-reads.Learnt,
-  is-plain-reads.Asked,
-  is-plain-reads.Learnt,
-  spell-plain-reads.Asked,
-  spell-plain-reads.Learnt,
-  spell-words-below t,
-  spell-words.Post,
-) (spell-name-at t) spell-name.Post
+spell-name-part-spell-name-end-2 : (t : ℕ) → spell-name-lts.Need-part-spell-name-end-2 (spell-name-calls t) (spell-name-at t) spell-name.Post
 spell-name-part-spell-name-end-2 t c = front-in (c .before .before .before .before .before .before .before .before .before .before .before .before .before .before .before .before .before .before .before .before .before .before .before .before .before .before .before .before .before .before .before .join-prefix .ensures) (joined-small _ _ _ (c .before .before .before .before .before .before .before .before .before .before .before .before .before .before .before .before .before .before .before .before .before .before .before .before .before .before .before .before .before .before .before .before .before .before .before .before .before .part-of .ensures) _ _ (c .before .before .before .before .before .before .before .before .before .before .before .before .before .before .before .before .before .before .before .before .before .before .before .before .before .before .before .before .before .before .before .before .before .before .before .keep .given .1) (c .before .before .before .before .before .before .before .before .before .before .before .before .before .before .before .before .before .before .before .before .before .before .before .before .before .before .before .before .before .before .before .before .before .before .before .before .before .before .before .before .before .before .before .before .before .before .pre .1 .1 .1 .0)) refl
 
-spell-name-spell-name-requires-2 : (t : ℕ) → spell-name-lts.Need-spell-name-requires-2 (
-  part-of-reads.Asked,
-  part-of-reads.Learnt,
-  afresh-reads.Asked,
-  afresh-reads.Learnt,
-  join-prefix-reads.Asked,
-  join-prefix-reads.Learnt,
-  push-reads.Asked,
-  push-reads.Learnt,
-  spell-name-below t,
-  spell-name.Post,
-  middle-reads.Asked,
-  middle-reads.Learnt,
-  both-reads.Asked,
-  both-reads.Learnt,
-  is-plain-reads.Asked,
-  is-plain-reads.Learnt,
-  spell-plain-reads.Asked,
-  spell-plain-reads.Learnt,
-  spell-words-below t,
-  spell-words.Post,
-) (spell-name-at t) spell-name.Post
+spell-name-spell-name-requires-2 : (t : ℕ) → spell-name-lts.Need-spell-name-requires-2 (spell-name-calls t) (spell-name-at t) spell-name.Post
 spell-name-spell-name-requires-2 t c κs = (omega (arith, c .before .before .before .before .before .before .before .before .before .before .before .before .before .before .before .before .before .before .before .before .before .before .before .before .before .before .before .before .before .before .before .before .before .before .before .before .before .before .before .before .before .before .before .before .before .before .before .before .pre .0, joined-less _ _ _ (c .before .before .before .before .before .before .before .before .before .before .before .before .before .before .before .before .before .before .before .before .before .before .before .before .before .before .before .before .before .before .before .before .before .before .before .before .before .before .before .part-of .ensures) _ _ (c .before .before .before .before .before .before .before .before .before .before .before .before .before .before .before .before .before .before .before .before .before .before .before .before .before .before .before .before .before .before .before .before .before .before .before .before .before .keep .given .1) (c .before .before .before .before .before .before .before .before .before .before .before .before .before .before .before .before .before .before .before .before .before .before .before .before .before .before .before .before .before .before .before .before .before .before .before .before .before .before .before .before .before .before .before .before .before .before .before .before .pre .1 .1 .1 .0) (c .before .before .before .before .before .before .before .before .before .before .before .before .before .before .before .before .before .before .before .before .before .before .before .before .before .before .before .before .before .before .before .before .before .join-prefix .ensures) refl), (scratch-kept (c .before .before .before .before .before .before .before .before .before .before .before .before .before .before .before .before .before .before .before .before .before .before .before .before .before .before .before .before .before .before .before .before .before .before .before .before .before .before .before .before .before .before .before .before .before .before .before .before .pre .1 .0) (c .before .before .before .before .before .before .before .before .before .before .before .before .before .before .before .before .before .before .before .before .store .given) (c .before .before .before .before .before .before .before .before .before .before .before .before .before .before .before .before .before .before .lens .given) (c .before .before .before .before .before .before .before .before .before .before .before .before .before .before .before .before .langs .given) (c .before .before .before .before .before .before .before .before .before .before .before .before .before .before .ord .given), (ready-afresh _ _ _ (c .before .before .before .before .before .before .before .before .before .before .before .before .before .before .before .before .before .before .before .before .before .before .before .before .before .before .before .before .before .before .before .before .before .before .before .before .before .before .before .before .before .before .before .before .before .before .before .before .pre .1 .1 .0) _ (c .before .before .before .before .before .before .before .before .before .before .before .before .before .before .before .before .before .before .before .before .before .before .before .before .before .before .before .before .before .before .before .before .before .before .before .afresh .ensures), (omega (arith, joined-less _ _ _ (c .before .before .before .before .before .before .before .before .before .before .before .before .before .before .before .before .before .before .before .before .before .before .before .before .before .before .before .before .before .before .before .before .before .before .before .before .before .before .before .part-of .ensures) _ _ (c .before .before .before .before .before .before .before .before .before .before .before .before .before .before .before .before .before .before .before .before .before .before .before .before .before .before .before .before .before .before .before .before .before .before .before .before .before .keep .given .1) (c .before .before .before .before .before .before .before .before .before .before .before .before .before .before .before .before .before .before .before .before .before .before .before .before .before .before .before .before .before .before .before .before .before .before .before .before .before .before .before .before .before .before .before .before .before .before .before .before .pre .1 .1 .1 .0) (c .before .before .before .before .before .before .before .before .before .before .before .before .before .before .before .before .before .before .before .before .before .before .before .before .before .before .before .before .before .before .before .before .before .join-prefix .ensures) refl, (c .before .before .before .before .before .before .before .before .before .before .before .before .before .before .before .before .before .before .before .before .before .before .before .before .before .before .before .before .before .before .before .before .before .before .before .before .before .before .before .before .before .before .before .before .before .before .before .before .pre .1 .1 .1 .0)), put-place _ _ _ _ _ (c .before .before .before .before .before .before .before .before .before .middle .ensures)))))
 
-spell-name-push-requires-2 : (t : ℕ) → spell-name-lts.Need-push-requires-2 (
-  part-of-reads.Asked,
-  part-of-reads.Learnt,
-  afresh-reads.Asked,
-  afresh-reads.Learnt,
-  join-prefix-reads.Asked,
-  join-prefix-reads.Learnt,
-  push-reads.Asked,
-  push-reads.Learnt,
-  spell-name-below t,
-  spell-name.Post,
-  middle-reads.Asked,
-  middle-reads.Learnt,
-  both-reads.Asked,
-  both-reads.Learnt,
-  is-plain-reads.Asked,
-  is-plain-reads.Learnt,
-  spell-plain-reads.Asked,
-  spell-plain-reads.Learnt,
-  spell-words-below t,
-  spell-words.Post,
-) (spell-name-at t) spell-name.Post
+spell-name-push-requires-2 : (t : ℕ) → spell-name-lts.Need-push-requires-2 (spell-name-calls t) (spell-name-at t) spell-name.Post
 spell-name-push-requires-2 t c κs = search needs
 
-spell-name-both-requires : (t : ℕ) → spell-name-lts.Need-both-requires (
-  part-of-reads.Asked,
-  part-of-reads.Learnt,
-  afresh-reads.Asked,
-  afresh-reads.Learnt,
-  join-prefix-reads.Asked,
-  join-prefix-reads.Learnt,
-  push-reads.Asked,
-  push-reads.Learnt,
-  spell-name-below t,
-  spell-name.Post,
-  middle-reads.Asked,
-  middle-reads.Learnt,
-  both-reads.Asked,
-  both-reads.Learnt,
-  is-plain-reads.Asked,
-  is-plain-reads.Learnt,
-  spell-plain-reads.Asked,
-  spell-plain-reads.Learnt,
-  spell-words-below t,
-  spell-words.Post,
-) (spell-name-at t) spell-name.Post
+spell-name-both-requires : (t : ℕ) → spell-name-lts.Need-both-requires (spell-name-calls t) (spell-name-at t) spell-name.Post
 spell-name-both-requires t c κs = search needs
 
-spell-name-enum-told : (t : ℕ) → spell-name-lts.Need-enum-told (
-  part-of-reads.Asked,
-  part-of-reads.Learnt,
-  afresh-reads.Asked,
-  afresh-reads.Learnt,
-  join-prefix-reads.Asked,
-  join-prefix-reads.Learnt,
-  push-reads.Asked,
-  push-reads.Learnt,
-  spell-name-below t,
-  spell-name.Post,
-  middle-reads.Asked,
-  middle-reads.Learnt,
-  both-reads.Asked,
-  both-reads.Learnt,
-  is-plain-reads.Asked,
-  is-plain-reads.Learnt,
-  spell-plain-reads.Asked,
-  spell-plain-reads.Learnt,
-  spell-words-below t,
-  spell-words.Post,
-) (spell-name-at t) spell-name.Post
+spell-name-enum-told : (t : ℕ) → spell-name-lts.Need-enum-told (spell-name-calls t) (spell-name-at t) spell-name.Post
 spell-name-enum-told t c = search needs
 
-spell-name-is-plain-requires : (t : ℕ) → spell-name-lts.Need-is-plain-requires (
-  part-of-reads.Asked,
-  part-of-reads.Learnt,
-  afresh-reads.Asked,
-  afresh-reads.Learnt,
-  join-prefix-reads.Asked,
-  join-prefix-reads.Learnt,
-  push-reads.Asked,
-  push-reads.Learnt,
-  spell-name-below t,
-  spell-name.Post,
-  middle-reads.Asked,
-  middle-reads.Learnt,
-  both-reads.Asked,
-  both-reads.Learnt,
-  is-plain-reads.Asked,
-  is-plain-reads.Learnt,
-  spell-plain-reads.Asked,
-  spell-plain-reads.Learnt,
-  spell-words-below t,
-  spell-words.Post,
-) (spell-name-at t) spell-name.Post
+spell-name-is-plain-requires : (t : ℕ) → spell-name-lts.Need-is-plain-requires (spell-name-calls t) (spell-name-at t) spell-name.Post
 spell-name-is-plain-requires t c κs = search needs
 
-spell-name-spell-plain-requires : (t : ℕ) → spell-name-lts.Need-spell-plain-requires (
-  part-of-reads.Asked,
-  part-of-reads.Learnt,
-  afresh-reads.Asked,
-  afresh-reads.Learnt,
-  join-prefix-reads.Asked,
-  join-prefix-reads.Learnt,
-  push-reads.Asked,
-  push-reads.Learnt,
-  spell-name-below t,
-  spell-name.Post,
-  middle-reads.Asked,
-  middle-reads.Learnt,
-  both-reads.Asked,
-  both-reads.Learnt,
-  is-plain-reads.Asked,
-  is-plain-reads.Learnt,
-  spell-plain-reads.Asked,
-  spell-plain-reads.Learnt,
-  spell-words-below t,
-  spell-words.Post,
-) (spell-name-at t) spell-name.Post
+spell-name-spell-plain-requires : (t : ℕ) → spell-name-lts.Need-spell-plain-requires (spell-name-calls t) (spell-name-at t) spell-name.Post
 spell-name-spell-plain-requires t c κs = (c .before .before .before .before .before .before .before .before .before .before .before .before .before .before .before .before .before .before .pre .1 .0, (c .before .before .before .before .before .before .before .before .before .before .before .before .before .before .before .before .before .before .pre .1 .1 .0, c .before .before .before .before .before .before .before .before .before .before .before .before .before .before .before .before .before .before .pre .1 .1 .1 .0))
 
-spell-name-spell-words-requires : (t : ℕ) → spell-name-lts.Need-spell-words-requires (
-  part-of-reads.Asked,
-  part-of-reads.Learnt,
-  afresh-reads.Asked,
-  afresh-reads.Learnt,
-  join-prefix-reads.Asked,
-  join-prefix-reads.Learnt,
-  push-reads.Asked,
-  push-reads.Learnt,
-  spell-name-below t,
-  spell-name.Post,
-  middle-reads.Asked,
-  middle-reads.Learnt,
-  both-reads.Asked,
-  both-reads.Learnt,
-  is-plain-reads.Asked,
-  is-plain-reads.Learnt,
-  spell-plain-reads.Asked,
-  spell-plain-reads.Learnt,
-  spell-words-below t,
-  spell-words.Post,
-) (spell-name-at t) spell-name.Post
+spell-name-spell-words-requires : (t : ℕ) → spell-name-lts.Need-spell-words-requires (spell-name-calls t) (spell-name-at t) spell-name.Post
 spell-name-spell-words-requires t c κs = (omega (arith, c .before .before .before .before .before .before .before .before .before .before .before .before .before .before .before .before .before .before .pre .0), (c .before .before .before .before .before .before .before .before .before .before .before .before .before .before .before .before .before .before .pre .1 .0, (c .before .before .before .before .before .before .before .before .before .before .before .before .before .before .before .before .before .before .pre .1 .1 .0, (c .before .before .before .before .before .before .before .before .before .before .before .before .before .before .before .before .before .before .pre .1 .1 .1 .0, (c .before .before .before .before .before .before .before .before .before .before .before .before .before .before .before .before .before .before .pre .1 .1 .1 .1, several _ _ _ (c .before .before .before .before .before .before .is-plain .ensures) (c .before .before .before .before .before .if1 .left))))))
 
-spell-name-same-length : (t : ℕ) → spell-name-lts.Need-same-length (
-  part-of-reads.Asked,
-  part-of-reads.Learnt,
-  afresh-reads.Asked,
-  afresh-reads.Learnt,
-  join-prefix-reads.Asked,
-  join-prefix-reads.Learnt,
-  push-reads.Asked,
-  push-reads.Learnt,
-  spell-name-below t,
-  spell-name.Post,
-  middle-reads.Asked,
-  middle-reads.Learnt,
-  both-reads.Asked,
-  both-reads.Learnt,
-  is-plain-reads.Asked,
-  is-plain-reads.Learnt,
-  spell-plain-reads.Asked,
-  spell-plain-reads.Learnt,
-  spell-words-below t,
-  spell-words.Post,
-) (spell-name-at t) spell-name.Post
+spell-name-same-length : (t : ℕ) → spell-name-lts.Need-same-length (spell-name-calls t) (spell-name-at t) spell-name.Post
 spell-name-same-length t c = c .before .before .before .before .before .before .before .before .before .before .before .before .before .before .store2 .given ∙ c .before .before .before .before .before .before .before .before .before .before .before .before .before .before .before .before .before .before .before .before .before .before .before .before .before .before .before .before .before .before .before .before .before .before .before .before .store .given
 
-spell-name-same-length-2 : (t : ℕ) → spell-name-lts.Need-same-length-2 (
-  part-of-reads.Asked,
-  part-of-reads.Learnt,
-  afresh-reads.Asked,
-  afresh-reads.Learnt,
-  join-prefix-reads.Asked,
-  join-prefix-reads.Learnt,
-  push-reads.Asked,
-  push-reads.Learnt,
-  spell-name-below t,
-  spell-name.Post,
-  middle-reads.Asked,
-  middle-reads.Learnt,
-  both-reads.Asked,
-  both-reads.Learnt,
-  is-plain-reads.Asked,
-  is-plain-reads.Learnt,
-  spell-plain-reads.Asked,
-  spell-plain-reads.Learnt,
-  spell-words-below t,
-  spell-words.Post,
-) (spell-name-at t) spell-name.Post
+spell-name-same-length-2 : (t : ℕ) → spell-name-lts.Need-same-length-2 (spell-name-calls t) (spell-name-at t) spell-name.Post
 spell-name-same-length-2 t c = c .before .before .before .before .before .before .before .before .before .before .before .before .lens2 .given ∙ c .before .before .before .before .before .before .before .before .before .before .before .before .before .before .before .before .before .before .before .before .before .before .before .before .before .before .before .before .before .before .before .before .before .before .lens .given
 
-spell-name-same-length-3 : (t : ℕ) → spell-name-lts.Need-same-length-3 (
-  part-of-reads.Asked,
-  part-of-reads.Learnt,
-  afresh-reads.Asked,
-  afresh-reads.Learnt,
-  join-prefix-reads.Asked,
-  join-prefix-reads.Learnt,
-  push-reads.Asked,
-  push-reads.Learnt,
-  spell-name-below t,
-  spell-name.Post,
-  middle-reads.Asked,
-  middle-reads.Learnt,
-  both-reads.Asked,
-  both-reads.Learnt,
-  is-plain-reads.Asked,
-  is-plain-reads.Learnt,
-  spell-plain-reads.Asked,
-  spell-plain-reads.Learnt,
-  spell-words-below t,
-  spell-words.Post,
-) (spell-name-at t) spell-name.Post
+spell-name-same-length-3 : (t : ℕ) → spell-name-lts.Need-same-length-3 (spell-name-calls t) (spell-name-at t) spell-name.Post
 spell-name-same-length-3 t c = c .before .before .before .before .before .before .before .before .before .before .langs2 .given ∙ c .before .before .before .before .before .before .before .before .before .before .before .before .before .before .before .before .before .before .before .before .before .before .before .before .before .before .before .before .before .before .before .before .langs .given
 
-spell-name-same-length-4 : (t : ℕ) → spell-name-lts.Need-same-length-4 (
-  part-of-reads.Asked,
-  part-of-reads.Learnt,
-  afresh-reads.Asked,
-  afresh-reads.Learnt,
-  join-prefix-reads.Asked,
-  join-prefix-reads.Learnt,
-  push-reads.Asked,
-  push-reads.Learnt,
-  spell-name-below t,
-  spell-name.Post,
-  middle-reads.Asked,
-  middle-reads.Learnt,
-  both-reads.Asked,
-  both-reads.Learnt,
-  is-plain-reads.Asked,
-  is-plain-reads.Learnt,
-  spell-plain-reads.Asked,
-  spell-plain-reads.Learnt,
-  spell-words-below t,
-  spell-words.Post,
-) (spell-name-at t) spell-name.Post
+spell-name-same-length-4 : (t : ℕ) → spell-name-lts.Need-same-length-4 (spell-name-calls t) (spell-name-at t) spell-name.Post
 spell-name-same-length-4 t c = c .before .before .before .before .before .before .before .before .ord2 .given ∙ c .before .before .before .before .before .before .before .before .before .before .before .before .before .before .before .before .before .before .before .before .before .before .before .before .before .before .before .before .before .before .ord .given
 
-spell-name-same-length-5 : (t : ℕ) → spell-name-lts.Need-same-length-5 (
-  part-of-reads.Asked,
-  part-of-reads.Learnt,
-  afresh-reads.Asked,
-  afresh-reads.Learnt,
-  join-prefix-reads.Asked,
-  join-prefix-reads.Learnt,
-  push-reads.Asked,
-  push-reads.Learnt,
-  spell-name-below t,
-  spell-name.Post,
-  middle-reads.Asked,
-  middle-reads.Learnt,
-  both-reads.Asked,
-  both-reads.Learnt,
-  is-plain-reads.Asked,
-  is-plain-reads.Learnt,
-  spell-plain-reads.Asked,
-  spell-plain-reads.Learnt,
-  spell-words-below t,
-  spell-words.Post,
-) (spell-name-at t) spell-name.Post
+spell-name-same-length-5 : (t : ℕ) → spell-name-lts.Need-same-length-5 (spell-name-calls t) (spell-name-at t) spell-name.Post
 spell-name-same-length-5 t c = c .before .before .out5 .given ∙ c .before .before .before .before .before .before .out4 .given ∙ c .before .before .before .before .before .before .before .before .before .before .before .before .before .before .before .before .before .before .before .before .before .before .before .before .out3 .given ∙ c .before .before .before .before .before .before .before .before .before .before .before .before .before .before .before .before .before .before .before .before .before .before .before .before .before .before .before .before .out2 .given ∙ c .before .before .before .before .before .before .before .before .before .before .before .before .before .before .before .before .before .before .before .before .before .before .before .before .before .before .before .before .before .before .before .before .before .before .before .before .before .before .before .before .before .before .before .before .before .out .given
 
-spell-name-returns : (t : ℕ) → spell-name-lts.Need-returns (
-  part-of-reads.Asked,
-  part-of-reads.Learnt,
-  afresh-reads.Asked,
-  afresh-reads.Learnt,
-  join-prefix-reads.Asked,
-  join-prefix-reads.Learnt,
-  push-reads.Asked,
-  push-reads.Learnt,
-  spell-name-below t,
-  spell-name.Post,
-  middle-reads.Asked,
-  middle-reads.Learnt,
-  both-reads.Asked,
-  both-reads.Learnt,
-  is-plain-reads.Asked,
-  is-plain-reads.Learnt,
-  spell-plain-reads.Asked,
-  spell-plain-reads.Learnt,
-  spell-words-below t,
-  spell-words.Post,
-) (spell-name-at t) spell-name.Post
+spell-name-returns : (t : ℕ) → spell-name-lts.Need-returns (spell-name-calls t) (spell-name-at t) spell-name.Post
 spell-name-returns t c = parted-told _ _ _ _ (c .before .before .before .before .before .before .before .before .before .before .before .before .before .before .before .before .before .before .before .before .before .before .before .before .before .before .before .before .before .before .before .before .before .before .before .before .before .before .before .before .before .before .before .before .before .before .before .before .before .before .before .before .before .before .before .part-of .ensures) _ _ (c .before .before .before .before .before .before .before .before .before .before .before .before .before .before .before .before .before .before .before .before .before .before .before .before .before .before .before .before .before .before .before .before .before .before .before .before .before .before .before .before .before .before .before .before .before .before .before .before .before .before .before .before .before .keep .given .1) _ (front-is (c .before .before .before .before .before .before .before .before .before .before .before .before .before .before .before .before .before .before .before .before .before .before .before .before .before .before .before .before .before .before .before .before .before .before .before .before .before .before .before .before .before .before .before .before .before .before .before .before .before .join-prefix .ensures) (joined-small _ _ _ (c .before .before .before .before .before .before .before .before .before .before .before .before .before .before .before .before .before .before .before .before .before .before .before .before .before .before .before .before .before .before .before .before .before .before .before .before .before .before .before .before .before .before .before .before .before .before .before .before .before .before .before .before .before .before .before .part-of .ensures) _ _ (c .before .before .before .before .before .before .before .before .before .before .before .before .before .before .before .before .before .before .before .before .before .before .before .before .before .before .before .before .before .before .before .before .before .before .before .before .before .before .before .before .before .before .before .before .before .before .before .before .before .before .before .before .before .keep .given .1) (c .before .before .before .before .before .before .before .before .before .before .before .before .before .before .before .before .before .before .before .before .before .before .before .before .before .before .before .before .before .before .before .before .before .before .before .before .before .before .before .before .before .before .before .before .before .before .before .before .before .before .before .before .before .before .before .before .before .before .before .before .before .before .before .before .pre .1 .1 .1 .0)) refl) (c .before .before .before .before .before .before .before .before .before .before .before .before .before .before .before .before .before .before .before .before .before .before .before .before .before .before .before .before .before .before .before .before .before .before .before .before .before .before .before .before .before .before .before .before .before .before .push .ensures) (afresh-told _ _ _ _ (c .before .before .before .before .before .before .before .before .before .before .before .before .before .before .before .before .before .before .before .before .before .before .before .before .before .before .before .before .before .before .before .before .before .before .before .before .before .before .before .before .before .before .before .before .before .before .before .before .before .before .before .afresh .ensures) (c .before .before .before .before .before .before .before .before .before .before .before .before .before .before .before .before .before .before .before .before .before .before .before .before .before .before .before .before .before .before .before .before .before .before .before .before .before .spell-name .ensures)) (c .before .before .before .before .before .before .before .before .before .before .before .before .before .before .before .before .before .before .before .before .before .before .before .before .before .middle .ensures) (afresh-told _ _ _ _ (c .before .before .before .before .before .before .before .before .before .before .before .before .before .before .before .before .before .before .before .before .before .before .before .before .before .before .before .before .before .before .before .before .before .before .before .before .before .before .before .before .before .before .before .before .before .before .before .before .before .before .before .afresh .ensures) (c .before .before .before .before .before .before .before .before .before .before .before .before .before .before .before .spell-name2 .ensures)) (c .before .before .before .push2 .ensures) (c .both .ensures)
 
-spell-name-same-length-6 : (t : ℕ) → spell-name-lts.Need-same-length-6 (
-  part-of-reads.Asked,
-  part-of-reads.Learnt,
-  afresh-reads.Asked,
-  afresh-reads.Learnt,
-  join-prefix-reads.Asked,
-  join-prefix-reads.Learnt,
-  push-reads.Asked,
-  push-reads.Learnt,
-  spell-name-below t,
-  spell-name.Post,
-  middle-reads.Asked,
-  middle-reads.Learnt,
-  both-reads.Asked,
-  both-reads.Learnt,
-  is-plain-reads.Asked,
-  is-plain-reads.Learnt,
-  spell-plain-reads.Asked,
-  spell-plain-reads.Learnt,
-  spell-words-below t,
-  spell-words.Post,
-) (spell-name-at t) spell-name.Post
+spell-name-same-length-6 : (t : ℕ) → spell-name-lts.Need-same-length-6 (spell-name-calls t) (spell-name-at t) spell-name.Post
 spell-name-same-length-6 t c = search needs
 
-spell-name-same-length-7 : (t : ℕ) → spell-name-lts.Need-same-length-7 (
-  part-of-reads.Asked,
-  part-of-reads.Learnt,
-  afresh-reads.Asked,
-  afresh-reads.Learnt,
-  join-prefix-reads.Asked,
-  join-prefix-reads.Learnt,
-  push-reads.Asked,
-  push-reads.Learnt,
-  spell-name-below t,
-  spell-name.Post,
-  middle-reads.Asked,
-  middle-reads.Learnt,
-  both-reads.Asked,
-  both-reads.Learnt,
-  is-plain-reads.Asked,
-  is-plain-reads.Learnt,
-  spell-plain-reads.Asked,
-  spell-plain-reads.Learnt,
-  spell-words-below t,
-  spell-words.Post,
-) (spell-name-at t) spell-name.Post
+spell-name-same-length-7 : (t : ℕ) → spell-name-lts.Need-same-length-7 (spell-name-calls t) (spell-name-at t) spell-name.Post
 spell-name-same-length-7 t c = search needs
 
-spell-name-same-length-8 : (t : ℕ) → spell-name-lts.Need-same-length-8 (
-  part-of-reads.Asked,
-  part-of-reads.Learnt,
-  afresh-reads.Asked,
-  afresh-reads.Learnt,
-  join-prefix-reads.Asked,
-  join-prefix-reads.Learnt,
-  push-reads.Asked,
-  push-reads.Learnt,
-  spell-name-below t,
-  spell-name.Post,
-  middle-reads.Asked,
-  middle-reads.Learnt,
-  both-reads.Asked,
-  both-reads.Learnt,
-  is-plain-reads.Asked,
-  is-plain-reads.Learnt,
-  spell-plain-reads.Asked,
-  spell-plain-reads.Learnt,
-  spell-words-below t,
-  spell-words.Post,
-) (spell-name-at t) spell-name.Post
+spell-name-same-length-8 : (t : ℕ) → spell-name-lts.Need-same-length-8 (spell-name-calls t) (spell-name-at t) spell-name.Post
 spell-name-same-length-8 t c = search needs
 
-spell-name-same-length-9 : (t : ℕ) → spell-name-lts.Need-same-length-9 (
-  part-of-reads.Asked,
-  part-of-reads.Learnt,
-  afresh-reads.Asked,
-  afresh-reads.Learnt,
-  join-prefix-reads.Asked,
-  join-prefix-reads.Learnt,
-  push-reads.Asked,
-  push-reads.Learnt,
-  spell-name-below t,
-  spell-name.Post,
-  middle-reads.Asked,
-  middle-reads.Learnt,
-  both-reads.Asked,
-  both-reads.Learnt,
-  is-plain-reads.Asked,
-  is-plain-reads.Learnt,
-  spell-plain-reads.Asked,
-  spell-plain-reads.Learnt,
-  spell-words-below t,
-  spell-words.Post,
-) (spell-name-at t) spell-name.Post
+spell-name-same-length-9 : (t : ℕ) → spell-name-lts.Need-same-length-9 (spell-name-calls t) (spell-name-at t) spell-name.Post
 spell-name-same-length-9 t c = search needs
 
-spell-name-same-length-10 : (t : ℕ) → spell-name-lts.Need-same-length-10 (
-  part-of-reads.Asked,
-  part-of-reads.Learnt,
-  afresh-reads.Asked,
-  afresh-reads.Learnt,
-  join-prefix-reads.Asked,
-  join-prefix-reads.Learnt,
-  push-reads.Asked,
-  push-reads.Learnt,
-  spell-name-below t,
-  spell-name.Post,
-  middle-reads.Asked,
-  middle-reads.Learnt,
-  both-reads.Asked,
-  both-reads.Learnt,
-  is-plain-reads.Asked,
-  is-plain-reads.Learnt,
-  spell-plain-reads.Asked,
-  spell-plain-reads.Learnt,
-  spell-words-below t,
-  spell-words.Post,
-) (spell-name-at t) spell-name.Post
+spell-name-same-length-10 : (t : ℕ) → spell-name-lts.Need-same-length-10 (spell-name-calls t) (spell-name-at t) spell-name.Post
 spell-name-same-length-10 t c = search needs
 
-spell-name-returns-2 : (t : ℕ) → spell-name-lts.Need-returns-2 (
-  part-of-reads.Asked,
-  part-of-reads.Learnt,
-  afresh-reads.Asked,
-  afresh-reads.Learnt,
-  join-prefix-reads.Asked,
-  join-prefix-reads.Learnt,
-  push-reads.Asked,
-  push-reads.Learnt,
-  spell-name-below t,
-  spell-name.Post,
-  middle-reads.Asked,
-  middle-reads.Learnt,
-  both-reads.Asked,
-  both-reads.Learnt,
-  is-plain-reads.Asked,
-  is-plain-reads.Learnt,
-  spell-plain-reads.Asked,
-  spell-plain-reads.Learnt,
-  spell-words-below t,
-  spell-words.Post,
-) (spell-name-at t) spell-name.Post
+spell-name-returns-2 : (t : ℕ) → spell-name-lts.Need-returns-2 (spell-name-calls t) (spell-name-at t) spell-name.Post
 spell-name-returns-2 t c = whole-plain _ _ _ _ (c .before .before .before .before .before .before .before .before .before .before .before .before .before .before .before .before .before .before .before .before .part-of .ensures) (c .before .before .before .before .before .before .before .before .before .before .before .before .before .before .before .before .before .before .enum-told .given .1) _ (c .before .before .before .before .before .before .before .before .before .before .before .before .before .before .before .before .before .is-plain .ensures) (c .before .before .before .before .before .before .before .before .before .before .before .before .before .before .before .before .if1 .taken) (c .before .before .before .before .before .before .before .before .before .before .spell-plain .ensures)
 
-spell-name-same-length-11 : (t : ℕ) → spell-name-lts.Need-same-length-11 (
-  part-of-reads.Asked,
-  part-of-reads.Learnt,
-  afresh-reads.Asked,
-  afresh-reads.Learnt,
-  join-prefix-reads.Asked,
-  join-prefix-reads.Learnt,
-  push-reads.Asked,
-  push-reads.Learnt,
-  spell-name-below t,
-  spell-name.Post,
-  middle-reads.Asked,
-  middle-reads.Learnt,
-  both-reads.Asked,
-  both-reads.Learnt,
-  is-plain-reads.Asked,
-  is-plain-reads.Learnt,
-  spell-plain-reads.Asked,
-  spell-plain-reads.Learnt,
-  spell-words-below t,
-  spell-words.Post,
-) (spell-name-at t) spell-name.Post
+spell-name-same-length-11 : (t : ℕ) → spell-name-lts.Need-same-length-11 (spell-name-calls t) (spell-name-at t) spell-name.Post
 spell-name-same-length-11 t c = search needs
 
-spell-name-same-length-12 : (t : ℕ) → spell-name-lts.Need-same-length-12 (
-  part-of-reads.Asked,
-  part-of-reads.Learnt,
-  afresh-reads.Asked,
-  afresh-reads.Learnt,
-  join-prefix-reads.Asked,
-  join-prefix-reads.Learnt,
-  push-reads.Asked,
-  push-reads.Learnt,
-  spell-name-below t,
-  spell-name.Post,
-  middle-reads.Asked,
-  middle-reads.Learnt,
-  both-reads.Asked,
-  both-reads.Learnt,
-  is-plain-reads.Asked,
-  is-plain-reads.Learnt,
-  spell-plain-reads.Asked,
-  spell-plain-reads.Learnt,
-  spell-words-below t,
-  spell-words.Post,
-) (spell-name-at t) spell-name.Post
+spell-name-same-length-12 : (t : ℕ) → spell-name-lts.Need-same-length-12 (spell-name-calls t) (spell-name-at t) spell-name.Post
 spell-name-same-length-12 t c = search needs
 
-spell-name-same-length-13 : (t : ℕ) → spell-name-lts.Need-same-length-13 (
-  part-of-reads.Asked,
-  part-of-reads.Learnt,
-  afresh-reads.Asked,
-  afresh-reads.Learnt,
-  join-prefix-reads.Asked,
-  join-prefix-reads.Learnt,
-  push-reads.Asked,
-  push-reads.Learnt,
-  spell-name-below t,
-  spell-name.Post,
-  middle-reads.Asked,
-  middle-reads.Learnt,
-  both-reads.Asked,
-  both-reads.Learnt,
-  is-plain-reads.Asked,
-  is-plain-reads.Learnt,
-  spell-plain-reads.Asked,
-  spell-plain-reads.Learnt,
-  spell-words-below t,
-  spell-words.Post,
-) (spell-name-at t) spell-name.Post
+spell-name-same-length-13 : (t : ℕ) → spell-name-lts.Need-same-length-13 (spell-name-calls t) (spell-name-at t) spell-name.Post
 spell-name-same-length-13 t c = search needs
 
-spell-name-same-length-14 : (t : ℕ) → spell-name-lts.Need-same-length-14 (
-  part-of-reads.Asked,
-  part-of-reads.Learnt,
-  afresh-reads.Asked,
-  afresh-reads.Learnt,
-  join-prefix-reads.Asked,
-  join-prefix-reads.Learnt,
-  push-reads.Asked,
-  push-reads.Learnt,
-  spell-name-below t,
-  spell-name.Post,
-  middle-reads.Asked,
-  middle-reads.Learnt,
-  both-reads.Asked,
-  both-reads.Learnt,
-  is-plain-reads.Asked,
-  is-plain-reads.Learnt,
-  spell-plain-reads.Asked,
-  spell-plain-reads.Learnt,
-  spell-words-below t,
-  spell-words.Post,
-) (spell-name-at t) spell-name.Post
+spell-name-same-length-14 : (t : ℕ) → spell-name-lts.Need-same-length-14 (spell-name-calls t) (spell-name-at t) spell-name.Post
 spell-name-same-length-14 t c = search needs
 
-spell-name-same-length-15 : (t : ℕ) → spell-name-lts.Need-same-length-15 (
-  part-of-reads.Asked,
-  part-of-reads.Learnt,
-  afresh-reads.Asked,
-  afresh-reads.Learnt,
-  join-prefix-reads.Asked,
-  join-prefix-reads.Learnt,
-  push-reads.Asked,
-  push-reads.Learnt,
-  spell-name-below t,
-  spell-name.Post,
-  middle-reads.Asked,
-  middle-reads.Learnt,
-  both-reads.Asked,
-  both-reads.Learnt,
-  is-plain-reads.Asked,
-  is-plain-reads.Learnt,
-  spell-plain-reads.Asked,
-  spell-plain-reads.Learnt,
-  spell-words-below t,
-  spell-words.Post,
-) (spell-name-at t) spell-name.Post
+spell-name-same-length-15 : (t : ℕ) → spell-name-lts.Need-same-length-15 (spell-name-calls t) (spell-name-at t) spell-name.Post
 spell-name-same-length-15 t c = search needs
 
-spell-name-returns-3 : (t : ℕ) → spell-name-lts.Need-returns-3 (
-  part-of-reads.Asked,
-  part-of-reads.Learnt,
-  afresh-reads.Asked,
-  afresh-reads.Learnt,
-  join-prefix-reads.Asked,
-  join-prefix-reads.Learnt,
-  push-reads.Asked,
-  push-reads.Learnt,
-  spell-name-below t,
-  spell-name.Post,
-  middle-reads.Asked,
-  middle-reads.Learnt,
-  both-reads.Asked,
-  both-reads.Learnt,
-  is-plain-reads.Asked,
-  is-plain-reads.Learnt,
-  spell-plain-reads.Asked,
-  spell-plain-reads.Learnt,
-  spell-words-below t,
-  spell-words.Post,
-) (spell-name-at t) spell-name.Post
+spell-name-returns-3 : (t : ℕ) → spell-name-lts.Need-returns-3 (spell-name-calls t) (spell-name-at t) spell-name.Post
 spell-name-returns-3 t c = whole-words _ _ _ _ (c .before .before .before .before .before .before .before .before .before .before .before .before .before .before .before .before .before .before .before .before .part-of .ensures) (c .before .before .before .before .before .before .before .before .before .before .before .before .before .before .before .before .before .before .enum-told .given .1) _ (c .before .before .before .before .before .before .before .before .before .before .before .before .before .before .before .before .before .is-plain .ensures) (c .before .before .before .before .before .before .before .before .before .before .before .before .before .before .before .before .if1 .left) (c .before .before .before .before .before .before .before .before .before .before .spell-words .ensures)
 
 abbrev spell-words-Inv-loop : spell-words-lts.InvT-loop
@@ -996,269 +184,53 @@ spell-words-Inv-loop store₀ lens₀ langs₀ ord₀ pack places name out₀ at
 abbrev spell-words-μ-loop : spell-words-lts.MeasureT-loop
 spell-words-μ-loop store₀ lens₀ langs₀ ord₀ pack places name out₀ at again all₀ p₀ store lens langs ord out all p = length name - p
 
-spell-words-afresh-requires : (t : ℕ) → spell-words-lts.Need-afresh-requires (
-  afresh-reads.Asked,
-  afresh-reads.Learnt,
-  next-word-reads.Asked,
-  next-word-reads.Learnt,
-  hyphen-reads.Asked,
-  hyphen-reads.Learnt,
-  spell-name-below t,
-  spell-name.Post,
-  both-reads.Asked,
-  both-reads.Learnt,
-  past-word-reads.Asked,
-  past-word-reads.Learnt,
-) (spell-words-at t) spell-words.Post spell-words-Inv-loop spell-words-μ-loop
+spell-words-afresh-requires : (t : ℕ) → spell-words-lts.Need-afresh-requires (spell-words-calls t) (spell-words-at t) spell-words.Post spell-words-Inv-loop spell-words-μ-loop
 spell-words-afresh-requires t c κs = search needs
 
-spell-words-loop-holds : (t : ℕ) → spell-words-lts.Need-loop-holds (
-  afresh-reads.Asked,
-  afresh-reads.Learnt,
-  next-word-reads.Asked,
-  next-word-reads.Learnt,
-  hyphen-reads.Asked,
-  hyphen-reads.Learnt,
-  spell-name-below t,
-  spell-name.Post,
-  both-reads.Asked,
-  both-reads.Learnt,
-  past-word-reads.Asked,
-  past-word-reads.Learnt,
-) (spell-words-at t) spell-words.Post spell-words-Inv-loop spell-words-μ-loop
+spell-words-loop-holds : (t : ℕ) → spell-words-lts.Need-loop-holds (spell-words-calls t) (spell-words-at t) spell-words.Post spell-words-Inv-loop spell-words-μ-loop
 spell-words-loop-holds t c = held-start _ _ _ _ _ _ _ _ (c .before .before .before .before .before .before .before .before .before .pre .1 .1 .1 .1 .0) (c .before .before .before .before .before .before .before .before .before .good .1 .1 .1 .1 .1 .1 .1 .1 .0 .1)
 
-spell-words-next-word-requires : (t : ℕ) → spell-words-lts.Need-next-word-requires (
-  afresh-reads.Asked,
-  afresh-reads.Learnt,
-  next-word-reads.Asked,
-  next-word-reads.Learnt,
-  hyphen-reads.Asked,
-  hyphen-reads.Learnt,
-  spell-name-below t,
-  spell-name.Post,
-  both-reads.Asked,
-  both-reads.Learnt,
-  past-word-reads.Asked,
-  past-word-reads.Learnt,
-) (spell-words-at t) spell-words.Post spell-words-Inv-loop spell-words-μ-loop
+spell-words-next-word-requires : (t : ℕ) → spell-words-lts.Need-next-word-requires (spell-words-calls t) (spell-words-at t) spell-words.Post spell-words-Inv-loop spell-words-μ-loop
 spell-words-next-word-requires t c κs = search needs
 
-spell-words-same-length : (t : ℕ) → spell-words-lts.Need-same-length (
-  afresh-reads.Asked,
-  afresh-reads.Learnt,
-  next-word-reads.Asked,
-  next-word-reads.Learnt,
-  hyphen-reads.Asked,
-  hyphen-reads.Learnt,
-  spell-name-below t,
-  spell-name.Post,
-  both-reads.Asked,
-  both-reads.Learnt,
-  past-word-reads.Asked,
-  past-word-reads.Learnt,
-) (spell-words-at t) spell-words.Post spell-words-Inv-loop spell-words-μ-loop
+spell-words-same-length : (t : ℕ) → spell-words-lts.Need-same-length (spell-words-calls t) (spell-words-at t) spell-words.Post spell-words-Inv-loop spell-words-μ-loop
 spell-words-same-length t c = c .before .before .loop .inv .store-same
 
-spell-words-same-length-2 : (t : ℕ) → spell-words-lts.Need-same-length-2 (
-  afresh-reads.Asked,
-  afresh-reads.Learnt,
-  next-word-reads.Asked,
-  next-word-reads.Learnt,
-  hyphen-reads.Asked,
-  hyphen-reads.Learnt,
-  spell-name-below t,
-  spell-name.Post,
-  both-reads.Asked,
-  both-reads.Learnt,
-  past-word-reads.Asked,
-  past-word-reads.Learnt,
-) (spell-words-at t) spell-words.Post spell-words-Inv-loop spell-words-μ-loop
+spell-words-same-length-2 : (t : ℕ) → spell-words-lts.Need-same-length-2 (spell-words-calls t) (spell-words-at t) spell-words.Post spell-words-Inv-loop spell-words-μ-loop
 spell-words-same-length-2 t c = c .before .before .loop .inv .lens-same
 
-spell-words-same-length-3 : (t : ℕ) → spell-words-lts.Need-same-length-3 (
-  afresh-reads.Asked,
-  afresh-reads.Learnt,
-  next-word-reads.Asked,
-  next-word-reads.Learnt,
-  hyphen-reads.Asked,
-  hyphen-reads.Learnt,
-  spell-name-below t,
-  spell-name.Post,
-  both-reads.Asked,
-  both-reads.Learnt,
-  past-word-reads.Asked,
-  past-word-reads.Learnt,
-) (spell-words-at t) spell-words.Post spell-words-Inv-loop spell-words-μ-loop
+spell-words-same-length-3 : (t : ℕ) → spell-words-lts.Need-same-length-3 (spell-words-calls t) (spell-words-at t) spell-words.Post spell-words-Inv-loop spell-words-μ-loop
 spell-words-same-length-3 t c = c .before .before .loop .inv .langs-same
 
-spell-words-same-length-4 : (t : ℕ) → spell-words-lts.Need-same-length-4 (
-  afresh-reads.Asked,
-  afresh-reads.Learnt,
-  next-word-reads.Asked,
-  next-word-reads.Learnt,
-  hyphen-reads.Asked,
-  hyphen-reads.Learnt,
-  spell-name-below t,
-  spell-name.Post,
-  both-reads.Asked,
-  both-reads.Learnt,
-  past-word-reads.Asked,
-  past-word-reads.Learnt,
-) (spell-words-at t) spell-words.Post spell-words-Inv-loop spell-words-μ-loop
+spell-words-same-length-4 : (t : ℕ) → spell-words-lts.Need-same-length-4 (spell-words-calls t) (spell-words-at t) spell-words.Post spell-words-Inv-loop spell-words-μ-loop
 spell-words-same-length-4 t c = c .before .before .loop .inv .ord-same
 
-spell-words-same-length-5 : (t : ℕ) → spell-words-lts.Need-same-length-5 (
-  afresh-reads.Asked,
-  afresh-reads.Learnt,
-  next-word-reads.Asked,
-  next-word-reads.Learnt,
-  hyphen-reads.Asked,
-  hyphen-reads.Learnt,
-  spell-name-below t,
-  spell-name.Post,
-  both-reads.Asked,
-  both-reads.Learnt,
-  past-word-reads.Asked,
-  past-word-reads.Learnt,
-) (spell-words-at t) spell-words.Post spell-words-Inv-loop spell-words-μ-loop
+spell-words-same-length-5 : (t : ℕ) → spell-words-lts.Need-same-length-5 (spell-words-calls t) (spell-words-at t) spell-words.Post spell-words-Inv-loop spell-words-μ-loop
 spell-words-same-length-5 t c = c .before .before .loop .inv .out-same
 
-spell-words-returns : (t : ℕ) → spell-words-lts.Need-returns (
-  afresh-reads.Asked,
-  afresh-reads.Learnt,
-  next-word-reads.Asked,
-  next-word-reads.Learnt,
-  hyphen-reads.Asked,
-  hyphen-reads.Learnt,
-  spell-name-below t,
-  spell-name.Post,
-  both-reads.Asked,
-  both-reads.Learnt,
-  past-word-reads.Asked,
-  past-word-reads.Learnt,
-) (spell-words-at t) spell-words.Post spell-words-Inv-loop spell-words-μ-loop
+spell-words-returns : (t : ℕ) → spell-words-lts.Need-returns (spell-words-calls t) (spell-words-at t) spell-words.Post spell-words-Inv-loop spell-words-μ-loop
 spell-words-returns t c = rw (steps-again _ _ _ (c .before .before .before .afresh .ensures)) at (held-end (c .before .before .loop .inv) _ (c .before .next-word .ensures) (c .if1 .taken))
 
-spell-words-hyphen-requires : (t : ℕ) → spell-words-lts.Need-hyphen-requires (
-  afresh-reads.Asked,
-  afresh-reads.Learnt,
-  next-word-reads.Asked,
-  next-word-reads.Learnt,
-  hyphen-reads.Asked,
-  hyphen-reads.Learnt,
-  spell-name-below t,
-  spell-name.Post,
-  both-reads.Asked,
-  both-reads.Learnt,
-  past-word-reads.Asked,
-  past-word-reads.Learnt,
-) (spell-words-at t) spell-words.Post spell-words-Inv-loop spell-words-μ-loop
+spell-words-hyphen-requires : (t : ℕ) → spell-words-lts.Need-hyphen-requires (spell-words-calls t) (spell-words-at t) spell-words.Post spell-words-Inv-loop spell-words-μ-loop
 spell-words-hyphen-requires t c κs = search needs
 
-spell-words-spell-name-requires : (t : ℕ) → spell-words-lts.Need-spell-name-requires (
-  afresh-reads.Asked,
-  afresh-reads.Learnt,
-  next-word-reads.Asked,
-  next-word-reads.Learnt,
-  hyphen-reads.Asked,
-  hyphen-reads.Learnt,
-  spell-name-below t,
-  spell-name.Post,
-  both-reads.Asked,
-  both-reads.Learnt,
-  past-word-reads.Asked,
-  past-word-reads.Learnt,
-) (spell-words-at t) spell-words.Post spell-words-Inv-loop spell-words-μ-loop
+spell-words-spell-name-requires : (t : ℕ) → spell-words-lts.Need-spell-name-requires (spell-words-calls t) (spell-words-at t) spell-words.Post spell-words-Inv-loop spell-words-μ-loop
 spell-words-spell-name-requires t c κs = (omega (arith, c .before .before .before .before .before .before .before .before .before .before .before .before .before .before .before .before .before .before .before .before .before .pre .0, held-shorter (c .before .before .before .before .before .before .before .before .before .before .before .loop .inv) _ (c .before .before .before .before .before .before .before .before .before .before .next-word .ensures) (c .before .before .before .before .before .before .before .before .before .if1 .left) (c .before .before .before .before .before .before .before .before .before .before .before .before .before .before .before .before .before .before .before .before .before .pre .1 .1 .1 .1 .1)), (held-scratch (c .before .before .before .before .before .before .before .before .before .before .before .loop .inv) (c .before .before .before .before .before .before .before .before .before .before .before .before .before .before .before .before .before .before .before .before .before .pre .1 .0), (ready-afresh _ _ _ (c .before .before .before .before .before .before .before .before .before .before .before .before .before .before .before .before .before .before .before .before .before .pre .1 .1 .0) _ (c .before .before .before .before .before .before .before .before .before .before .before .before .afresh .ensures), (omega (arith, held-shorter (c .before .before .before .before .before .before .before .before .before .before .before .loop .inv) _ (c .before .before .before .before .before .before .before .before .before .before .next-word .ensures) (c .before .before .before .before .before .before .before .before .before .if1 .left) (c .before .before .before .before .before .before .before .before .before .before .before .before .before .before .before .before .before .before .before .before .before .pre .1 .1 .1 .1 .1), c .before .before .before .before .before .before .before .before .before .before .before .before .before .before .before .before .before .before .before .before .before .pre .1 .1 .1 .0), held-place (c .before .before .before .before .before .before .before .before .before .before .before .loop .inv) _ (c .before .before .before .before .before .before .before .before .before .before .next-word .ensures) (c .before .before .before .before .before .before .before .before .before .if1 .left) (c .before .before .before .before .before .before .before .hyphen .ensures)))))
 
-spell-words-both-requires : (t : ℕ) → spell-words-lts.Need-both-requires (
-  afresh-reads.Asked,
-  afresh-reads.Learnt,
-  next-word-reads.Asked,
-  next-word-reads.Learnt,
-  hyphen-reads.Asked,
-  hyphen-reads.Learnt,
-  spell-name-below t,
-  spell-name.Post,
-  both-reads.Asked,
-  both-reads.Learnt,
-  past-word-reads.Asked,
-  past-word-reads.Learnt,
-) (spell-words-at t) spell-words.Post spell-words-Inv-loop spell-words-μ-loop
+spell-words-both-requires : (t : ℕ) → spell-words-lts.Need-both-requires (spell-words-calls t) (spell-words-at t) spell-words.Post spell-words-Inv-loop spell-words-μ-loop
 spell-words-both-requires t c κs = search needs
 
-spell-words-past-word-requires : (t : ℕ) → spell-words-lts.Need-past-word-requires (
-  afresh-reads.Asked,
-  afresh-reads.Learnt,
-  next-word-reads.Asked,
-  next-word-reads.Learnt,
-  hyphen-reads.Asked,
-  hyphen-reads.Learnt,
-  spell-name-below t,
-  spell-name.Post,
-  both-reads.Asked,
-  both-reads.Learnt,
-  past-word-reads.Asked,
-  past-word-reads.Learnt,
-) (spell-words-at t) spell-words.Post spell-words-Inv-loop spell-words-μ-loop
+spell-words-past-word-requires : (t : ℕ) → spell-words-lts.Need-past-word-requires (spell-words-calls t) (spell-words-at t) spell-words.Post spell-words-Inv-loop spell-words-μ-loop
 spell-words-past-word-requires t c κs = search needs
 
-spell-words-loop-less : (t : ℕ) → spell-words-lts.Need-loop-less (
-  afresh-reads.Asked,
-  afresh-reads.Learnt,
-  next-word-reads.Asked,
-  next-word-reads.Learnt,
-  hyphen-reads.Asked,
-  hyphen-reads.Learnt,
-  spell-name-below t,
-  spell-name.Post,
-  both-reads.Asked,
-  both-reads.Learnt,
-  past-word-reads.Asked,
-  past-word-reads.Learnt,
-) (spell-words-at t) spell-words.Post spell-words-Inv-loop spell-words-μ-loop
+spell-words-loop-less : (t : ℕ) → spell-words-lts.Need-loop-less (spell-words-calls t) (spell-words-at t) spell-words.Post spell-words-Inv-loop spell-words-μ-loop
 spell-words-loop-less t c = held-less (c .before .before .before .before .before .before .before .before .before .before .before .before .before .before .before .before .before .before .before .before .before .before .before .before .loop .inv) _ (c .before .before .before .before .before .before .before .before .before .before .before .before .before .before .before .before .before .before .before .before .before .before .before .next-word .ensures) (c .before .before .before .before .before .before .before .before .before .before .before .before .before .before .before .before .before .before .before .before .before .before .if1 .left) _ (c .past-word .ensures)
 
-spell-words-loop-again : (t : ℕ) → spell-words-lts.Need-loop-again (
-  afresh-reads.Asked,
-  afresh-reads.Learnt,
-  next-word-reads.Asked,
-  next-word-reads.Learnt,
-  hyphen-reads.Asked,
-  hyphen-reads.Learnt,
-  spell-name-below t,
-  spell-name.Post,
-  both-reads.Asked,
-  both-reads.Learnt,
-  past-word-reads.Asked,
-  past-word-reads.Learnt,
-) (spell-words-at t) spell-words.Post spell-words-Inv-loop spell-words-μ-loop
+spell-words-loop-again : (t : ℕ) → spell-words-lts.Need-loop-again (spell-words-calls t) (spell-words-at t) spell-words.Post spell-words-Inv-loop spell-words-μ-loop
 spell-words-loop-again t c = held-turn (c .before .before .before .before .before .before .before .before .before .before .before .before .before .before .before .before .before .before .before .before .before .before .before .before .loop .inv) _ (c .before .before .before .before .before .before .before .before .before .before .before .before .before .before .before .before .before .before .before .before .before .before .before .next-word .ensures) (c .before .before .before .before .before .before .before .before .before .before .before .before .before .before .before .before .before .before .before .before .before .before .if1 .left) (c .before .before .before .before .before .before .before .before .before .before .before .before .before .before .before .before .before .before .before .before .hyphen .ensures) (told-again _ _ _ (c .before .before .before .before .before .before .before .before .before .before .before .before .before .before .before .before .before .before .before .before .before .before .before .before .before .afresh .ensures) _ (c .before .before .before .before .before .before .before .before .before .before .before .before .spell-name .ensures)) (c .before .both .ensures) (c .past-word .ensures) (c .before .before .before .before .before .before .before .before .before .before .before .store .given) (c .before .before .before .before .before .before .before .before .before .lens .given) (c .before .before .before .before .before .before .before .langs .given) (c .before .before .before .before .before .ord .given) (c .before .before .before .out2 .given ∙ c .before .before .before .before .before .before .before .before .before .before .before .before .before .before .before .before .before .before .before .out .given)
 
 pub +spell-name+spell-words-spec : {M : Type 1} → statement M
-+spell-name+spell-words-spec = close μ-spell-name μ-spell-words (λ t. spell-name-lts.spec (
-  part-of-reads.Asked,
-  part-of-reads.Learnt,
-  afresh-reads.Asked,
-  afresh-reads.Learnt,
-  join-prefix-reads.Asked,
-  join-prefix-reads.Learnt,
-  push-reads.Asked,
-  push-reads.Learnt,
-  spell-name-below t,
-  spell-name.Post,
-  middle-reads.Asked,
-  middle-reads.Learnt,
-  both-reads.Asked,
-  both-reads.Learnt,
-  is-plain-reads.Asked,
-  is-plain-reads.Learnt,
-  spell-plain-reads.Asked,
-  spell-plain-reads.Learnt,
-  spell-words-below t,
-  spell-words.Post,
-)
++spell-name+spell-words-spec = close μ-spell-name μ-spell-words (λ t. spell-name-lts.spec (spell-name-calls t)
     (spell-name-at t)
     spell-name.Post
     (spell-name-part-of-requires t)
