@@ -54,7 +54,7 @@ pub struct Call {
 }
 
 // The pack's numbers, and its lists' places in the table.
-pub fn open(pack: &[u8], places: &mut [usize]) -> Desk
+pub(crate) fn open(pack: &[u8], places: &mut [usize]) -> Desk
     requires { ⌜ length (now places) ≡ 98 ⌝ }
     ensures { λ r. ⌜ DeskIs (now (pack .entry)) (now (places .exit)) r ⌝ }
 {
@@ -80,7 +80,7 @@ fn any_of(listed: &[u8]) -> usize
 }
 
 // Whether the settings' numbers are known (else 4).
-pub fn are_known(settings: Settings, start: Start) -> bool
+pub(crate) fn are_known(settings: Settings, start: Start) -> bool
     ensures { λ r. ⌜ r ≡ settingsKnown settings start ⌝ }
 {
     if settings.name_type < 3 {
@@ -105,7 +105,7 @@ fn is_known(start: Start) -> bool
 }
 
 // Whether each given bit has a language (else 6); only with kind 2 the bits count.
-pub fn have_languages(start: Start, languages: usize) -> bool
+pub(crate) fn have_languages(start: Start, languages: usize) -> bool
     requires { ⌜ languages ≤ 32 ⌝ }
     ensures { λ r. ⌜ r ≡ haveLanguages languages start ⌝ }
 {
@@ -164,7 +164,7 @@ fn set_of(start: Start, pack: &[u8], languages: usize, guesses: usize, name: &[u
 }
 
 // The call of known settings on a good pack.
-pub fn call_of(
+pub(crate) fn call_of(
     settings: Settings,
     start: Start,
     pack: &[u8],
@@ -189,7 +189,7 @@ pub fn call_of(
 }
 
 // The same call for a name that is spelled afresh.
-pub fn afresh(call: Call) -> Call
+pub(crate) fn afresh(call: Call) -> Call
     ensures { λ r. ⌜ r ≡ afreshOf call ⌝ }
 {
     let kind = call.kind;

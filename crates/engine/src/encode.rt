@@ -160,7 +160,7 @@ fn start_of(pack: &[u8], call: Call, name: &[u8]) -> LanguageSet
 }
 
 // Whether a name with no prefix is spelled as one word.
-pub fn is_plain(call: Call, name: &[u8]) -> bool
+pub(crate) fn is_plain(call: Call, name: &[u8]) -> bool
     ensures { λ r. ⌜ r ≡ pick (call .concat) true (oneWord (now (name .entry))) ⌝ }
 {
     if call.concat {
@@ -171,7 +171,7 @@ pub fn is_plain(call: Call, name: &[u8]) -> bool
 }
 
 // That word spelled: the words joined, or the only one.
-pub fn spell_plain(
+pub(crate) fn spell_plain(
     store: &mut [u8],
     lens: &mut [u8],
     langs: &mut [u64],
@@ -213,7 +213,7 @@ pub fn spell_plain(
 }
 
 // Where a name is parted: only Generic ones are.
-pub fn part_of(kind: NameType, name: &[u8]) -> Prefix
+pub(crate) fn part_of(kind: NameType, name: &[u8]) -> Prefix
     ensures { λ r. ⌜ r ≡ partedAs kind (now (name .entry)) ⌝ }
 {
     match kind {
@@ -264,7 +264,7 @@ fn both(first: Ends, second: Ends, at: usize) -> Ends
 
 // A name spelled, into `out` from `at` on, as far as there is room: by its prefix, the remainder and the joined name both, or by its
 // words.
-pub fn spell_name(
+pub(crate) fn spell_name(
     store: &mut [u8],
     lens: &mut [u8],
     langs: &mut [u64],

@@ -222,7 +222,7 @@ fn spell_in(
 }
 
 // Any name, with any settings, at a desk: the checks in the order 4, 3, 1, 2, 5, 6, and then the answer.
-pub fn spell_at(
+pub(crate) fn spell_at(
     store: &mut [u8],
     lens: &mut [u8],
     langs: &mut [u64],
