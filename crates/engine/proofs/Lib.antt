@@ -5,3 +5,4 @@ pub mod NameLaws
 pub mod CallLaws
 pub mod LinesLaws
 pub mod AnswerLaws
+pub mod ProgressLaws

@@ -43,7 +43,7 @@ pub lines-one : {f : Text → Text} {block out : List ℕ} {r s : Lines} {o p : 
 lines-one x y = (one (x .result) (y .result), one (x .buffer) (y .buffer))
 
 -- the first line of a text, and what is taken of it
-lines-more : (n : ℕ) (s : List ℕ) → placeOf 10 s < length s → linesFrom (suc n) s ≡ take (placeOf 10 s) s ∷ linesFrom n (drop (suc (placeOf 10 s)) s)
+pub lines-more : (n : ℕ) (s : List ℕ) → placeOf 10 s < length s → linesFrom (suc n) s ≡ take (placeOf 10 s) s ∷ linesFrom n (drop (suc (placeOf 10 s)) s)
 unfolding linesFrom has
 lines-more n s h = pick-true _ _ _ (lt-ltb _ _ h)
 
@@ -53,7 +53,7 @@ lines-none zero s h = refl
 lines-none (suc n) s h = pick-false _ _ _ (le-ltb _ _ h)
 
 module _ (f : Text → Text) (size : ℕ) (name : Text) (names : List Text) where
-  take-fits : length (f name) ≤ size → takeLines f size (name ∷ names) ≡ andTaken (suc (length name)) (f name) (takeLines f (size - length (f name)) names)
+  pub take-fits : length (f name) ≤ size → takeLines f size (name ∷ names) ≡ andTaken (suc (length name)) (f name) (takeLines f (size - length (f name)) names)
   unfolding takeLines
   take-fits h = pick-true _ _ _ (le-leb _ _ h)
 
@@ -190,7 +190,7 @@ sets-none : (vs l : List ℕ) (i : ℕ) → length vs ≡ 0 → sets l i vs ≡ 
 sets-none [] l i h = refl
 sets-none (v ∷ vs) l i h = absurd (omega arith)
 
-answer-long : (written : ℕ) (flag : Bool) (t : Text) → length (answerLine (numbersOf (Done written flag)) t) ≡ 5 + length t
+pub answer-long : (written : ℕ) (flag : Bool) (t : Text) → length (answerLine (numbersOf (Done written flag)) t) ≡ 5 + length t
 unfolding answerLine numbersOf decimal decimalBy
 answer-long written flag t = omega (arith, length-append t (10 ∷ []))
 
@@ -324,7 +324,7 @@ name-below (suc n) c low g s =
     let again : (t : Text) → NameBelow (nameFrom n c (c .guess t) t) = λ t. name-below n c low (c .guess t) t in
     prefix-below _ again _ s _ (pick-all NameBelow _ _ _ (pick-all NameBelow _ _ _ (low g _) (low g _)) (each-below _ again _))
 
-unfoldable Below : Outcome → Type 0
+unfoldable pub Below : Outcome → Type 0
 Below (refusedBy k place) = k < 9
 Below (key t f) = Unit {0}
 
@@ -344,7 +344,7 @@ pack-below c start s name (refused place) = omega arith
 pack-below c start s name (accepted p) =
     pick-all Below _ _ _ (outcome-below _ (name-below _ _ (λ g w. answer-below _ (then-below _ _ (main-below _) (λ l. then-below _ _ (final-below _ _ _ l []) (λ m. final-below _ _ _ m [])))) _ _)) (omega arith)
 
-call-below : (c : Settings) (start : Start) (s name : List ℕ) → Below (callOf c start s name)
+pub call-below : (c : Settings) (start : Start) (s name : List ℕ) → Below (callOf c start s name)
 unfolding Below callOf checkedThen lettersThen
 call-below c start s name =
     pick-all Below _ _ _ (pick-all Below _ _ _ (omega arith) (unless-below 1 _ _ (omega arith) (unless-below 2 _ _ (omega arith) (pack-below c start s name _)))) (omega arith)
@@ -352,11 +352,11 @@ call-below c start s name =
 -- ---- the line of a name
 
 -- what a line is by what the call came to
-line-answer : (size : ℕ) (t : Text) (f : Bool) → length t ≤ room size → lineOf size (key t f) ≡ answerLine (numbersOf (Done (length t) f)) t
+pub line-answer : (size : ℕ) (t : Text) (f : Bool) → length t ≤ room size → lineOf size (key t f) ≡ answerLine (numbersOf (Done (length t) f)) t
 unfolding lineOf textOf toldOf lineBy
 line-answer size t f h = ap (λ (r : Spelled). lineBy r t) (pick-true _ _ _ (le-leb _ _ h))
 
-line-long : (size : ℕ) (t : Text) (f : Bool) → room size < length t → lineOf size (key t f) ≡ refusalLine (numbersOf (Refused 9 (min (length t) most)))
+pub line-long : (size : ℕ) (t : Text) (f : Bool) → room size < length t → lineOf size (key t f) ≡ refusalLine (numbersOf (Refused 9 (min (length t) most)))
 unfolding lineOf textOf toldOf lineBy
 line-long size t f h = ap (λ (r : Spelled). lineBy r t) (pick-false _ _ _ (lt-leb _ _ h))
 

@@ -1,0 +1,183 @@
+-- A block that holds a whole line is read on, whatever the names and the pack: every line fits into 32 bytes. Assumes nothing.
+use mathlib.Core.Path.{_≡_, refl, ap}
+use mathlib.Core.Bool.{Bool, true, false}
+use mathlib.Core.List.{List, [], _∷_, _++_}
+use Prim.Native.Nat.{ℕ, zero, suc, _+_, _-_, _*_, _/_, _%_, _≤_, _<_, min, zero-le}
+use native.Mathlib.Decide.{decLe}
+use native.Mathlib.Omega.{arith}
+use lib.Dec.{ltb}
+use lib.ListN.{length, drop, length-append}
+use borrow.Author.Tests.{lt-ltb, ltb-false}
+use Rattle.base.specs.Pick.{pick, pick-true, pick-all}
+use Rattle.texts.specs.Parts.{placeOf}
+use Rattle.letters.specs.Utf8.{decodeAt}
+use Rattle.letters.specs.Reading.{piecesOn, piecesFrom, piecesOf, illIn, firstIll, outsideIn, firstOutside}
+use Rattle.letters.specs.declared.utf8.Step.{Step}
+use Rattle.letters.specs.declared.utf8.Step.the-variants.{Char, Ill, End}
+use Rattle.letters.specs.declared.utf8.Found.{Found}
+use Rattle.letters.specs.declared.utf8.Found.the-variants.{At, Nothing}
+use Rattle.letters.proofs.Utf8Laws.{char-at, ill-in}
+use Rattle.name_parts.specs.Writing.{cap}
+use Rattle.name_parts.proofs.Laws.{clash}
+use Rattle.pack.specs.Reading.{Read, cut, got, readByte}
+use Rattle.pack.specs.Packs.{Verdict, accepted, refused, Rule, readNames, readGuesses, readList, section, placeIn, listSections, endSection, packOf}
+use Rattle.choices.specs.Texts.{Text}
+use Rattle.engine.specs.Spelling.{Spelt, bad, good}
+use Rattle.engine.specs.Calls.{Outcome, refusedBy, key, outcomeOf, unless, onPack, lettersThen, checkedThen, callOf, toldOf, numbersOf}
+use Rattle.engine.specs.Lines.{decimalBy, decimal, refusalLine, lineBy, most, room, textOf, lineOf, lineFor, linesFrom, wholeLines, andTaken, takeLines, taken, LinesIs}
+use Rattle.engine.specs.declared.call.Settings.{Settings}
+use Rattle.engine.specs.declared.call.Start.{Start}
+use Rattle.engine.specs.declared.lines.Lines.{Lines}
+use Rattle.engine.specs.declared.spelling.Spelled.the-variants.{Refused}
+use Rattle.engine.proofs.LinesLaws.{lines-more, take-fits, answer-long, Below, call-below, line-answer, line-long}
+
+-- ---- digits
+
+-- a number below 10 to the k + 1 has at most k + 1 digits
+unfoldable tens : ℕ → ℕ
+tens zero = 10
+tens (suc k) = 10 * tens k
+
+digits-by : (k f n : ℕ) (b : Bool) → ltb n 10 ≡ b → ((m : ℕ) → m < tens k → length (decimalBy f m) ≤ suc k) → n < 10 * tens k
+    → length (pick b ((48 + n % 10) ∷ []) (decimalBy f (n / 10) ++ (48 + n % 10) ∷ [])) ≤ suc (suc k)
+unfolding pick
+digits-by k f n true e ih h = omega arith
+digits-by k f n false e ih h = omega (arith, ih (n / 10) (omega arith), length-append (decimalBy f (n / 10)) ((48 + n % 10) ∷ []))
+
+digits-few : (k f n : ℕ) → n < tens k → length (decimalBy f n) ≤ suc k
+unfolding decimalBy tens
+digits-few k zero n h = omega arith
+digits-few zero (suc f) n h = rw (pick-true (ltb n 10) ((48 + n % 10) ∷ []) (decimalBy f (n / 10) ++ (48 + n % 10) ∷ []) (lt-ltb n 10 h)) (omega arith)
+digits-few (suc k) (suc f) n h = digits-by k f n _ refl (λ m l. digits-few k f m l) h
+
+code-short : (n : ℕ) → n < 10 → length (decimal n) ≤ 1
+unfolding decimal tens
+code-short n h = digits-few 0 n n h
+
+place-short : (n : ℕ) → n < 100000000000000000000 → length (decimal n) ≤ 20
+unfolding decimal tens
+place-short n h = digits-few 19 n n h
+
+refusal-short : (k p : ℕ) → k < 10 → p < 100000000000000000000 → length (refusalLine (numbersOf (Refused k p))) ≤ 23
+unfolding refusalLine numbersOf
+refusal-short k p h l =
+    omega (arith, code-short k h, place-short p l, length-append (decimal k) ((32 ∷ []) ++ (decimal p ++ 10 ∷ [])), length-append (decimal p) (10 ∷ []))
+
+-- ---- where a refusal's place is
+
+found-ill : (f : ℕ) (s : List ℕ) (p q : ℕ) (r : Step) → decodeAt s p ≡ r → ((m : ℕ) → illIn (piecesFrom f s m) ≡ At q → q < length s)
+    → illIn (piecesOn r s p (piecesFrom f s)) ≡ At q → q < length s
+unfolding illIn piecesOn
+found-ill f s p q (Char c n) d ih e = ih (p + n) e
+found-ill f s p q Ill d ih e = let here : p ≡ q = cc in rw (← here) (ill-in s p d)
+found-ill f s p q End d ih e = clash (cc)
+
+ill-place : (f : ℕ) (s : List ℕ) (p q : ℕ) → illIn (piecesFrom f s p) ≡ At q → q < length s
+unfolding piecesFrom illIn
+ill-place zero s p q e = clash (cc)
+ill-place (suc f) s p q e = found-ill f s p q _ refl (λ m k. ill-place f s m q k) e
+
+outside-by : (b : Bool) (rest : Found) (s : List ℕ) (p q : ℕ) → p < length s → (rest ≡ At q → q < length s) → pick b rest (At p) ≡ At q → q < length s
+unfolding pick
+outside-by true rest s p q h ih e = ih e
+outside-by false rest s p q h ih e = let here : p ≡ q = cc in rw (← here) h
+
+found-outside : (f : ℕ) (s : List ℕ) (p q : ℕ) (r : Step) → decodeAt s p ≡ r → ((m : ℕ) → outsideIn (piecesFrom f s m) ≡ At q → q < length s)
+    → outsideIn (piecesOn r s p (piecesFrom f s)) ≡ At q → q < length s
+unfolding outsideIn piecesOn
+found-outside f s p q (Char c n) d ih e = outside-by _ _ s p q (char-at s p c n d .start) (ih (p + n)) e
+found-outside f s p q Ill d ih e = let here : p ≡ q = cc in rw (← here) (ill-in s p d)
+found-outside f s p q End d ih e = clash (cc)
+
+outside-place : (f : ℕ) (s : List ℕ) (p q : ℕ) → outsideIn (piecesFrom f s p) ≡ At q → q < length s
+unfolding piecesFrom outsideIn
+outside-place zero s p q e = clash (cc)
+outside-place (suc f) s p q e = found-outside f s p q _ refl (λ m k. outside-place f s m q k) e
+
+unfoldable FaultIn : ℕ → Verdict → Type 0
+FaultIn b (accepted p) = Unit {0}
+FaultIn b (refused place) = place ≤ b
+
+section-in : {A : Type 0} (b place : ℕ) (fine : A → Bool) (rd : Read A) (k : A → List ℕ → Verdict) → place ≤ b → ((a : A) (r : List ℕ) → FaultIn b (k a r)) → FaultIn b (section place fine rd k)
+unfolding FaultIn section
+section-in b place fine cut k h l = h
+section-in b place fine (got a r) k h l = pick-all (FaultIn b) (fine a) _ _ (l a r) h
+
+place-in : (s r : List ℕ) → placeIn s r ≤ length s
+unfolding placeIn
+place-in s r = omega arith
+
+lists-in : (s names : List ℕ) (n : ℕ) (r : List ℕ) (k : List (List Rule) → List ℕ → Verdict) → ((ls : List (List Rule)) (t : List ℕ) → FaultIn (length s) (k ls t)) → FaultIn (length s) (listSections s names n r k)
+unfolding listSections
+lists-in s names zero r k l = l [] r
+lists-in s names (suc n) r k l = section-in _ _ _ (readList r) _ (place-in s r) (λ rules q. lists-in s names n q _ (λ ls t. l (rules ∷ ls) t))
+
+pack-in : (s : List ℕ) → FaultIn (length s) (packOf s)
+unfolding packOf endSection FaultIn
+pack-in s =
+    section-in _ _ _ (readNames s) _ zero-le (λ names a.
+    section-in _ _ _ (readGuesses a) _ (place-in s a) (λ guesses b.
+    section-in _ _ _ (readByte b) _ (place-in s b) (λ n c. lists-in s _ n c _ (λ ls d. pick-all (FaultIn (length s)) _ _ _ tt (place-in s d)))))
+
+unfoldable PlaceIn : ℕ → Outcome → Type 0
+PlaceIn b (refusedBy k place) = place ≤ b
+PlaceIn b (key t f) = Unit {0}
+
+spelt-in : (b : ℕ) (x : Spelt) → PlaceIn b (outcomeOf x)
+unfolding PlaceIn outcomeOf
+spelt-in b (bad k) = zero-le
+spelt-in b (good t f) = tt
+
+unless-in : (b code : ℕ) (at : Found) (rest : Outcome) → ((q : ℕ) → at ≡ At q → q ≤ b) → PlaceIn b rest → PlaceIn b (unless code at rest)
+unfolding PlaceIn unless
+unless-in b code (At place) rest h k = h place refl
+unless-in b code Nothing rest h k = k
+
+on-pack-in : (c : Settings) (start : Start) (s name : List ℕ) (b : ℕ) (v : Verdict) → length s ≤ b → FaultIn (length s) v → PlaceIn b (onPack c start s name v)
+unfolding PlaceIn FaultIn onPack
+on-pack-in c start s name b (refused place) h l = omega arith
+on-pack-in c start s name b (accepted p) h l = pick-all (PlaceIn b) _ _ _ (spelt-in b _) zero-le
+
+letters-in : (name : Text) (rest : Outcome) (b : ℕ) (t : Bool) → ltb 96 (length name) ≡ t → 96 ≤ b → PlaceIn b rest
+    → PlaceIn b (pick t (refusedBy 3 0) (unless 1 (firstIll name) (unless 2 (firstOutside name) rest)))
+unfolding PlaceIn pick firstIll firstOutside piecesOf
+letters-in name rest b true e h k = zero-le
+letters-in name rest b false e h k =
+    let few : length name ≤ 96 = ltb-false _ _ e in
+    unless-in b 1 _ _ (λ q l. let m = ill-place (length name) name 0 q l in omega arith)
+    (unless-in b 2 _ _ (λ q l. let m = outside-place (length name) name 0 q l in omega arith) k)
+
+call-in : (c : Settings) (start : Start) (s name : List ℕ) → PlaceIn (length s + 96) (callOf c start s name)
+unfolding callOf checkedThen lettersThen PlaceIn
+call-in c start s name =
+    pick-all (PlaceIn (length s + 96)) _ _ _ (letters-in name _ _ _ refl (omega arith) (on-pack-in c start s name _ _ (omega arith) (pack-in s))) zero-le
+
+-- ---- a line and its buffer
+
+line-refusal : (size k place : ℕ) → lineOf size (refusedBy k place) ≡ refusalLine (numbersOf (Refused k place))
+unfolding lineOf textOf toldOf lineBy
+line-refusal size k place = refl
+
+line-fits-by : (size b : ℕ) (x : Outcome) → 32 ≤ size → b < 100000000000000000000 → Below x → PlaceIn b x → length (lineOf size x) ≤ min size most
+unfolding Below PlaceIn room
+line-fits-by size b (refusedBy k place) h l code there = omega (arith, refusal-short k place (omega arith) (omega arith), ap length (line-refusal size k place))
+line-fits-by size b (key t f) h l code there = elim (decLe (length t) (room size)) [
+  | yes m ↦ omega (arith, ap length (line-answer size t f m), answer-long (length t) f t)
+  | no m ↦ omega (arith, ap length (line-long size t f (omega arith)), refusal-short 9 (min (length t) most) (omega arith) (omega arith))
+]
+
+line-fits : (c : Settings) (start : Start) (s : List ℕ) (size : ℕ) (name : Text) → 32 ≤ size → length s < cap → length (lineFor c start s size name) ≤ min size most
+unfolding lineFor
+line-fits c start s size name h l = line-fits-by size (length s + 96) (callOf c start s name) h (omega arith) (call-below c start s name) (call-in c start s name)
+
+taken-some : (f : Text → Text) (size n : ℕ) (block : List ℕ) → placeOf 10 block < length block → ((name : Text) → length (f name) ≤ size) → 0 < takeLines f size (linesFrom (suc n) block) .read
+unfolding andTaken
+taken-some f size n block h l = rw (lines-more n block h, take-fits f size _ (linesFrom n (drop (suc (placeOf 10 block)) block)) (l _)) (omega arith)
+
+-- with a buffer of 32 bytes or more, a block that holds a whole line is read on: no name and no pack can stop it
+pub lines-progress : (c : Settings) (start : Start) (s block out o : List ℕ) (r : Lines) → LinesIs (lineFor c start s (length out)) block out r o
+    → 32 ≤ length out → length s < cap → placeOf 10 block < length block → 0 < r .read
+unfolding taken wholeLines
+lines-progress c start s block out o r x h l there =
+    let n : length block ≡ suc (length block - 1) = omega arith in
+    rw (x .result, n) (taken-some (lineFor c start s (length out)) (min (length out) most) (length block - 1) block there (λ name. line-fits c start s (length out) name h l))
