@@ -1,21 +1,19 @@
 -- The face for C, from the promises below it. Assumes nothing.
-use mathlib.Core.Path.{_≡_, refl, sym, ap, ap₂, _∙_}
+use mathlib.Core.Path.{_≡_, refl, sym, ap, _∙_}
 use mathlib.Core.Bool.{Bool, true, false}
 use mathlib.Core.List.{List}
 use Prim.Native.Nat.{ℕ, _≤_, _<_}
-use lib.Dec.{ltb}
 use lib.ListN.{length, set}
-use lib.Seq.{sets}
 use borrow.Author.Tests.{lt-ltb, le-ltb}
 use mir.Val.{boolByte}
-use Rattle.base.specs.Pick.{pick, pick-yes, pick-no}
+use Rattle.base.specs.Pick.{pick-yes, pick-no}
 use Rattle.base.proofs.One.{one}
 use Rattle.choices.specs.Texts.{Text}
 use Rattle.pack.specs.Packs.{packOf, verdictOf}
 use Rattle.pack.specs.declared.sections.Checked.{Checked}
 use Rattle.pack.specs.declared.sections.Checked.the-variants as checked
-use Rattle.engine.specs.Calls.{Outcome, toldOf, filledBy, SpellIs, Numbers, numbersOf}
-use Rattle.engine.specs.Lines.{taken, lineFor, LinesIs}
+use Rattle.engine.specs.Calls.{Outcome, SpellIs, numbersOf}
+use Rattle.engine.specs.Lines.{lineFor, LinesIs}
 use Rattle.engine.specs.declared.call.Settings.{Settings}
 use Rattle.engine.specs.declared.call.Start.{Start}
 use Rattle.engine.specs.declared.lines.Lines.{Lines}

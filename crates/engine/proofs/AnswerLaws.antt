@@ -1,19 +1,17 @@
 -- From a spelled name to a call's answer: what fits, what is written, and the refusals in their order. Assumes nothing.
 use mathlib.Core.Path.{_≡_, refl, sym, ap, ap₂, _∙_}
 use mathlib.Core.Bool.{Bool, true, false}
-use mathlib.Core.List.{List, [], _∷_, _++_, map}
-use Prim.Native.Nat.{ℕ, zero, suc, _+_, _-_, _*_, _≤_, _<_, min}
+use mathlib.Core.List.{List, [], _∷_, map}
+use Prim.Native.Nat.{ℕ, zero, suc, _-_, _*_, _≤_, _<_, min}
 use native.Mathlib.Nat.{zero-add}
 use native.Mathlib.Omega.{arith}
 use lib.Dec.{eqb, leb}
-use lib.ListN.{length, getD, take, drop, length-take, length-map}
+use lib.ListN.{length, take, drop, length-take, length-map}
 use lib.Seq.{sets, take-at, sets-eq, length-sets}
 use borrow.Author.Tests.{eq-eqb, ne-eqb, le-leb, lt-leb, leb-true, leb-false}
 use Rattle.base.specs.Pick.{pick, pick-yes, pick-no, pick-true, pick-false, pick-all, and-inv}
 use Rattle.base.proofs.One.{one}
-use Rattle.letters.specs.Reading.{firstIll, firstOutside}
 use Rattle.letters.specs.Lower.{lowerText, loweredAnswer, loweredBuffer, LoweredInto}
-use Rattle.letters.specs.declared.utf8.Found.the-variants.{Nothing}
 use Rattle.letters.specs.declared.lower_case.Lowered.{Lowered}
 use Rattle.letters.specs.declared.lower_case.Lowered.the-variants as lowered
 use Rattle.letters.proofs.LowerLaws.{lower-text-length}
@@ -24,15 +22,13 @@ use Rattle.name_parts.specs.declared.prefixes.NameType.{NameType}
 use Rattle.name_parts.specs.declared.prefixes.Prefix.{Prefix}
 use Rattle.name_parts.specs.declared.prefixes.Prefix.the-variants.{Parted, Whole}
 use Rattle.name_parts.proofs.Laws.{clash, slice-room}
-use Rattle.languages.specs.Sets.{BitsBelow}
-use Rattle.languages.specs.declared.sets.LanguageSet.{LanguageSet}
-use Rattle.pack.specs.Packs.{Verdict, accepted, refused, packOf}
+use Rattle.pack.specs.Packs.{refused, packOf}
 use Rattle.pack.specs.Guessing.{guessed, guessedAt}
 use Rattle.pack.proofs.Laws.{languages-few, guess-told, guess-below}
 use Rattle.choices.specs.Texts.{Text}
 use Rattle.engine.specs.Spelling.{Spelt, bad, good, onePart, partedAs, spelledName}
-use Rattle.engine.specs.Calls.{languageBy, settingsKnown, kindKnown, haveLanguages, stepsBy, stepsOf, startSet, spelledBy, Outcome, refusedBy, key, outcomeOf, onPack, checkedThen, callOf, toldOf, filledBy, SpellIs}
-use Rattle.engine.specs.Walks.{packIn, AtDesk, DeskIs, Ready, Scratch, callFor, FoundIs, FineName, stepsAt, startAt, Wrote, codeOf, ToldBy, Told, wholeBy, ToldWhole, answeredBy, wholeAnd, MeasuredBy, Measured}
+use Rattle.engine.specs.Calls.{settingsKnown, kindKnown, haveLanguages, stepsBy, stepsOf, spelledBy, Outcome, refusedBy, key, outcomeOf, onPack, checkedThen, callOf, toldOf, filledBy, SpellIs}
+use Rattle.engine.specs.Walks.{packIn, AtDesk, DeskIs, Ready, Scratch, callFor, FoundIs, FineName, stepsAt, startAt, codeOf, ToldBy, Told, wholeBy, ToldWhole, answeredBy, wholeAnd, MeasuredBy, Measured}
 use Rattle.engine.specs.declared.call.Call.{Call}
 use Rattle.engine.specs.declared.encode.Ends.{Ends}
 use Rattle.engine.specs.declared.spelling.Spelled.{Spelled}

@@ -1,12 +1,12 @@
 -- A word spelled by the lists of an accepted pack, and a name by its parts. Assumes nothing.
-use mathlib.Core.Path.{_≡_, refl, sym, ap, ap₂, _∙_}
+use mathlib.Core.Path.{_≡_, refl, sym, ap, _∙_}
 use mathlib.Core.Bool.{Bool, true, false}
-use mathlib.Core.List.{List, [], _∷_, _++_, map}
-use Prim.Native.Nat.{ℕ, zero, suc, _+_, _-_, _*_, _≤_, _<_, min}
+use mathlib.Core.List.{List, [], _∷_}
+use Prim.Native.Nat.{ℕ, _+_, _-_, _*_, _≤_, _<_, min}
 use native.Mathlib.Omega.{arith}
-use lib.Dec.{eqb, leb}
+use lib.Dec.{leb}
 use lib.ListN.{length, getD, take, drop, length-drop}
-use lib.Seq.{sets, take-all, length-sets}
+use lib.Seq.{take-all, length-sets}
 use borrow.Author.Tests.{eq-eqb, ne-eqb, le-leb}
 use Rattle.base.specs.Pick.{pick, and, pick-true, pick-false, pick-all, and-yes}
 use Rattle.languages.specs.Sets.{singleOf, BitsBelow}
@@ -23,8 +23,8 @@ use Rattle.name_parts.specs.declared.prefixes.NameType.the-variants.{Ashkenazi,
 use Rattle.name_parts.specs.declared.prefixes.Prefix.{Prefix}
 use Rattle.name_parts.specs.declared.prefixes.Prefix.the-variants.{Parted, Whole}
 use Rattle.name_parts.proofs.Laws.{clash, split-within, rest-shorter, joined-shorter, joined-short, put-fits, put-long, slice-room}
-use Rattle.pack.specs.Packs.{Pack, Rule, listCount}
-use Rattle.pack.specs.Places.{textBytes, placesOf, listAt}
+use Rattle.pack.specs.Packs.{listCount}
+use Rattle.pack.specs.Places.{textBytes, listAt}
 use Rattle.pack.specs.Guessing.{guessed, guessedAt}
 use Rattle.pack.proofs.Laws.{languages-few, guesses-within, guess-told, guessed-below, list-told, list-fits}
 use Rattle.choices.specs.Texts.{Text}
@@ -33,10 +33,9 @@ use Rattle.phoneme_builder.specs.Passes.{wordOf, joined}
 use Rattle.phoneme_builder.specs.Walks.{WordIs, placed, placedAs, areBuffers, areTables, arePlaces, spellings, answerOf, answered}
 use Rattle.phoneme_builder.specs.declared.words.Worded.{Worded}
 use Rattle.phoneme_builder.specs.declared.words.Worded.the-variants.{Done, TooLong, TooMany, Unfit}
-use Rattle.engine.specs.Spelling.{Spelt, bad, good, Steps, or, onePart, eachWord, partedAs, spelledName, afreshBy}
+use Rattle.engine.specs.Spelling.{bad, good, or, onePart, eachWord, partedAs, spelledName, afreshBy}
 use Rattle.engine.specs.Calls.{languageBy, languageOf, listOf, speltBy, wordBy, stepsBy}
-use Rattle.engine.specs.Walks as hyphens
-use Rattle.engine.specs.Walks.{packIn, AtDesk, Ready, Scratch, afreshOf, stepsAt, startAt, listsAt, Wrote, codeOf, ToldBy, Told, wholeBy, ToldWhole, EndedIs, bothOf}
+use Rattle.engine.specs.Walks.{packIn, Ready, Scratch, afreshOf, stepsAt, startAt, listsAt, codeOf, ToldBy, Told, wholeBy, ToldWhole, EndedIs, bothOf, HyphenAt}
 use Rattle.engine.proofs.SpellingLaws.{not-or, parted-split, name-parted, name-plain, name-words}
 use Rattle.engine.proofs.ToldLaws.{both-told}
 use Rattle.engine.specs.declared.call.Call.{Call}
@@ -99,9 +98,6 @@ module _ (s places : List ℕ) (call : Call) (w : Ready s places call) where
 
   pub names-within : call .guesses ≤ length s
   names-within = guesses-within s (packIn s) (call .guesses) (w .desk .is) (w .desk .guesses-are)
-
-  pub names-some : 1 ≤ call .guesses
-  names-some = omega (arith, w .desk .guesses-are)
 
   -- the set that a name starts with, as it is found
   pub start-told : (t : Text) (g : LanguageSet) → g ≡ pick (call .fresh) (guessedAt s (call .guesses) (call .languages) t) (call .set) → g ≡ startAt s call t
@@ -286,10 +282,10 @@ module _ (a : Worded) (at : ℕ) where
   unfolding EndedIs
   ended-unfit r e = rw e tt
 
-pub hyphen-none : (o : List ℕ) (at p : ℕ) → p ≡ 0 → hyphens.Parted o o at p at
+pub hyphen-none : (o : List ℕ) (at p : ℕ) → p ≡ 0 → HyphenAt o o at p at
 hyphen-none o at p e = record { first = λ h. (refl, refl); later = λ h. absurd (h e) }
 
-pub hyphen-put : (o o′ : List ℕ) (at p r : ℕ) → (p ≡ 0 → ⊥) → Put o o′ at r (45 ∷ []) → hyphens.Parted o o′ at p r
+pub hyphen-put : (o o′ : List ℕ) (at p r : ℕ) → (p ≡ 0 → ⊥) → Put o o′ at r (45 ∷ []) → HyphenAt o o′ at p r
 hyphen-put o o′ at p r h x = record { first = λ e. absurd (h e); later = λ k. x }
 
 module _ (g : LanguageSet) (other : ℕ) (x : Single) (e : x ≡ singleOf g) where

@@ -1,8 +1,8 @@
 -- What `spell_name` and `spell_words` ask of each other. Assumes nothing.
-use mathlib.Core.Path.{_≡_, refl, sym, ap, ap₂, _∙_}
-use mathlib.Core.Bool.{Bool, true, false}
-use mathlib.Core.List.{List, [], _∷_, _++_}
-use Prim.Native.Nat.{ℕ, zero, suc, _+_, _-_, _*_, _≤_, _<_, zero-le}
+use mathlib.Core.Path.{_≡_, refl, _∙_}
+use mathlib.Core.Bool.{false}
+use mathlib.Core.List.{List}
+use Prim.Native.Nat.{ℕ, _-_, _*_, _≤_, _<_, zero-le}
 use native.Mathlib.Omega.{arith}
 use lib.ListN.{length, take, drop}
 use Rattle.base.specs.Pick.{pick}
@@ -15,9 +15,7 @@ use Rattle.name_parts.specs.declared.prefixes.Prefix.{Prefix}
 use Rattle.name_parts.specs.declared.prefixes.Prefix.the-variants.{Parted}
 use Rattle.name_parts.proofs.Laws.{slice-room, word-later, past-within, word-shorter}
 use Rattle.engine.specs.Spelling.{Spelt, partedAs, spelledName, eachWord, afreshBy}
-use Rattle.engine.specs.Calls.{stepsBy}
-use Rattle.engine.specs.Walks.{Ready, Scratch, afreshOf, stepsAt, startAt, Told, bothOf}
-use Rattle.engine.specs.Walks as walks
+use Rattle.engine.specs.Walks.{Scratch, afreshOf, stepsAt, startAt, Told, bothOf, HyphenAt}
 use Rattle.engine.specs.declared.call.Call.{Call}
 use Rattle.engine.specs.declared.encode.Ends.{Ends}
 use Rattle.engine.proofs.ToldLaws.{WordsTold, words-start, words-end, words-place, words-turn, a-word}
@@ -88,7 +86,7 @@ module _ {f : Text → Spelt} {name : Text} {o₀ o : List ℕ} {at p : ℕ} {al
       pub held-less : (p′ : ℕ) → p′ ≡ pastWord name p → length name - p′ < length name - p
       held-less p′ e = omega (arith, e, word-later name p (a-word name p w ew some), past-within name p (a-word name p w ew some))
 
-      module _ {o₁ : List ℕ} {q : ℕ} (h : walks.Parted o o₁ (all .at) p q) where
+      module _ {o₁ : List ℕ} {q : ℕ} (h : HyphenAt o o₁ (all .at) p q) where
         pub held-place : q ≤ cap
         held-place = words-place w ew some h (k .told)
 

@@ -1,22 +1,20 @@
 -- Answers in a buffer, one after the other: what the functions of a name tell. Assumes nothing.
 use mathlib.Core.Path.{_≡_, refl, sym, ap, ap₂, _∙_}
-use mathlib.Core.Bool.{Bool, true, false}
+use mathlib.Core.Bool.{Bool, false}
 use mathlib.Core.List.{List, [], _∷_, _++_}
-use Prim.Native.Nat.{ℕ, zero, suc, _+_, _-_, _≤_, _<_, min}
-use native.Mathlib.Nat.{not-suc-le-zero}
+use Prim.Native.Nat.{ℕ, _+_, _≤_, _<_}
 use native.Mathlib.Omega.{arith}
-use lib.Dec.{eqb}
 use lib.ListN.{length, drop, length-append}
 use lib.Seq.{sets}
 use borrow.Author.Tests.{eq-eqb, ne-eqb}
-use Rattle.base.specs.Pick.{pick, pick-true, pick-false}
+use Rattle.base.specs.Pick.{pick-true, pick-false}
 use Rattle.base.proofs.Stores.{sets-then}
 use Rattle.choices.specs.Texts.{Text}
 use Rattle.name_parts.specs.Writing.{cap, Put}
 use Rattle.name_parts.specs.Words.{wordsOf, wordAt, pastWord}
-use Rattle.name_parts.proofs.Laws.{clash, put-long, put-place, words-none, words-next, word-later}
+use Rattle.name_parts.proofs.Laws.{put-long, put-place, words-none, words-next, word-later}
 use Rattle.engine.specs.Spelling.{Spelt, bad, good, or, both, hyphened, andWords, eachWord}
-use Rattle.engine.specs.Walks.{Wrote, codeOf, ToldBy, Told, ToldWhole, bothOf, Parted}
+use Rattle.engine.specs.Walks.{Wrote, codeOf, ToldBy, Told, bothOf, HyphenAt}
 use Rattle.engine.specs.declared.encode.Ends.{Ends}
 
 -- ---- texts one after the other
@@ -157,7 +155,7 @@ module _ {f : Text → Spelt} {name : Text} {o₀ o : List ℕ} {at p : ℕ} {al
   pub words-end : WordsTold f name o₀ o at p all → length w ≡ 0 → Told (eachWord f (wordsOf name)) o₀ o at all
   words-end k h = end-by (k .fits) (k .room) (k .so-far) h
 
-  module _ (some : length w ≡ 0 → ⊥) {o₁ : List ℕ} {q : ℕ} (h : Parted o o₁ (all .at) p q) where
+  module _ (some : length w ≡ 0 → ⊥) {o₁ : List ℕ} {q : ℕ} (h : HyphenAt o o₁ (all .at) p q) where
     place-by : at ≤ cap → Begun f name o₀ o at p all → q ≤ cap
     place-by fits (not-yet ep eo ea) = omega (arith, h .first ep .0, ap (λ (z : Ends). z .at) ea)
     place-by fits (begun x later told rest) = put-place _ _ _ _ _ (h .later later)

@@ -7,7 +7,7 @@ use lib.Dec.{eqb, leb}
 use lib.ListN.{length, getD}
 use lib.Seq.{sets}
 use Rattle.base.specs.Pick.{pick}
-use Rattle.languages.specs.Sets.{singleOf, BitsBelow}
+use Rattle.languages.specs.Sets.{BitsBelow}
 use Rattle.languages.specs.Names.{namePlace}
 use Rattle.languages.specs.declared.sets.LanguageSet.{LanguageSet}
 use Rattle.letters.specs.Reading.{firstIll, firstOutside}
@@ -21,7 +21,7 @@ use Rattle.choices.specs.Texts.{Text}
 use Rattle.phoneme_builder.specs.declared.words.Worded.{Worded}
 use Rattle.phoneme_builder.specs.declared.words.Worded.the-variants.{Done, TooLong, TooMany, Unfit}
 use Rattle.engine.specs.Spelling.{Spelt, bad, good, Steps, or}
-use Rattle.engine.specs.Calls.{languageBy, stepsBy, startSet, typeOf, settingsKnown, haveLanguages, Outcome, refusedBy}
+use Rattle.engine.specs.Calls.{stepsBy, startSet, typeOf, settingsKnown, haveLanguages, Outcome, refusedBy}
 use Rattle.engine.specs.declared.spelling.Spelled.{Spelled}
 use Rattle.engine.specs.declared.spelling.Spelled.the-variants as spelled
 use Rattle.engine.specs.declared.call.Settings.{Settings}
@@ -153,7 +153,7 @@ unfoldable pub bothOf : Ends → Ends → ℕ → Ends
 bothOf first second at = pick (eqb (first .code) 0) (record { at = at; flag = or (first .flag) (second .flag); code = second .code }) first
 
 -- a hyphen where the name is read already
-pub record Parted (o o′ : List ℕ) (at p next : ℕ) : Type 0 where
+pub record HyphenAt (o o′ : List ℕ) (at p next : ℕ) : Type 0 where
   pub first : p ≡ 0 → (next ≡ at) × (o′ ≡ o)
   pub later : (p ≡ 0 → ⊥) → Put o o′ at next (45 ∷ [])
 

@@ -12,7 +12,7 @@ ghost use Rattle.pack.specs.Packs.{listCount};
 ghost use Rattle.pack.specs.Guessing.{guessedAt};
 ghost use Rattle.engine.specs.Spelling.{partedAs, or, spelledName, onePart, eachWord, afreshBy};
 ghost use Rattle.engine.specs.Calls.{languageBy, languageOf, wordBy};
-ghost use Rattle.engine.specs.Walks.{packIn, Ready, Scratch, stepsAt, startAt, listsAt, EndedIs, Told, ToldWhole, bothOf, Parted};
+ghost use Rattle.engine.specs.Walks.{packIn, Ready, Scratch, stepsAt, startAt, listsAt, EndedIs, Told, ToldWhole, bothOf, HyphenAt};
 use crate::call::Call;
 use crate::call::afresh;
 use languages::LanguageSet;
@@ -232,7 +232,7 @@ fn middle(out: &mut [u8], at: usize) -> usize
 
 // Between words, and not before the first: p is how far the name is read.
 fn hyphen(out: &mut [u8], at: usize, p: usize) -> usize
-    ensures { λ r. ⌜ Parted (now (out .entry)) (now (out .exit)) at p r ⌝ }
+    ensures { λ r. ⌜ HyphenAt (now (out .entry)) (now (out .exit)) at p r ⌝ }
 {
     if p == 0 {
         at

@@ -218,9 +218,6 @@ module _ (s : List ℕ) (p : ℕ) where
     pub past-within : pastWord s p ≤ length s
     past-within = omega (arith, past-is, within, goes-some from goes)
 
-    pub word-past : (p < pastWord s p) × (pastWord s p ≤ length s)
-    word-past = (word-later, past-within)
-
     -- a word is its own only word
     words-again : wordsOf (wordAt s p) ≡ wordAt s p ∷ []
     words-again = rw word-is (words-one _ (goes-cut from ∙ goes) (letters-cut from ∙ sym (length-take-le _ _ (letters-within from))))
@@ -307,9 +304,6 @@ module _ (s : List ℕ) (keep skip : ℕ) (e : splitOf s ≡ Parted keep skip) w
   pub joined-shorter : length (joinedName keep skip s) < length s
   unfolding joinedName
   joined-shorter = let w = split-within in omega (arith, length-append (take keep s) (drop skip s), length-take keep s, length-drop skip s)
-
-  pub split-shorter : (length (drop skip s) < length s) × (length (joinedName keep skip s) < length s)
-  split-shorter = (rest-shorter, joined-shorter)
 
 -- ---- joined words are no longer than their name
 
