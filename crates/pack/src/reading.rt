@@ -3,7 +3,7 @@ ghost use mathlib.Core.Path.{_≡_};
 ghost use Rattle.pack.specs.Walks.{ByteIs, numberAt};
 
 // A number of a pack and the place behind it, or that bytes run out.
-pub(crate) enum Number {
+pub enum Number {
     Of { value: u32, next: usize },
     Cut,
 }
@@ -22,7 +22,7 @@ pub(crate) fn byte_at(s: &[u8], at: usize) -> u32
 }
 
 // The number of 2 bytes at a place ("Counts are big-endian").
-pub(crate) fn count_at(s: &[u8], at: usize) -> Number
+pub fn count_at(s: &[u8], at: usize) -> Number
     ensures { λ r. ⌜ r ≡ numberAt 2 (now (s .entry)) at ⌝ }
 {
     let n = s.len();
@@ -39,7 +39,7 @@ pub(crate) fn count_at(s: &[u8], at: usize) -> Number
 }
 
 // The number of 4 bytes at a place.
-pub(crate) fn mask_at(s: &[u8], at: usize) -> Number
+pub fn mask_at(s: &[u8], at: usize) -> Number
     ensures { λ r. ⌜ r ≡ numberAt 4 (now (s .entry)) at ⌝ }
 {
     let n = s.len();

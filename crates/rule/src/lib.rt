@@ -10,3 +10,4 @@ pub use matching::is_rule_text;
 pub use matching::rule_matches;
 pub use phonemes::alternative;
 pub use phonemes::check_expression;
+pub use phonemes::names_mask;

@@ -62,7 +62,7 @@ fn names_part(a: &[u8]) -> &[u8]
 }
 
 // The bits of names joined by `+`, or that one of them is not listed.
-fn names_mask(names: &[u8], joined: &[u8]) -> Listed
+pub fn names_mask(names: &[u8], joined: &[u8]) -> Listed
     ensures { λ r. ⌜ r ≡ namesMask (now (names .entry)) (cutAt plus (now (joined .entry))) ⌝ }
 {
     let n = joined.len();

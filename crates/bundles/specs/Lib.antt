@@ -1,0 +1,2 @@
+pub mod Bundles
+pub mod Walks

@@ -1,0 +1,227 @@
+-- Laws of the finished list: under each first character it has what is held there, its first characters do not fall, and it has as many
+-- rules as stay. Assumes nothing.
+use mathlib.Core.Path.{_≡_, refl, sym, ap, ap₂, _∙_}
+use mathlib.Core.Bool.{Bool, true, false, false≢true}
+use mathlib.Core.List.{List, [], _∷_, _++_, append-nil}
+use Prim.Native.Nat.{ℕ, zero, suc, _+_, _*_, _/_, _≤_, _<_}
+use native.Mathlib.Decide.{ℕ-discrete}
+use native.Mathlib.Omega.{arith}
+use lib.ListN.{length, length-append}
+use borrow.Author.Tests.{eqb-true, ne-eqb, eq-eqb}
+use Rattle.base.specs.Pick.{pick, pick-true, pick-false, pick-all}
+use Rattle.held.specs.Met.{Met, end, rule, file, Map, empty, isNil, add, extend, held, brings, spread, codes, finished, entries}
+use Rattle.held.specs.Tables.{noted, kept, staysIn, All, Bounded, Apart, Each, Within}
+use Rattle.held.proofs.Laws.{or-left, or-right, held-brings}
+use Rattle.held.proofs.Places.{noted-apart, noted-all}
+use Rattle.held.proofs.Kept.{under, under-append, kept-held}
+
+nil-some : {R : Type 0} (l : List R) → isNil l ≡ false → 0 < length l
+unfolding isNil
+nil-some [] e = absurd (false≢true (sym e))
+nil-some (r ∷ l) e = omega arith
+
+module _ {R : Type 0} (first : R → ℕ) where
+  -- every rule's first character is c
+  abbrev Only : ℕ → List R → Type 0
+  Only c [] = Unit {0}
+  Only c (r ∷ rs) = (first r ≡ c) × Only c rs
+
+  -- first characters do not fall, and none is below c
+  abbrev pub From : ℕ → List R → Type 0
+  From c [] = Unit {0}
+  From c (r ∷ rs) = (c ≤ first r) × From (first r) rs
+
+  -- ---- the rules of one first character
+
+  under-here : (c : ℕ) (r : R) (l : List R) → first r ≡ c → under first c (r ∷ l) ≡ r ∷ under first c l
+  unfolding under
+  under-here c r l e = pick-true _ _ _ (eq-eqb (first r) c e)
+
+  pub under-there : (c : ℕ) (r : R) (l : List R) → (first r ≡ c → ⊥) → under first c (r ∷ l) ≡ under first c l
+  unfolding under
+  under-there c r l n = pick-false _ _ _ (ne-eqb (first r) c n)
+
+  under-same : (c : ℕ) (l : List R) → Only c l → under first c l ≡ l
+  unfolding under
+  under-same c [] o = refl
+  under-same c (r ∷ l) o = under-here c r l (o .0) ∙ ap (λ (l : List R). r ∷ l) (under-same c l (o .1))
+
+  under-other : (c e : ℕ) (l : List R) → (c ≡ e → ⊥) → Only c l → under first e l ≡ []
+  unfolding under
+  under-other c e [] n o = refl
+  under-other c e (r ∷ l) n o = under-there e r l (λ p. n (sym (o .0) ∙ p)) ∙ under-other c e l n (o .1)
+
+  under-low : (c b : ℕ) (l : List R) → c < b → From b l → under first c l ≡ []
+  unfolding under
+  under-low c b [] h f = refl
+  under-low c b (r ∷ l) h f = let w = f .0 in under-there c r l (λ p. omega arith) ∙ under-low c (first r) l (omega arith) (f .1)
+
+  -- a rule is held under its own first character
+  only-append : (c : ℕ) (a b : List R) → Only c a → Only c b → Only c (a ++ b)
+  only-append c [] b x y = y
+  only-append c (r ∷ a) b x y = (x .0, only-append c a b (x .1) y)
+
+  pick-only : (c : ℕ) (t : Bool) (a b : List R) → (t ≡ true → Only c a) → (t ≡ false → Only c b) → Only c (pick t a b)
+  unfolding pick
+  pick-only c true a b p q = p refl
+  pick-only c false a b p q = q refl
+
+  held-only : (t : Met R) (m : Map R) → ((c : ℕ) → Only c (m c)) → (c : ℕ) → Only c (held first m t c)
+  unfolding held add extend empty
+  held-only end m o c = o c
+  held-only (rule r t) m o c = held-only t (add first m r) (λ d. pick-only d _ _ _ (λ p. only-append d (m d) (r ∷ []) (o d) (eqb-true _ _ p, tt)) (λ p. o d)) c
+  held-only (file i t) m o c = let w = held-only i empty (λ d. tt) in held-only t (extend m (held first empty i)) (λ d. pick-only d _ _ _ (λ p. o d) (λ p. w d)) c
+
+  from-below : (a b : ℕ) (l : List R) → a ≤ b → From b l → From a l
+  from-below a b [] h f = tt
+  from-below a b (r ∷ l) h f = let w = f .0 in (omega arith, f .1)
+
+  from-append : (a : ℕ) (l rest : List R) → Only a l → From a rest → From a (l ++ rest)
+  from-append a [] rest o f = f
+  from-append a (r ∷ l) rest o f = let e = o .0 in (omega arith, rw e (from-append a l rest (o .1) f))
+
+  module _ (m : Map R) (o : (c : ℕ) → Only c (m c)) where
+    spread-none : (k a e : ℕ) → e < a → under first e (spread m k a) ≡ []
+    unfolding spread under
+    spread-none zero a e h = refl
+    spread-none (suc k) a e h =
+        under-append first e (m a) (spread m k (suc a)) ∙ ap₂ _++_ (under-other a e (m a) (λ p. omega arith) (o a)) (spread-none k (suc a) e (omega arith))
+
+    spread-under : (k a e : ℕ) → a ≤ e → e < a + k → under first e (spread m k a) ≡ m e
+    unfolding spread
+    spread-under zero a e h l = absurd (omega arith)
+    spread-under (suc k) a e h l = under-append first e (m a) (spread m k (suc a)) ∙ elim (ℕ-discrete a e) [
+      | yes p ↦ rw (← p) (ap₂ _++_ (under-same a (m a) (o a)) (spread-none k (suc a) a (omega arith)) ∙ append-nil (m a))
+      | no n ↦ ap₂ _++_ (under-other a e (m a) n (o a)) (spread-under k (suc a) e (omega arith) (omega arith))
+    ]
+
+    spread-from : (k a : ℕ) → From a (spread m k a)
+    unfolding spread
+    spread-from zero a = tt
+    spread-from (suc k) a = from-append a (m a) (spread m k (suc a)) (o a) (from-below a (suc a) (spread m k (suc a)) (omega arith) (spread-from k (suc a)))
+
+  -- "by first character and then file order"
+  pub finished-under : (t : Met R) (c : ℕ) → c < codes → under first c (finished first t) ≡ held first empty t c
+  unfolding finished empty
+  finished-under t c h = spread-under (held first empty t) (held-only t empty (λ d. tt)) codes 0 c (omega arith) (omega arith)
+
+  pub finished-from : (t : Met R) → From 0 (finished first t)
+  unfolding finished empty
+  finished-from t = spread-from (held first empty t) (held-only t empty (λ d. tt)) codes 0
+
+  -- ---- a list by its first characters
+
+  spread-same : (m w : Map R) (k a : ℕ) → ((c : ℕ) → a ≤ c → c < a + k → m c ≡ w c) → spread m k a ≡ spread w k a
+  unfolding spread
+  spread-same m w zero a h = refl
+  spread-same m w (suc k) a h = ap₂ _++_ (h a (omega arith) (omega arith)) (spread-same m w k (suc a) (λ c x y. h c (omega arith) (omega arith)))
+
+  abbrev pub Sorted : List R → ℕ → ℕ → List R
+  Sorted l k a = spread (λ c. under first c l) k a
+
+  sorted-nil : (k a : ℕ) → Sorted [] k a ≡ []
+  unfolding spread under
+  sorted-nil zero a = refl
+  sorted-nil (suc k) a = sorted-nil k (suc a)
+
+  sorted-past : (r : R) (l : List R) (k a : ℕ) → first r < a → Sorted (r ∷ l) k a ≡ Sorted l k a
+  sorted-past r l k a h = spread-same (λ c. under first c (r ∷ l)) (λ c. under first c l) k a (λ c x y. under-there c r l (λ p. omega arith))
+
+  sorted-more : (r : R) (l : List R) (k a : ℕ) → a ≤ first r → first r < a + k → length (Sorted (r ∷ l) k a) ≡ suc (length (Sorted l k a))
+  unfolding spread
+  sorted-more r l zero a h g = absurd (omega arith)
+  sorted-more r l (suc k) a h g =
+      length-append (under first a (r ∷ l)) (Sorted (r ∷ l) k (suc a)) ∙ elim (ℕ-discrete (first r) a) [
+        | yes p ↦ rw (under-here a r l p, sorted-past r l k (suc a) (omega arith)) (omega (arith, length-append (under first a l) (Sorted l k (suc a))))
+        | no p ↦ rw (under-there a r l p) (omega (arith, sorted-more r l k (suc a) (omega arith) (omega arith), length-append (under first a l) (Sorted l k (suc a))))
+      ]
+
+  sorted-length : (l : List R) (k : ℕ) → All (λ r. first r < k) l → length (Sorted l k 0) ≡ length l
+  unfolding All
+  sorted-length [] k a = ap length (sorted-nil k 0)
+  sorted-length (r ∷ l) k a = sorted-more r l k 0 (omega arith) (omega (arith, a .0)) ∙ ap suc (sorted-length l k (a .1))
+
+  -- a list in that order is itself
+  sorted-first : (r : R) (l : List R) (k a : ℕ) → From (first r) l → a ≤ first r → first r < a + k → Sorted (r ∷ l) k a ≡ r ∷ Sorted l k a
+  unfolding spread
+  sorted-first r l zero a f h g = absurd (omega arith)
+  sorted-first r l (suc k) a f h g = elim (ℕ-discrete (first r) a) [
+    | yes p ↦ rw (under-here a r l p, sorted-past r l k (suc a) (omega arith)) refl
+    | no p ↦ rw (under-there a r l p, under-low a (first r) l (omega arith) f) (sorted-first r l k (suc a) f (omega arith) (omega arith))
+  ]
+
+  pub sorted-is : (l : List R) (k a : ℕ) → From a l → All (λ r. first r < a + k) l → Sorted l k a ≡ l
+  unfolding All
+  sorted-is [] k a f b = sorted-nil k a
+  sorted-is (r ∷ l) k a f b =
+      sorted-first r l k a (f .1) (f .0) (b .0) ∙ ap (λ (x : List R). r ∷ x) (sorted-is l k a (from-below a (first r) l (f .0) (f .1)) (b .1))
+
+  -- ---- how many rules stay, and how many numbers are noted
+
+  all-behind : (P : R → Type 0) (l : List R) (r : R) → All P l → P r → All P (l ++ (r ∷ []))
+  unfolding All
+  all-behind P [] r a p = (p, tt)
+  all-behind P (x ∷ l) r a p = (a .0, all-behind P l r (a .1) p)
+
+  kept-all : (P : R → Type 0) (vs : List ℕ) (t : Met R) (n : ℕ) (l : List R) → Each P t → All P l → All P (kept first vs n l t)
+  unfolding kept Each
+  kept-all P vs end n l e a = a
+  kept-all P vs (rule r t) n l e a = kept-all P vs t n _ (e .1) (pick-all (All P) (staysIn (first r) n vs) _ _ (all-behind P l r a (e .0)) a)
+  kept-all P vs (file i t) n l e a = kept-all P vs t _ _ (e .1) (kept-all P vs i (n + 1) l (e .0) a)
+
+  each-brings : (Q : ℕ → Type 0) (t : Met R) → ((c : ℕ) → brings first c t ≡ true → Q c) → Each (λ r. Q (first r)) t
+  unfolding Each brings
+  each-brings Q end h = tt
+  each-brings Q (rule r t) h = (h (first r) (or-left _ (brings first (first r) t) (eq-eqb (first r) (first r) refl)), each-brings Q t (λ c p. h c (or-right _ _ p)))
+  each-brings Q (file i t) h = (each-brings Q i (λ c p. h c (or-left _ _ p)), each-brings Q t (λ c p. h c (or-right _ _ p)))
+
+  each-both : (P Q S : R → Type 0) (t : Met R) → ((r : R) → P r → Q r → S r) → Each P t → Each Q t → Each S t
+  unfolding Each
+  each-both P Q S end h p q = tt
+  each-both P Q S (rule r t) h p q = (h r (p .0) (q .0), each-both P Q S t h (p .1) (q .1))
+  each-both P Q S (file i t) h p q = (each-both P Q S i h (p .0) (q .0), each-both P Q S t h (p .1) (q .1))
+
+  -- numbers of characters that grow, something being held of each
+  apart-spread : (m : Map R) (k a b : ℕ) (vs : List ℕ) → b ≤ a + k → Apart a vs → All (λ v. (v / 512 < b) × (isNil (m (v / 512)) ≡ false)) vs → length vs ≤ length (spread m k a)
+  unfolding spread Apart All
+  apart-spread m zero a b [] h p q = omega arith
+  apart-spread m zero a b (v ∷ vs) h p q = absurd (omega (arith, p .0, q .0 .0))
+  apart-spread m (suc k) a b [] h p q = omega arith
+  apart-spread m (suc k) a b (v ∷ vs) h p q = elim (ℕ-discrete (v / 512) a) [
+    | yes e ↦
+        let w = apart-spread m k (suc a) b vs (omega arith) (rw e at (p .1)) (q .1) in
+        let s : isNil (m a) ≡ false = rw e at (q .0 .1) in
+        omega (arith, nil-some (m a) s, length-append (m a) (spread m k (suc a)))
+    | no e ↦
+        let w = apart-spread m k (suc a) b (v ∷ vs) (omega arith) (omega (arith, p .0), p .1) q in
+        omega (arith, length-append (m a) (spread m k (suc a)))
+  ]
+
+  module _ (t : Met R) (short : entries t ≤ 256) where
+    -- the finished list, by the rules that stay
+    pub finished-kept : finished first t ≡ Sorted (kept first (noted first 0 0 [] t) 0 [] t) codes 0
+    unfolding finished
+    finished-kept = spread-same (held first empty t) (λ c. under first c (kept first (noted first 0 0 [] t) 0 [] t)) codes 0 (λ c x y. sym (kept-held first c t short))
+
+    module _ (within : Within first t) where
+      pub kept-within : All (λ r. first r < codes) (kept first (noted first 0 0 [] t) 0 [] t)
+      unfolding All
+      kept-within = kept-all (λ r. first r < codes) _ t 0 [] within tt
+
+      -- as many rules stay as the finished list has
+      pub length-kept : length (kept first (noted first 0 0 [] t) 0 [] t) ≡ length (finished first t)
+      length-kept = sym (ap length finished-kept ∙ sorted-length _ codes kept-within)
+
+      -- no more numbers are noted
+      pub length-noted : length (noted first 0 0 [] t) ≤ length (finished first t)
+      unfolding All Apart finished
+      length-noted =
+          apart-spread (held first empty t) codes 0 codes (noted first 0 0 [] t) (omega arith) (noted-apart first t 0 0 [] (omega arith) (omega arith) tt)
+          (noted-all first _ t 0 0 [] (omega arith) (omega arith)
+          (each-both (λ r. first r < codes) (λ r. isNil (held first empty t (first r)) ≡ false) _ t
+          (λ r x y k l. let e : (512 * first r + k) / 512 ≡ first r = omega arith in rw e (x, y)) within
+          (each-brings (λ c. isNil (held first empty t c) ≡ false) t (λ c b. held-brings first c t empty b))) tt)
+
+      pub bounded-noted : Bounded (512 * codes) (noted first 0 0 [] t)
+      unfolding All Bounded
+      bounded-noted = noted-all first _ t 0 0 [] (omega arith) (omega arith) (each-both _ _ _ t (λ r x y k l. omega arith) within within) tt

@@ -1,0 +1,3 @@
+pub mod Met
+pub mod Files
+pub mod Tables

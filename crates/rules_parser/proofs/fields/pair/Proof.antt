@@ -1,0 +1,32 @@
+use Rattle.base.specs.Pick.{cases}
+use Rattle.rules_parser.specs.Fields.{pairAt}
+use Rattle.rules_parser.proofs.FieldLaws.{eqb-by}
+use borrow.Author.Needs.{needs}
+use Rattle.rules_parser.proofs.fields.pair.Statement.{statement}
+use Rattle.rules_parser.proofs.fields.pair.Tie as tie
+
+shared-slice-read-if2 : tie.Need-shared-slice-read-if2
+shared-slice-read-if2 c = search needs
+
+add-byte-at : tie.Need-add-byte-at
+add-byte-at c = search needs
+
+byte-at-requires : tie.Need-byte-at-requires
+byte-at-requires c κs = search needs
+
+returns : tie.Need-returns
+unfolding pairAt
+returns c = search (cases, eqb-by)
+
+returns-2 : tie.Need-returns-2
+unfolding pairAt
+returns-2 c = search cases
+
+returns-3 : tie.Need-returns-3
+unfolding pairAt
+returns-3 c = search cases
+
+pub pair-spec : {M : Type 1} → statement M
+pair-spec =
+    tie.close
+    (tie.spec shared-slice-read-if2 add-byte-at byte-at-requires returns returns-2 returns-3)

@@ -1,0 +1,19 @@
+use Rattle.base.specs.Pick.{cases}
+use Rattle.rules_parser.specs.Files.{countedOf}
+use borrow.Author.Needs.{needs}
+use Rattle.rules_parser.proofs.files.counted.Statement.{statement}
+use Rattle.rules_parser.proofs.files.counted.Tie as tie
+
+add-result : tie.Need-add-result
+add-result c = search needs
+
+returns : tie.Need-returns
+unfolding countedOf
+returns c = search cases
+
+returns-2 : tie.Need-returns-2
+unfolding countedOf
+returns-2 c = search cases
+
+pub counted-spec : {M : Type 1} → statement M
+counted-spec = tie.close (tie.spec add-result returns returns-2)

@@ -1,0 +1,46 @@
+use Rattle.base.specs.Pick.{cases}
+use Rattle.rules_parser.specs.Lines.{nameAt}
+use Rattle.rules_parser.proofs.LineLaws.{in-order}
+use borrow.Author.Needs.{needs}
+use Rattle.rules_parser.proofs.lines.name_line.Statement.{statement}
+use Rattle.rules_parser.proofs.lines.name_line.Tie as tie
+
+field-at-requires : tie.Need-field-at-requires
+field-at-requires c κs = search needs
+
+enum-known-name : tie.Need-enum-known-name
+enum-known-name c = search needs
+
+ends-requires : tie.Need-ends-requires
+ends-requires c κs = search needs
+
+name-told-requires : tie.Need-name-told-requires
+name-told-requires c κs = search needs
+
+enum-told : tie.Need-enum-told
+enum-told c = search needs
+
+returns : tie.Need-returns
+unfolding nameAt
+returns c = search (in-order, cases)
+
+returns-2 : tie.Need-returns-2
+unfolding nameAt
+returns-2 c = search (in-order, cases)
+
+returns-3 : tie.Need-returns-3
+unfolding nameAt
+returns-3 c = search (in-order, cases)
+
+pub name-line-spec : {M : Type 1} → statement M
+name-line-spec =
+    tie.close
+    (tie.spec
+    field-at-requires
+    enum-known-name
+    ends-requires
+    name-told-requires
+    enum-told
+    returns
+    returns-2
+    returns-3)

@@ -1,0 +1,11 @@
+// The lines of rule files, guessing files and language lists ("Rule files and includes"; the Rust's rules_parser.rs).
+mod fields;
+mod files;
+mod lines;
+
+pub use fields::Text;
+pub use fields::part;
+pub use files::Item;
+pub use files::read_item;
+pub use lines::FileKind;
+pub use lines::Told;
