@@ -556,6 +556,349 @@ def spelling_random(rng, count):
             yield spell_case(data, settings, given, rng.choice((0, 5, 20, 80, 80, 200)), name_over(rng, sounds))
 
 
+# ---- loading a bundle
+
+LINE = b'"a" "" "" "o"'
+LISTS = ("rules", "approx", "exact")
+
+
+def load_case(bundle, name_type, room):
+    return unasked("bundle %s\nload %d %d" % (hex_of(bundle), name_type, room))
+
+
+def loads(bundle, name_type=1, rooms=(0, -1, 3)):
+    """A bundle at rooms that are so much longer than its pack; a refused one in six bytes."""
+    answer = second.load(name_type, bundle)
+    if answer[0]:
+        yield load_case(bundle, name_type, 6)
+        return
+    for more in rooms:
+        yield load_case(bundle, name_type, min(second.LONGEST_PACK, max(0, len(answer[1]) + more)))
+
+
+def files_with(changed=(), names=("any",), prefix="gen"):
+    """The files that a type needs, empty but for those that are given (None: missing)."""
+    files = {"%s_%s_%s" % (prefix, kind, name): b"" for kind in LISTS for name in names}
+    files.update({"%s_%s_common" % (prefix, kind): b"" for kind in LISTS[1:]})
+    files.update({prefix + "_lang": b"", prefix + "_languages": "\n".join(names).encode()})
+    files.update(changed)
+    return {name: content for name, content in files.items() if content is not None}
+
+
+def loads_with(changed, names=("any",), **more):
+    return loads(second.bundle_bytes(files_with(changed, names)), **more)
+
+
+def rule_line(*strings):
+    return b" ".join(b'"%s"' % string for string in strings)
+
+
+# 01, Rule files and includes, and readings 1 to 11, 16: what a line may be, and what it may not
+COMMENTS = [b"", b" ", b"\t ", b"//", b" // x", b"//\xff\x00", b"/", b"/ /", b"/* a */", b" \t/* a */\t ", b"/**/", b"/*/", b"/*/ */", b"/***/",
+            b"/* * /", b"/* a */ b", b"/* a */ // b", b"/* a */ /* b */", b"/* a */*/", b"/* /* */", b"/*\n*/", b"/*\n\n a */ ", b"/* \n // */",
+            b"/*\n*/ x", b"/*\n*/x\n*/", b"/*\n" + LINE + b"\n*/", b"/*", b"/*\n", b"/*\n*", b"/*\n*\n/", b"/* \xff\x00\n\x7f*/", b"*/", b"x /* a */",
+            b"/* a */\r", b"/*\r*/", b"/*\r\n*/\r", b"\r", b"\r\r", b" \r", b"\r ", b"//\r", b"\xef\xbb\xbf", b"\xef\xbb\xbf//", b"\xc2\xa0", b"\xe2\x80\xa8",
+            b"\x0b", b"\x0c", b"\x00", b"\x1a"]
+INCLUDES = [b"#include x", b" \t#include \t x \t", b"#include", b"#include ", b"#includex", b"#include x y", b"#include x//c", b"#include x // c",
+            b"#include x /* c */", b'#include "x"', b"#Include x", b"# include x", b"#include no", b"#include \xff", b"#include x\r", b"#include \xc3\xa9",
+            b"#include x.txt", b"#include\rx", b"#include gen_rules_any", b"#include //c", b"#include /*c", b"#include\xc2\xa0x", b"#", b"#include x\x00"]
+STRINGS = [LINE, LINE + b" // c", LINE + b"//c", LINE + b"/", LINE + b" / /", LINE + b" /* c */", LINE + b" x", LINE + b"x", LINE + b' ""', b" \t" + LINE + b"\t ",
+           LINE + b"//\xff\r", b'"a" "" ""', b'"a" "" "" "', b'"a""" "" "o"', b'"a" """" "o"', b'"a" "" """o"', b'"a"\t""\t \t"" "o"', b'"a"  "" "" "o"', b"a b c d",
+           b'a "" "" ""', b'"a" "" "" o', b'"a', b'"', b'"" "" "" ""', b'"a" "" "" ""', b'"a\t" "" "" "o"', b'" " " " " " " "', b'"\\" "" "" "o"', b'"\\"" "" "" ""',
+           b'"a//b" "" "" "//"', b'"/*" "" "" "*/"', b'"a" "" "" "o" //', b'"a"\r"" "" "o"', b'\r"a" "" "" "o"', b'"a" "" "" "o"\r', b'"a" "" "" "o"\r\r', b'"a\r" "" "" "o"',
+           b'"a\n" "" "" "o"', b'"#include" "" "" ""', b"'a' '' '' 'o'", b'\xef\xbb\xbf"a" "" "" "o"', b'"\xc2\xa0" "" "" "\xc2\x85"', b'"a"\xc2\xa0"" "" ""']
+STRINGS += [rule_line(b"a" + bad, b"", b"", b"") for bad in (b"\x00", b"\x1f", b"\x7f", b"\xff", b"\xc3", b"\xed\xa0\x80", b"\xc0\x80", b"\xf4\x90\x80\x80", b"\xf4\x8f\xbf\xbf")]
+# readings 18 and 19
+EXPRESSIONS = ["(", ")", "()", "(|)", "(a|)", "((a|b))", "a]", "[any]", "a[", "a[any]b", "(a[any|b])", "a[]", "a[any+]", "a[any]]", "a[b[any]", "a|b", "(a[zz]|b[)", "(a",
+               "a[any+any]", "a[Any]", "[", "(a|b[any]|)", "a[any]|b", "a[any", "a[zz"]
+CONTEXTS = ["^", "$", "^$", "a$", "^^a", "]", "[a]b]", "[^^]", "[a^]", "[a-c]", "^[]", "[^]", "[abc]$", "^[abc]$", "[", "a[b]", "[a]b", "[a][b]", "[[a]", "^a", "$$", "^[abc]", "[]$", "[]",
+            "é[", "[é]", "(a|b)", "a.b", "\\"]
+STRINGS += [rule_line(b"a", b"", b"", text.encode()) for text in EXPRESSIONS]
+STRINGS += [rule_line(b"a", *pair, b"") for text in CONTEXTS for pair in ((text.encode(), b""), (b"", text.encode()))]
+GUESSES = [b"a any true", b"a any false", b"a any True", b"a any truex", b"a any", b"a", b"a any true x", b"a any true // c", b"a any true//c", b"a any+any true",
+           b"a any+ true", b"a +any true", b"a + true", b"a any,b true", b"a ANY true", b"a zz true", b"a zz x", b"^ any true", b"$ any true", b"^$ any true", b"^^ any true",
+           b"$$ any true", b"^a$ any true", b"$a any true", b"/a any true", b"/ any true", b"//a any true", b"/*a any true", b"/*a any true */", b"#include any true", b"# any true",
+           b"#include x", b'"a any true', b'a any" true', b'a any "true"', b'"a" "" "" "o"', b"a\x01 any true", b"a any\x7f true", b"a any true\x00", b"a\xff any true", b"a any\xff true",
+           b"\tany\ttrue", b"a\tany \t true ", b" a any true", b"a any true\r", b"a any\rtrue", b"a any\r true", b"[a] any true", b"[] any true", b"[^] any true", b"[^a] any true",
+           b"[a-b] any true", b"[a&] any true", b"[~] any true", b"a-&~ any true", b"[^^] any true", b"[a any true", b"a] any true", b"[a[] any true", b"a.b any true", b"(a) any true",
+           b"a| any true", b"a{1} any true", b"\\a any true", b"\xc3\xa9 any true", b"[\xc3\xa9\xcf\x89]x any false", b"\xef\xbb\xbfa any true", b"\xc2\xa0 any true", b"a any true any true",
+           b"a " + b"+".join([b"any"] * 90) + b" true", b". zz true", b"a zz " + b"true"]
+LANGUAGES = [b"any", b" any\t", b"any any", b"any // c", b"any//c", b"any /* c */", b"Any", b"common", b"commons", b"z" * 24, b"z" * 25, b"a" * 300, b"a1", b"\xc3\xa9", b"#include x",
+             b"any\r", b"an\ry", b"\xff", b'"any"', b"any+b", b"b\nany\nb", b"b\na", b"any\nany", b"a any true", LINE, b"\x00", b"common\nany", b"any\ncommon", b"a-b"]
+
+
+def layouts(line):
+    """A line alone, first, last, between, behind comments and with other ends."""
+    for before, behind in ((b"", b""), (b"", b"\n"), (b"", b"\r\n"), (b"\n", b""), (b"/*\n*/\n// \n", b"\n"), (b"\r\n \r\n", b"\r\n\r\n"), (b"", b"\r")):
+        yield before + line + behind
+
+
+def languages_in(content):
+    """Every name that a list may give."""
+    return sorted({"any"} | {word.decode() for word in content.split() if word.isalpha() and word.isascii() and len(word) < 30})
+
+
+def loading_lines():
+    """Each line in each kind of file, at several places."""
+    more = {"x": rule_line(b"b", b"", b"", b"p") + b"\n", b"\xff": b"", "é": LINE, '"x"': b"", "x//c": LINE}
+    for line in COMMENTS + INCLUDES + STRINGS:
+        for content in layouts(line):
+            yield from loads_with({**more, "gen_rules_any": content})
+        yield from loads_with({**more, "gen_rules_any": LINE + b"\n" + line + b"\n" + LINE})
+        yield from loads_with({**more, "gen_exact_common": b"\n#include y", "y": b"\n\n" + line})
+    for line in COMMENTS + GUESSES + [LINE]:
+        for content in layouts(line):
+            yield from loads_with({**more, "gen_lang": content})
+        yield from loads_with({**more, "gen_lang": b"a any true\n" + line + b"\nb any true"})
+    for line in COMMENTS + LANGUAGES:
+        for content in layouts(line):
+            yield from loads_with({**more, "gen_languages": content}, languages_in(content))
+        yield from loads_with({**more, "gen_languages": b"any\n" + line + b"\nb"}, languages_in(b"b " + line))
+
+
+def loading_orders():
+    """Faults that meet: in a line, in a guessing line, in several files."""
+    patterns, lefts, rights = [b"a", b"", b"a" * 256, b"\x01"], [b"", b"[", b"a" * 256, b"\x7f"], [b"", b"[", b"a" * 256, b"\xff"]
+    expressions = [b"o", b"(", b"a[", b"a[zz]", b"(b[zz]|a[)", b"o" * 256, b"\x00"]
+    for strings_ in itertools.product(patterns, lefts, rights, expressions):
+        yield from loads_with({"gen_approx_any": rule_line(*strings_)}, rooms=(0,))
+    for fields in itertools.product([b"a", b".", b"a" * 256, b"." * 256, b"a\x01"], [b"any", b"zz", b"\x01", b'"'], [b"true", b"x", b"tru\x01"]):
+        yield from loads_with({"gen_lang": b" ".join(fields)}, rooms=(0,))
+    names = sorted(files_with())
+    for contents in itertools.product((b"any", None, b"\n?"), repeat=len(names)):
+        changed = {name: content if content != b"any" else b"any" if name == "gen_languages" else b"" for name, content in zip(names, contents)}
+        yield from loads_with(changed, rooms=(0,))
+    for one, other in itertools.product((b"\n#include no", b"#include gen_rules_any", b"x", b"//\n" + rule_line(b"", b"", b"", b"")), repeat=2):
+        yield from loads_with({"gen_rules_any": one + b"\n" + other}, rooms=(0,))
+        yield from loads_with({"gen_rules_any": LINE + b"\n" + one, "gen_exact_common": other}, rooms=(0,))
+
+
+def many_names(count):
+    return sorted(["any"] + ["l" + chr(97 + n // 26) + chr(97 + n % 26) for n in range(count - 1)])
+
+
+def chain(depth, last=b""):
+    """A listed file and so many files below it, each but the last with a line before the include and one behind it."""
+    files = {"gen_rules_any": b"#include c1"}
+    for n in range(1, depth + 1):
+        letter = bytes([96 + n])
+        here = rule_line(letter, b"", b"", b"%d" % n)
+        files["c%d" % n] = here + (b"\n#include c%d\n" % (n + 1) + here if n < depth else b"\n" + last)
+    return files
+
+
+def loading_places():
+    """Each number of a line at its first and its last possible place, and far lines and files."""
+    faults = {11: b"#include no", 12: b"?", 13: rule_line(b"", b"", b"", b""), 14: rule_line(b"a", b"", b"", b"("), 15: rule_line(b"a", b"[", b"", b""),
+              16: rule_line(b"a", b"", b"", b"[b]"), 17: b"#include gen_rules_any", 18: rule_line(b"a", b"", b"a" * 256, b"")}
+    for line in faults.values():
+        yield from loads_with({"gen_rules_any": line})
+        yield from loads_with({"gen_rules_any": line + b"\n?"})
+        yield from loads_with({"gen_exact_common": LINE + b"\n" + line, "gen_rules_any": LINE})
+        yield from loads_with({**chain(8, line), "gen_exact_common": b"#include c1", "gen_rules_any": b""})
+        yield from loads_with({"gen_rules_any": b"\n" * 70000 + line})
+        yield from loads_with({"gen_rules_any": b"/*" + b"\n" * 70000 + b"*/\r\n" + line})
+        yield from loads_with({"gen_exact_common": LINE + b"\n#include z", "z": b"\n" + line, **{"%03d" % n: b"" for n in range(700)}})
+    for line in (b"?", b"a" * 256 + b" any true", b". any true", b"a b true"):
+        for content in (line, line + b"\n?", b"a any true\n" * 3 + line, b"\n" * 70000 + line):
+            yield from loads_with({"gen_lang": content, "gen_rules_any": None})
+    for content in (b"?", b"?\nany", b"any\n?", b"any" + b"\n" * 70000 + b"?", b"", b"b", b"any\nb"):
+        yield from loads_with({"gen_languages": content, "gen_lang": None})
+    for name in sorted(files_with()):
+        yield from loads_with({name: None})
+
+
+def loading_bounds():
+    """The bounds of 17 and 18, at and over them; few are large."""
+    for length, place in itertools.product((254, 255, 256, 257), range(4)):
+        for letter in (b"a", "é".encode(), "ω😀".encode()):
+            text = (letter * length)[:length // len(letter) * len(letter)]
+            text += b"a" * (length - len(text))
+            yield from loads_with({"gen_rules_any": rule_line(*(text if n == place else b"a" for n in range(4)))}, rooms=(0,))
+            yield from loads_with({"gen_lang": b"//\n" + text + b" any true"}, rooms=(0,))
+    for count in (31, 32, 33, 40):
+        names = many_names(count)
+        yield from loads_with({}, names)
+        yield from loads_with({"gen_languages": "\n".join(names + names[::-1]).encode()}, names)
+        yield from loads_with({"gen_languages": "\n".join(name for name in names if name != "any").encode()}, names)
+        yield from loads_with({"gen_languages": "\n".join(names + ["?"]).encode()}, names)
+    for depth in range(1, 11):
+        for last in (b"", b"#include no", b"#include c1", b"?", b"\n#include c%d" % depth):
+            yield from loads_with(chain(depth, last))
+    for count in (255, 256, 257):
+        for last in (b"", b"#include no", b"?"):
+            yield from loads_with({"gen_rules_any": b"#include x\n" * count + last, "x": LINE}, rooms=(0,))
+        yield from loads_with({"gen_rules_any": b"#include x\n" * 16 + b"#include z\n" * (count - 256), "x": b"#include y\n" * 15, "y": LINE, "z": b""}, rooms=(0,))
+        yield from loads_with({"gen_rules_any": b"#include x\n" * 200, "gen_approx_any": b"#include x\n" * count, "x": LINE}, rooms=(0,))
+    for content in (b"#include gen_rules_any", b"#include x", LINE + b"\n#include gen_rules_any\n" + LINE):
+        yield from loads_with({"gen_rules_any": content, "x": b"#include x\n#include x"})
+
+
+def loading_large():
+    """Lists of 4,096 rules and more."""
+    rule, other = LINE + b"\n", rule_line(b"b", b"", b"", b"") + b"\n"
+    distinct = ['"%s" "" "" ""\n' % chr(0x4E00 + n) for n in range(4200)]
+    for count in (4095, 4096, 4097):
+        yield from loads_with({"gen_rules_any": rule * count})
+        yield from loads_with({"gen_exact_common": rule * (count - 1) + other})
+        yield from loads_with({"gen_rules_any": rule * count + b"#include x", "x": rule})
+        yield from loads_with({"gen_rules_any": rule * count + b"#include x\n" + other * 2, "x": other})
+        yield from loads_with({"gen_rules_any": rule * count + b"?"})
+        yield from loads_with({"gen_lang": b"a any true\n" * count})
+        yield from loads_with({"gen_lang": b"a any true\n" * count + b"?"})
+        yield from loads_with({"gen_rules_any": "".join(distinct[:count][::-1]).encode()})
+        yield from loads_with({"gen_rules_any": "".join(distinct[:count]).encode() + b"#include no"})
+    yield from loads_with({"gen_rules_any": b"#include x\n" * 3 + other, "x": rule * 4095})
+    yield from loads_with({"gen_rules_any": b"#include x\n" * 3 + other * 2, "x": rule * 4095})
+    yield from loads_with({"gen_rules_any": b"#include x\n#include y\n", "x": rule * 3000, "y": other * 1097})
+    yield from loads_with({"gen_rules_any": b"#include x\n#include y\n", "x": rule * 3000, "y": other * 1096})
+    yield from loads_with({"gen_rules_any": b"#include x\n#include y\n", "x": rule * 3000 + other * 3000, "y": other * 1097})
+
+
+def entry(name, content):
+    return bytes([len(name)]) + name + len(content).to_bytes(4, "big") + content
+
+
+SMALL = files_with({"gen_languages": b"any\nb//\n"[:5], "gen_lang": b"a b true\n", "gen_rules_any": b'"a" "" "" "o"\n#include x\n', "x": b'/*\n*/\n"a" "^" "b" "(a|b[b])"//\n'},
+                   ("any", "b"))
+
+
+def loading_bundles():
+    """Every prefix and every changed byte of a small bundle, and bundles that are badly formed."""
+    small = second.bundle_bytes(SMALL)
+    for length in range(len(small) + 1):
+        yield from loads(small[:length], rooms=(0,))
+    for place, value in itertools.product(range(len(small)), range(256)):
+        if value == small[place] or value < 4 or value & 0x0F == place & 0x0F or value ^ small[place] in (1, 2, 4, 8, 16, 32, 64, 128):
+            yield from loads(small[:place] + bytes([value]) + small[place + 1:], rooms=(0,))
+    for name_type in (0, 1, 2, 3, 4, 255, 256, 4294967295):
+        for data in (small, small[:-1], b"", b"\0\0"):
+            yield from loads(data, name_type)
+    yield from loads(small + b"\0")
+    whole = [entry(name.encode(), content) for name, content in sorted(files_with().items())]
+    for more in ([b""], [b"", b""], [b"a"], [b"a", b"a"], [b"b", b"a"], [b"a", b""], [b"", b"a"], [b"\xff"], [b"z", b"\xff", b"\xff\0"], [b"gen_lang"], [b"x" * 255], [b"g"], [b"gen_languages\0"]):
+        files = [entry(name, b"?") for name in more]
+        for some in (files, files + whole, whole + files, sorted(files + whole, key=lambda e: e[1:1 + e[0]])):
+            data = len(some).to_bytes(2, "big") + b"".join(some)
+            yield from loads(data)
+            yield from loads((len(some) + 1).to_bytes(2, "big") + b"".join(some))
+            yield from loads((len(some) - 1).to_bytes(2, "big") + b"".join(some))
+    for length in (0, 1, 2 ** 16, 2 ** 24, 2 ** 31, 2 ** 32 - 1):
+        yield from loads(b"\0\x01\x01a" + length.to_bytes(4, "big"))
+        yield from loads(b"\0\x01\x01a" + length.to_bytes(4, "big") + b"x")
+    yield from loads(b"\xff\xff" + whole[0])
+    yield from loads((3000).to_bytes(2, "big") + b"".join(entry(b"%04d" % n, b"") for n in range(3000)))
+
+
+def loading_all():
+    yield from loading_lines()
+    yield from loading_orders()
+    yield from loading_places()
+    yield from loading_bounds()
+    yield from loading_bundles()
+    yield from loading_large()
+
+
+def loading_stored():
+    """Some of each kind, none of them long."""
+    rng = random.Random("loading")
+    kinds = ((loading_places, 80), (loading_lines, 260), (loading_orders, 90), (loading_bounds, 140), (loading_bundles, 90))
+    for every, count in kinds:
+        short = [case for case in every() if len(case[0]) < 2500]
+        yield from rng.sample(short, min(count, len(short)))
+    yield from (case for case in loading_random(rng, 60) if len(case[0]) < 5000)
+
+
+ENDS = (b"\n",) * 8 + (b"\r\n", b" \n", b"\t\r\n")
+SPOILED = [b'"', b" ", b"\t", b"\r", b"\n", b"/", b"*", b"#", b"\0", b"\x7f", b"\xff", b"\xc3", "é".encode(), b"+", b"[", b"]", b"(", b")", b"|", b"^", b"$", b"//", b"/*", b"*/",
+           b"a" * 256, b"\xef\xbb\xbf", b"#include ", b"\r\n", b"-", b"."]
+
+
+def blanks(rng, least=1):
+    return b"".join(rng.choice((b" ", b" ", b"\t")) for _ in range(rng.choice((least, least, least, least + 1, least + 2))))
+
+
+def passed_lines(rng):
+    """Lines that say nothing."""
+    return rng.choice((b"", b" \t", b"// x", b" //\xff \"", b"/* a */", b"\t/**/ ", b"/*\n" + LINE + b"\n * */", b"/* \r\n\r\n*/", b"/*\n//\n\t*/ ", b"/* #include no\n\xff*/"))
+
+
+def spoiled(rng, line):
+    """A line with a byte or two put in, taken out or changed."""
+    line = bytearray(line)
+    for _ in range(rng.choice((1, 1, 2))):
+        place = rng.randrange(len(line) + 1)
+        if rng.randrange(3) == 0:
+            del line[place:place + rng.choice((1, 1, 3))]
+        else:
+            line[place:place + rng.randrange(2)] = rng.choice(SPOILED)
+    return bytes(line)
+
+
+def a_rule(rng, sounds):
+    """A rule's line, of the pack's letters."""
+    rule = rules_over(rng, sounds, sounds.letters, 1, 1)
+    strings_ = [part.encode() for part in rule[0]] if rule else [b"a", b"", b"", b"o"]
+    line = b'"%s"' % strings_[0] + b"".join(blanks(rng) + b'"%s"' % part for part in strings_[1:])
+    return blanks(rng, 0) + line + rng.choice((b"", b"", b"", b" ", b"//c", b" // \xff", b"\t//"))
+
+
+def a_guess(rng, sounds):
+    some = guesses_over(rng, sounds)
+    accept, mask, pattern = some[0] if some else (1, 1, "a")
+    names = [name for bit, name in enumerate(sounds.names) if mask >> bit & 1]
+    rng.shuffle(names)
+    fields = [pattern.encode(), "+".join(names + names[:rng.randrange(2)]).encode(), b"true" if accept else b"false"]
+    return blanks(rng, 0) + fields[0] + blanks(rng) + fields[1] + blanks(rng) + fields[2] + blanks(rng, 0)
+
+
+def a_file(rng, lines, faults):
+    """A file of these lines, with others that say nothing between them."""
+    content = b""
+    for line in lines:
+        while rng.randrange(5) == 0:
+            content += passed_lines(rng) + rng.choice(ENDS)
+        content += (spoiled(rng, line) if rng.randrange(faults) == 0 else line) + rng.choice(ENDS)
+    if rng.randrange(3) == 0:
+        content = content.rstrip(b"\r\n")
+    return content
+
+
+def rule_file(rng, sounds, below, most, faults):
+    """Rules, and includes of the files below."""
+    lines = [a_rule(rng, sounds) for _ in range(rng.randrange(most + 1))]
+    for _ in range(rng.choice((0, 0, 1, 1, 2)) if below else 0):
+        lines.insert(rng.randrange(len(lines) + 1), blanks(rng, 0) + b"#include" + blanks(rng) + rng.choice(below).encode() + blanks(rng, 0))
+    return a_file(rng, lines, faults)
+
+
+def random_files(rng, prefix, sounds, faults):
+    """The files of a type, and a pool that they include: each file of it those behind it, now and then any."""
+    files = files_with((), sounds.names, prefix)
+    pool = ["x%d" % n for n in range(rng.choice((0, 1, 3, 10)))]
+    for number, name in enumerate(pool):
+        near = pool[number + 1:number + 2] * 3 + pool[number + 1:]
+        files[name] = rule_file(rng, sounds, near if rng.randrange(20) else pool, 2, faults)
+    names = [name.encode() for name in sounds.names]
+    rng.shuffle(names)
+    files[prefix + "_languages"] = a_file(rng, [blanks(rng, 0) + name + blanks(rng, 0) for name in names + names[:rng.randrange(2)]], faults)
+    files[prefix + "_lang"] = a_file(rng, [a_guess(rng, sounds) for _ in range(rng.randrange(4))], faults)
+    for name in second.list_names(prefix.encode(), sounds.names):
+        files[name.decode()] = rule_file(rng, sounds, pool[:3] or pool, rng.choice((0, 2, 5)), faults)
+    if rng.randrange(faults) == 0:
+        files.pop(rng.choice(sorted(files)))
+    return files
+
+
+def loading_random(rng, count):
+    for _ in range(count):
+        name_type, sounds, faults = rng.randrange(3), sounds_of(rng), rng.choice((1000000, 1000000, 200, 60, 20))
+        bundle = second.bundle_bytes(random_files(rng, ("ash", "gen", "sep")[name_type], sounds, faults))
+        if rng.randrange(12) == 0:
+            bundle = spoiled(rng, bundle)
+        yield from loads(bundle, name_type if rng.randrange(30) else rng.randrange(4), (rng.choice((0, 0, -1, 5, -10 ** 6)),))
+
+
 LAYERS = {
     "letters": (letters_all, letters_random),
     "languages": (languages_all, languages_random),
@@ -566,6 +909,7 @@ LAYERS = {
     "packs": (packs_all, packs_random),
     "words": (words_all, words_random),
     "spelling": (spelling_all, spelling_random),
+    "loading": (loading_all, loading_random),
 }
 
 

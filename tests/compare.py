@@ -28,7 +28,8 @@ NO_CASES = ["", " ", "foo", "decode", "decode 6", "decode 6g", "decode 61 62", "
             "word", "word 0 3 1 20 0 0", "word 0 3 1 20 0 0 61 61", "word 0 3 1 20 0 0 6", "word 0 3 1 20 0 x 61",
             "word 0 3 1 20 0 4294967296 61", "word - 3 1 20 0 0 61", "spell 1 0 0 20 4", "spell 1 0 0 20 4 61 61",
             "spell 1 0 0 20 4 6", "spell 4294967296 0 0 20 4 61", "spell 1 0 0 20 4097 61", "given 1 0 0 20 4 61",
-            "given 1 0 0 20 0 0 4 61 61", "given 1 0 0 20 0 x 4 61", "given 1 0 0 20 0 0 4097 61"]
+            "given 1 0 0 20 0 0 4 61 61", "given 1 0 0 20 0 x 4 61", "given 1 0 0 20 0 0 4097 61", "bundle", "bundle 6", "bundle 0000 00",
+            "load", "load 1", "load 1 0 0", "load 1 98305", "load x 0", "load 1 -", "load 4294967296 0"]
 # what is no case of a pack with five lists: a limit over 256, a list that is not there
 NO_CASES += ["pack %s\nword %s" % (cases.PAPER_PACK.hex(), fields) for fields in (
     "0 3 1 257 0 0 61", "0 3 1 4294967295 0 0 61", "5 3 1 20 0 0 61", "0 5 1 20 0 0 61", "0 3 5 20 0 0 61", "0 98 1 20 0 0 61",
@@ -57,12 +58,10 @@ def compare(layer, some, original):
     lines = [line for line, _, _ in some]
     port, second = run(ASK, lines), run(SECOND, lines)
     permitted = original_of(some) if original else [None] * len(some)
-    differ = 0
-    for line, one, other, may in zip(lines, port, second, permitted):
-        if one != other or (may is not None and one not in may):
-            differ += 1
-            if differ <= 20:
-                print("%s\n  port %s\n  second %s\n  original %s" % (line, one, other, may))
+    differing = [case for case in zip(lines, port, second, permitted) if case[1] != case[2] or (case[3] is not None and case[1] not in case[3])]
+    for line, one, other, may in sorted(differing, key=lambda case: len(case[0]))[:20]:
+        print("%s\n  port %s\n  second %s\n  original %s" % (line, one, other, may))
+    differ = len(differing)
     held = sum(may is not None for may in permitted)
     print("%s: %d cases, %d of them held against the original, %d differ" % (layer, len(lines), held, differ))
     return differ
@@ -76,9 +75,11 @@ def sampled(layer, seed, count, sample):
 
 
 def stored(layer):
-    """Some cases of each kind, by the last line's word; of spelling those of some packs, all of them."""
+    """Some cases of each kind, by the last line's word; of spelling those of some packs, all of them; of loading as cases.py says."""
     if layer == "spelling":
         return list(cases.cases_of(layer, 1, 40))
+    if layer == "loading":
+        return list(cases.loading_stored())
     kinds = {}
     for case in cases.cases_of(layer, 1, 2000):
         kinds.setdefault(case[0].split("\n")[-1].split(" ")[0], []).append(case)

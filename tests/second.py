@@ -1077,7 +1077,7 @@ def keys(settings, pack, names):
 # ---------------------------------------------------------------------------------------------------
 
 UNTOUCHED = 165                 # each byte of a lent buffer
-LONGEST_PACK = 98304            # of a `pack` line, and the largest room of `load`
+LONGEST_PACK = 98304            # of a `pack` or `bundle` line, and the largest room of `load`
 LARGEST_ROOM = 4096             # of `spell` and `given`
 
 
@@ -1308,7 +1308,10 @@ class Cases:
         return self.spelled((name_type, rule_type, concat, limit), given, room, name)
 
     def on_bundle(self, data):
-        self.files = bytes_of(data)
+        data = bytes_of(data)
+        if len(data) > LONGEST_PACK:
+            raise NotACase
+        self.files = data
 
     def on_load(self, name_type, room):
         room = number_of(room, LONGEST_PACK)

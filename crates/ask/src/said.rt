@@ -10,7 +10,9 @@ use rule::Alternative;
 // `Codes` is the code points of so many bytes of `given`, `Hex` so many bytes of `made`; `Alternatives` is so many of the
 // expression that `given` has up to the second number, with the names from there up to the third; `Pack` is so many bytes
 // of `given` to keep, and prints nothing; `Spelled` is the flag and so many bytes of `made`; `Lent` is the flag, how many bytes
-// were written, and how many of `made` were lent; `Refused` is a refusal's number and place, and how many were lent.
+// were written, and how many of `made` were lent; `Refused` is a refusal's number and place, and how many were lent. `Bundle` is
+// as `Pack`; `Loaded` is how many bytes were written and how many lent, `NotLoaded` a refusal's number, place and file, and how many
+// were lent.
 pub enum Said {
     NoCase,
     Dash,
@@ -29,6 +31,9 @@ pub enum Said {
     Spelled(bool, usize),
     Lent(bool, usize, usize),
     Refused(u8, usize, usize),
+    Bundle(usize),
+    Loaded(usize, usize),
+    NotLoaded(u32, usize, usize, usize),
 }
 
 // The first n bytes of s, or all where there are fewer.
@@ -242,6 +247,43 @@ fn refused_line(code: u8, place: usize, s: &[u8], out: &mut [u8], used: usize) -
     out::hex_line(out, used, s)
 }
 
+// Puts a number and a blank.
+fn spaced(n: u64, out: &mut [u8], used: usize) -> usize
+    requires { ⌜ used ≤ length (now out) ⌝ }
+    ensures { λ r. ⌜ r ≤ length (now (out .exit)) ⌝ }
+{
+    let used = out::decimal(out, used, n);
+    out::put(out, used, b" ")
+}
+
+// Puts the line of a loaded bundle: 0, how many bytes were written, the lent buffer.
+fn loaded_line(written: usize, s: &[u8], out: &mut [u8], used: usize) -> usize
+    requires { ⌜ used ≤ length (now out) ⌝ }
+    ensures { λ r. ⌜ r ≤ length (now (out .exit)) ⌝ }
+{
+    let used = spaced(0, out, used);
+    let used = spaced(written as u64, out, used);
+    out::hex_line(out, used, s)
+}
+
+// Puts the line of a bundle that is refused: the number, the place, the file, the lent buffer.
+fn not_loaded_line(
+    code: u32,
+    place: usize,
+    file: usize,
+    s: &[u8],
+    out: &mut [u8],
+    used: usize,
+) -> usize
+    requires { ⌜ used ≤ length (now out) ⌝ }
+    ensures { λ r. ⌜ r ≤ length (now (out .exit)) ⌝ }
+{
+    let used = spaced(code as u64, out, used);
+    let used = spaced(place as u64, out, used);
+    let used = spaced(file as u64, out, used);
+    out::hex_line(out, used, s)
+}
+
 // Puts the line of what is said.
 pub fn say(s: Said, given: &[u8], made: &[u8], out: &mut [u8], used: usize) -> usize
     requires { ⌜ used ≤ length (now out) ⌝ }
@@ -263,6 +305,11 @@ pub fn say(s: Said, given: &[u8], made: &[u8], out: &mut [u8], used: usize) -> u
         Said::Spelled(flag, n) => spelled_line(flag, front(made, n), out, used),
         Said::Lent(flag, n, room) => lent_line(flag, n, front(made, room), out, used),
         Said::Refused(code, place, room) => refused_line(code, place, front(made, room), out, used),
+        Said::Bundle(_) => used,
+        Said::Loaded(n, room) => loaded_line(n, front(made, room), out, used),
+        Said::NotLoaded(code, place, file, room) => {
+            not_loaded_line(code, place, file, front(made, room), out, used)
+        }
         Said::Form(form, fits) => form_line(form, fits, out, used),
         Said::Alternatives(n, middle, end) => alternatives_line(
             n,

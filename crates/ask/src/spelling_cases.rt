@@ -23,7 +23,7 @@ fn settings_of(types: Three, limit: u32) -> Settings {
 }
 
 // The first k bytes of the buffer 165.
-fn fill(buffer: &mut [u8], k: usize)
+pub fn fill(buffer: &mut [u8], k: usize)
     requires { ⌜ k ≤ length (now buffer) ⌝ }
 {
     let mut i: usize = 0;

@@ -12,6 +12,11 @@ use Rattle.choices.specs.Texts.{Text}
 use Rattle.pack.specs.Packs.{packOf, verdictOf}
 use Rattle.pack.specs.declared.sections.Checked.{Checked}
 use Rattle.pack.specs.declared.sections.Checked.the-variants as checked
+use Rattle.rule_lists.specs.Outcomes as loading
+use Rattle.loader.specs.Loading as load
+use Rattle.loader.specs.Loading.{Numbers, answer, AnswerIs}
+use Rattle.loader.specs.declared.loading.Loaded.{Loaded}
+use Rattle.loader.specs.declared.loading.Loaded.the-variants as loaded
 use Rattle.engine.specs.Calls.{Outcome, SpellIs, numbersOf}
 use Rattle.engine.specs.Lines.{lineFor, LinesIs}
 use Rattle.engine.specs.declared.call.Settings.{Settings}
@@ -19,7 +24,7 @@ use Rattle.engine.specs.declared.call.Start.{Start}
 use Rattle.engine.specs.declared.lines.Lines.{Lines}
 use Rattle.engine.specs.declared.spelling.Spelled.{Spelled}
 use Rattle.engine.specs.declared.spelling.Spelled.the-variants.{Done, Refused}
-use Rattle.beider_morse.specs.Flat.{flagBit, numbered, TailIs, SpellFlat, checkNumbers, CheckFlat, LinesFlat}
+use Rattle.beider_morse.specs.Flat.{flagBit, numbered, TailIs, SpellFlat, checkNumbers, CheckFlat, LinesFlat, placed, LoadFlat}
 
 bit-is : (f : Bool) → boolByte f ≡ flagBit f
 unfolding flagBit
@@ -95,7 +100,33 @@ lines-flat c start start′ s block out out′ tail r h e w =
       numbers = pick-no _ _ _ _ t (ap (λ (x : Lines). set (set tail 0 (x .read)) 1 (x .written)) (w .result));
     })
 
-pub ruleset flat-laws = (tail-done, tail-refused, spell-short, spell-flat, check-short, check-accepted, check-refused, lines-short, lines-flat)
+-- ---- a bundle
+
+pub load-short : (x : loading.Outcome (List ℕ)) (out tail : List ℕ) → length tail < 2 → LoadFlat x out out tail tail 255
+load-short x out tail h =
+    let t = lt-ltb (length tail) 2 h in
+    record { code = pick-yes _ _ _ _ t refl; buffer = pick-yes _ _ _ _ t refl; numbers = pick-yes _ _ _ _ t refl }
+
+module _ (x : loading.Outcome (List ℕ)) (out out′ tail : List ℕ) (s : Loaded) (h : 2 ≤ length tail) (w : AnswerIs x out s out′) where
+  load-numbers : (n : Numbers) → load.numbersOf s ≡ n → LoadFlat x out out′ tail (placed n tail) (n .code)
+  load-numbers n e =
+      let t = le-ltb (length tail) 2 h in
+      let v : n ≡ load.numbersOf (answer x (length out)) = sym e ∙ ap load.numbersOf (w .result) in
+      record {
+        code = pick-no _ _ _ _ t (ap (λ (a : Numbers). a .code) v);
+        buffer = pick-no _ _ _ _ t (w .buffer);
+        numbers = pick-no _ _ _ _ t (ap (λ (a : Numbers). placed a tail) v);
+      }
+
+  pub load-done : (n : ℕ) → s ≡ loaded.Done n → LoadFlat x out out′ tail (set (set tail 0 n) 1 0) 0
+  unfolding load.numbersOf placed
+  load-done n e = load-numbers (record { code = 0; place = n; file = 0 }) (ap load.numbersOf e)
+
+  pub load-refused : (c p f : ℕ) → s ≡ loaded.Refused c p f → LoadFlat x out out′ tail (set (set tail 0 p) 1 f) c
+  unfolding load.numbersOf placed
+  load-refused c p f e = load-numbers (record { code = c; place = p; file = f }) (ap load.numbersOf e)
+
+pub ruleset flat-laws = (load-short, load-done, load-refused, tail-done, tail-refused, spell-short, spell-flat, check-short, check-accepted, check-refused, lines-short, lines-flat)
 
 -- ---- one answer, one content of each lent buffer
 
@@ -107,3 +138,6 @@ check-flat-one a b = (one (a .code) (b .code), one (a .numbers) (b .numbers))
 
 pub lines-flat-one : {f : Text → Text} {block out tail o o′ t t′ : List ℕ} {r r′ : ℕ} → LinesFlat f block out o tail t r → LinesFlat f block out o′ tail t′ r′ → (r ≡ r′) × (o ≡ o′) × (t ≡ t′)
 lines-flat-one a b = (one (a .code) (b .code), one (a .buffer) (b .buffer), one (a .numbers) (b .numbers))
+
+pub load-flat-one : {x : loading.Outcome (List ℕ)} {out tail o o′ t t′ : List ℕ} {r r′ : ℕ} → LoadFlat x out o tail t r → LoadFlat x out o′ tail t′ r′ → (r ≡ r′) × (o ≡ o′) × (t ≡ t′)
+load-flat-one a b = (one (a .code) (b .code), one (a .buffer) (b .buffer), one (a .numbers) (b .numbers))

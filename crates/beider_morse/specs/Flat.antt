@@ -11,6 +11,8 @@ use Rattle.choices.specs.Texts.{Text}
 use Rattle.pack.specs.Packs.{packOf, verdictOf}
 use Rattle.pack.specs.declared.sections.Checked.{Checked}
 use Rattle.pack.specs.declared.sections.Checked.the-variants as checked
+use Rattle.rule_lists.specs.Outcomes as loading
+use Rattle.loader.specs.Loading as load
 use Rattle.engine.specs.Calls.{Outcome, toldOf, filledBy, Numbers, numbersOf}
 use Rattle.engine.specs.Lines.{taken}
 use Rattle.engine.specs.declared.call.Settings.{Settings}
@@ -56,3 +58,12 @@ pub record LinesFlat (f : Text → Text) (block out out′ tail tail′ : List �
   pub code : r ≡ pick (ltb (length tail) 2) 255 0
   pub buffer : out′ ≡ pick (ltb (length tail) 2) out (sets out 0 (taken f block out .text))
   pub numbers : tail′ ≡ pick (ltb (length tail) 2) tail (set (set tail 0 (taken f block out .read)) 1 (length (taken f block out .text)))
+
+-- place and file of a loading answer in a tail
+unfoldable pub placed : load.Numbers → List ℕ → List ℕ
+placed n tail = set (set tail 0 (n .place)) 1 (n .file)
+
+pub record LoadFlat (x : loading.Outcome (List ℕ)) (out out′ tail tail′ : List ℕ) (r : ℕ) : Type 0 where
+  pub code : r ≡ pick (ltb (length tail) 2) 255 (load.numbersOf (load.answer x (length out)) .code)
+  pub buffer : out′ ≡ pick (ltb (length tail) 2) out (load.filled x out)
+  pub numbers : tail′ ≡ pick (ltb (length tail) 2) tail (placed (load.numbersOf (load.answer x (length out))) tail)

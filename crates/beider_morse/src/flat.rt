@@ -3,13 +3,15 @@
 ghost use mathlib.Core.Path.{_≡_};
 ghost use Prim.Native.Nat.{_≤_};
 ghost use lib.ListN.{length};
+ghost use Rattle.loader.specs.Loading.{loadOf, written};
 ghost use Rattle.engine.specs.Calls.{callOf};
 ghost use Rattle.engine.specs.Lines.{lineFor};
 ghost use Rattle.engine.specs.declared.call.Start.the-variants.{Guessed, Given};
-ghost use Rattle.beider_morse.specs.Flat.{settingsOf, startOf, TailIs, CheckFlat, SpellFlat, LinesFlat};
+ghost use Rattle.beider_morse.specs.Flat.{settingsOf, startOf, TailIs, CheckFlat, SpellFlat, LinesFlat, LoadFlat};
 use engine::Settings;
 use engine::Spelled;
 use engine::Start;
+use loader::Loaded;
 use pack::Checked;
 
 // The code of an answer; `tail` takes its place (or how many bytes were written) and its flag.
@@ -27,6 +29,28 @@ fn number(s: Spelled, tail: &mut [u64]) -> u32
             tail[0] = place as u64;
             tail[1] = 0;
             code as u32
+        }
+    }
+}
+
+// The pack of a bundle: the code; `tail` takes bytes written or place, and the file's number.
+#[no_mangle]
+pub extern "C" fn bm_load(name_type: u32, bundle: &[u8], out: &mut [u8], tail: &mut [u64]) -> u32
+    ensures { λ r. ⌜ LoadFlat (written (loadOf «name_type» (now (bundle .entry)))) (now (out .entry)) (now (out .exit)) (now (tail .entry)) (now (tail .exit)) r ⌝ }
+{
+    if tail.len() < 2 {
+        return 255;
+    }
+    match crate::load(name_type, bundle, out) {
+        Loaded::Done { length } => {
+            tail[0] = length as u64;
+            tail[1] = 0;
+            0
+        }
+        Loaded::Refused { code, place, file } => {
+            tail[0] = place as u64;
+            tail[1] = file as u64;
+            code
         }
     }
 }

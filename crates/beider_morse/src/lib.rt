@@ -1,9 +1,10 @@
-// The face: a pack checked, a name spelled, names a line each. What is refused, and with which number, is the paper's table.
+// The face: rule files loaded, a pack checked, a name spelled, names a line each. What is refused, and with which number, is the paper's table.
 mod flat;
 
 ghost use mathlib.Core.Path.{_≡_};
 ghost use lib.ListN.{length};
 ghost use Rattle.pack.specs.Packs.{packOf, verdictOf};
+ghost use Rattle.loader.specs.Loading.{LoadIs};
 ghost use Rattle.engine.specs.Calls.{callOf, SpellIs};
 ghost use Rattle.engine.specs.Lines.{lineFor, LinesIs};
 ghost use Rattle.engine.specs.declared.call.Start.the-variants.{Guessed, Given};
@@ -12,10 +13,19 @@ pub use engine::Settings;
 pub use engine::Spelled;
 pub use engine::Start;
 pub use flat::bm_check;
+pub use flat::bm_load;
 pub use flat::bm_spell;
 pub use flat::bm_spell_given;
 pub use flat::bm_spell_lines;
+pub use loader::Loaded;
 pub use pack::Checked;
+
+// The pack of a bundle of rule files: its length, or the refusal.
+pub fn load(name_type: u32, bundle: &[u8], out: &mut [u8]) -> Loaded
+    ensures { λ r. ⌜ LoadIs «name_type» (now (bundle .entry)) (now (out .entry)) r (now (out .exit)) ⌝ }
+{
+    loader::load(name_type, bundle, out)
+}
 
 // Whether bytes are a pack, or the place of the section at fault (5).
 pub fn check(pack: &[u8]) -> Checked

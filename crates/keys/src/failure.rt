@@ -1,20 +1,9 @@
 // What goes wrong, in words on standard error.
 
-// Tells the caller by a byte on descriptor 3, which `bin/keys` turns into exit status 2: a program has none of its own.
-fn mark() {
-    io::write_all(3, b"2");
-}
-
-// Says what failed, and why the system says that it did.
-pub fn failed(what: &[u8]) {
-    os::fail(what);
-    mark();
-}
-
 // Says that the pack file cannot be read.
 pub fn unreadable(path: &[u8]) {
     io::write_all(libc::STDERR_FILENO, b"keys: cannot read the pack file ");
-    failed(path);
+    program_io::failed(path);
 }
 
 // Says how the program is called.
@@ -31,5 +20,5 @@ pub fn usage() {
         libc::STDERR_FILENO,
         b"SETKIND: 0 Any, 1 None, 2 Some, of the languages in BITS. Left out: guessed. All numbers are decimal.\n",
     );
-    mark();
+    program_io::mark();
 }

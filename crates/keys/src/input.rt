@@ -3,7 +3,6 @@
 ghost use Prim.Native.Nat.{_≤_, _<_};
 ghost use lib.ListN.{length};
 ghost use Rattle.keys.specs.Waiting.{Waits};
-use crate::failure;
 
 // The bytes of the buffer from `from` up to `have` wait to be answered. `open` is false once the input has ended, and
 // then only whole lines wait.
@@ -40,44 +39,15 @@ pub fn goes_on(s: Input) -> bool {
     s.open || s.from < s.have
 }
 
-// How many bytes a buffer holds, and whether a read failed.
-pub struct Filled {
-    pub have: usize,
-    pub failed: bool,
-}
-
-// Reads behind the `had` bytes of buf until it is full, the input ends or a read fails.
-pub fn fill(fd: i32, buf: &mut [u8], had: usize) -> Filled
-    requires { ⌜ had ≤ length (now buf) ⌝ }
-    ensures { λ r. ⌜ (had ≤ r .have) × (r .have ≤ length (now (buf .exit))) ⌝ }
-{
-    let mut have = had;
-    while have < buf.len() {
-        let got = libc::read(fd, &mut buf[have..]);
-        let more = io::count(got, &buf[have..]);
-        if more == 0 {
-            return Filled {
-                have,
-                failed: got < 0,
-            };
-        }
-        have += more;
-    }
-    Filled {
-        have,
-        failed: false,
-    }
-}
-
 // Reads standard input behind the `had` bytes of buf, and answers how many buf then holds: all that it can, unless the
 // input has ended.
 fn more(buf: &mut [u8], had: usize) -> usize
     requires { ⌜ had ≤ length (now buf) ⌝ }
     ensures { λ r. ⌜ (had ≤ r) × (r ≤ length (now (buf .exit))) ⌝ }
 {
-    let filled = fill(libc::STDIN_FILENO, buf, had);
+    let filled = program_io::fill(libc::STDIN_FILENO, buf, had);
     if filled.failed {
-        failure::failed(b"keys: standard input");
+        program_io::failed(b"keys: standard input");
     }
     filled.have
 }

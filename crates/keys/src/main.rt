@@ -34,7 +34,7 @@ fn print(lines: &[u8]) -> bool {
     if io::write_all(libc::STDOUT_FILENO, lines) {
         return true;
     }
-    failure::failed(b"keys: standard output");
+    program_io::failed(b"keys: standard output");
     false
 }
 
@@ -104,22 +104,16 @@ fn run(settings: Settings, start: Start) {
     let mut path = io::buffer();
     let n = os::arg(1, &mut path);
     if os::errno() != 0 {
-        failure::failed(b"keys: PACK");
-        return;
-    }
-    let fd = os::open_read(&path[..n]);
-    if fd < 0 {
-        failure::unreadable(&path[..n]);
+        program_io::failed(b"keys: PACK");
         return;
     }
     // a byte more than a pack may have
     let mut pack = [0u8; 49153];
-    let filled = input::fill(fd, &mut pack, 0);
+    let filled = program_io::read_file(&path[..n], &mut pack);
     if filled.failed {
         failure::unreadable(&path[..n]);
         return;
     }
-    libc::close(fd);
     let have = filled.have;
     answer(settings, start, &pack[0..have]);
 }

@@ -54,7 +54,7 @@ cut-short t at (suc f) l h =
     let short : length (drop (suc at) t) < getD t at 0 = omega (arith, length-drop (suc at) t) in
     rw (drop-cons t at 0) (pick-false _ _ _ (lt-leb _ _ short))
 
-none-left : (t : List ℕ) (at f : ℕ) → length t < at + 1 + getD t at 0 → strings f (drop at t) ≡ []
+pub none-left : (t : List ℕ) (at f : ℕ) → length t < at + 1 + getD t at 0 → strings f (drop at t) ≡ []
 none-left t at f h = elim (decLe (length t) at) [
   | yes k ↦ ap (strings f) (drop-of-length-le t k) ∙ strings-none f
   | no k ↦ cut-short t at f (omega arith) h
@@ -76,7 +76,7 @@ module _ (t : List ℕ) (at a e : ℕ) (r : Next) (p : r ≡ stringAt t at) (q :
   pub walk-less : length t - e < length t - at
   walk-less = omega (arith, string)
 
-  one-left : (f : ℕ) → strings (suc f) (drop at t) ≡ take (e - a) (drop a t) ∷ strings f (drop e t)
+  pub one-left : (f : ℕ) → strings (suc f) (drop at t) ≡ take (e - a) (drop a t) ∷ strings f (drop e t)
   one-left f =
       let w = string in
       let next-is : a + (e - a) ≡ e = omega arith in

@@ -7,19 +7,17 @@ use Rattle.ask.proofs.serve.Statement.{statement}
 use Rattle.ask.proofs.serve.Tie as tie
 use Rattle.ask.proofs.serve.Reads as reads
 use Rattle.ask.proofs.serve.Lts as lts
+use Rattle.ask.proofs.answer.Reads as answer-reads
 use Rattle.ask.proofs.input.next.Reads as next-reads
 use Rattle.ask.proofs.input.start.Reads as start-reads
-use Rattle.ask.proofs.keep.Reads as keep-reads
 use Rattle.ask.proofs.out.flush.Reads as flush-reads
-use Rattle.ask.proofs.said.say.Reads as say-reads
-use Rattle.ask.proofs.said_of.Reads as said-of-reads
 
 abbrev Inv-loop : tie.InvT-loop
-Inv-loop buf₀ given₀ made₀ pack₀ out₀ s₀ used₀ held₀ turns₀ buf given made pack out s used held turns =
-    Stands s (length buf) × (used ≤ length out) × (held ≤ length pack) × (length buf ≡ length buf₀) × (length given ≡ length given₀) × (length made ≡ length made₀) × (length pack ≡ length pack₀) × (length out ≡ length out₀)
+Inv-loop buf₀ given₀ made₀ pack₀ bundle₀ out₀ s₀ held₀ turns₀ buf given made pack bundle out s held turns =
+    Stands s (length buf) × (held .pack ≤ length pack) × (held .bundle ≤ length bundle) × (held .used ≤ length out) × (length buf ≡ length buf₀) × (length given ≡ length given₀) × (length made ≡ length made₀) × (length pack ≡ length pack₀) × (length bundle ≡ length bundle₀) × (length out ≡ length out₀)
 
 abbrev μ-loop : tie.MeasureT-loop
-μ-loop buf₀ given₀ made₀ pack₀ out₀ s₀ used₀ held₀ turns₀ buf given made pack out s used held turns =
+μ-loop buf₀ given₀ made₀ pack₀ bundle₀ out₀ s₀ held₀ turns₀ buf given made pack bundle out s held turns =
     turns
 
 start-requires : tie.Need-start-requires Inv-loop μ-loop
@@ -31,32 +29,17 @@ next-requires c κs = search needs
 loop-holds : tie.Need-loop-holds Inv-loop μ-loop
 loop-holds c = search needs
 
-sub-said-of : tie.Need-sub-said-of Inv-loop μ-loop
-sub-said-of c = search needs
+sub-answer : tie.Need-sub-answer Inv-loop μ-loop
+sub-answer c = search needs
 
-part-said-of-start : tie.Need-part-said-of-start Inv-loop μ-loop
-part-said-of-start c = search needs
+part-answer-start : tie.Need-part-answer-start Inv-loop μ-loop
+part-answer-start c = search needs
 
-part-said-of-end : tie.Need-part-said-of-end Inv-loop μ-loop
-part-said-of-end c = search needs
+part-answer-end : tie.Need-part-answer-end Inv-loop μ-loop
+part-answer-end c = search needs
 
-sub-said-of-2 : tie.Need-sub-said-of-2 Inv-loop μ-loop
-sub-said-of-2 c = search needs
-
-part-said-of-start-2 : tie.Need-part-said-of-start-2 Inv-loop μ-loop
-part-said-of-start-2 c = search needs
-
-part-said-of-end-2 : tie.Need-part-said-of-end-2 Inv-loop μ-loop
-part-said-of-end-2 c = search needs
-
-said-of-requires : tie.Need-said-of-requires Inv-loop μ-loop
-said-of-requires c κs = search needs
-
-keep-requires : tie.Need-keep-requires Inv-loop μ-loop
-keep-requires c κs = search needs
-
-say-requires : tie.Need-say-requires Inv-loop μ-loop
-say-requires c κs = search needs
+answer-requires : tie.Need-answer-requires Inv-loop μ-loop
+answer-requires c κs = search needs
 
 next-requires-2 : tie.Need-next-requires-2 Inv-loop μ-loop
 next-requires-2 c κs = search needs
@@ -88,6 +71,9 @@ same-length-4 c = search needs
 same-length-5 : tie.Need-same-length-5 Inv-loop μ-loop
 same-length-5 c = search needs
 
+same-length-6 : tie.Need-same-length-6 Inv-loop μ-loop
+same-length-6 c = search needs
+
 returns : tie.Need-returns Inv-loop μ-loop
 returns c = search needs
 
@@ -100,15 +86,10 @@ serve-spec =
     start-requires
     next-requires
     loop-holds
-    sub-said-of
-    part-said-of-start
-    part-said-of-end
-    sub-said-of-2
-    part-said-of-start-2
-    part-said-of-end-2
-    said-of-requires
-    keep-requires
-    say-requires
+    sub-answer
+    part-answer-start
+    part-answer-end
+    answer-requires
     next-requires-2
     sub-turns
     loop-less
@@ -119,4 +100,5 @@ serve-spec =
     same-length-3
     same-length-4
     same-length-5
+    same-length-6
     returns)

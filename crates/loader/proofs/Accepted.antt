@@ -1,0 +1,166 @@
+-- What `load` writes is an accepted pack that holds what the definition says; and a promise of `load` allows one answer and one
+-- content of the buffer. Assumes nothing.
+use mathlib.Core.Path.{_≡_, refl, sym, ap, _∙_}
+use mathlib.Core.Bool.{Bool, true, false}
+use mathlib.Core.List.{List, [], _∷_, _++_}
+use mathlib.Core.Logic.{_⊎_, inl, inr, ⊎-elim}
+use Prim.Native.Nat.{ℕ, zero, suc, _+_, _≤_}
+use native.Mathlib.Omega.{arith}
+use lib.Dec.{leb, ltb}
+use lib.ListN.{length, take}
+use lib.Seq.{sets, sets-eq, take-at}
+use borrow.Author.Tests.{leb-true, le-leb, lt-ltb, eq-eqb, eqb-true, eqb-false}
+use Rattle.base.specs.Pick.{pick, pick-true, pick-inv, and-yes}
+use Rattle.name_parts.proofs.Laws.{clash}
+use Rattle.name_parts.specs.declared.prefixes.NameType.{NameType}
+use Rattle.name_parts.specs.declared.prefixes.NameType.the-variants.{Ashkenazi, Generic, Sephardic}
+use Rattle.regex_optim.specs.declared.OptimizedRegex.{OptimizedRegex}
+use Rattle.regex_optim.specs.declared.OptimizedRegex.the-variants.{AllStringsMatcher, IsEmpty, Equals, StartsWith, EndsWith, EqualsChar, StartsWithChar, EndsWithChar, Outside}
+use Rattle.rule.specs.declared.answers.Expression.{Expression}
+use Rattle.rule.specs.declared.answers.Expression.the-variants.{Good, Malformed, Stranger}
+use Rattle.pack.specs.Packs.{Guess, Rule, Pack, accepted, packOf, all, guessesGood, isForm, isGood, ruleGood, listGood, listCount}
+use Rattle.pack_bytes.specs.Bytes.{namesBytes, packBytes, Each, none, more, GoodPack}
+use Rattle.pack_bytes.proofs.Laws.{packed}
+use Rattle.bundles.specs.Bundles.{File, Found, missing, found, readBundle, wellFormed, filesOf}
+use Rattle.rule_lists.specs.Outcomes as outcome
+use Rattle.rule_lists.specs.Lines.{lengthFault, contextFault, expressionFault, orElse, ruleFault}
+use Rattle.rule_lists.specs.Lists.{prefixOf, listFiles, listsOf}
+use Rattle.rule_lists.proofs.WalkLaws.{GoodRead}
+use Rattle.rule_lists.proofs.FileLaws.{list-good}
+use Rattle.loader.specs.Guesses.{guessesOf}
+use Rattle.loader.specs.Loading.{onType, onListed, namesOf, guessFile, listsIn, packIn, loadOf, written, answer, filled, AnswerIs, LoadIs}
+use Rattle.loader.specs.declared.loading.Loaded.{Loaded}
+use Rattle.loader.specs.declared.loading.Loaded.the-variants.{Done, Refused}
+use Rattle.loader.proofs.FileLaws.{fine-is, then-fine}
+use Rattle.loader.proofs.LanguageLaws.{strings-names}
+use Rattle.loader.proofs.GuessLaws.{guesses-good}
+use Rattle.loader.proofs.LoadingLaws.{names-good, lists-counted}
+
+-- one answer and one content
+pub load-one : (ty : ℕ) (s : List ℕ) {out o o′ : List ℕ} {r r′ : Loaded} → LoadIs ty s out r o → LoadIs ty s out r′ o′ → (r ≡ r′) × (o ≡ o′)
+load-one ty s x y = (x .result ∙ sym (y .result), x .buffer ∙ sym (y .buffer))
+
+-- ---- the parts of a pack that was loaded
+
+pub record PartsOf (kind : NameType) (fs : List File) (p : Pack) : Type 0 where
+  pub names : namesOf kind fs ≡ outcome.fine (p .names)
+  pub guesses : guessFile kind fs (namesBytes (p .names)) ≡ outcome.fine (p .guesses)
+  pub lists : listsOf (namesBytes (p .names)) fs (listFiles (prefixOf kind) (p .names)) ≡ outcome.fine (p .lists)
+
+parts-of : (kind : NameType) (fs : List File) (p : Pack) → packIn kind fs ≡ outcome.fine p → PartsOf kind fs p
+unfolding packIn listsIn
+parts-of kind fs p e =
+    let a = then-fine _ _ p e in
+    let b = then-fine _ _ p (a .2) in
+    let c = then-fine _ _ p (b .2) in
+    rw (← fine-is (c .2)) (record { names = a .1; guesses = b .1; lists = c .1 })
+
+-- the type whose files were loaded
+pub record LoadedFrom (s : List ℕ) (p : Pack) : Type 0 where
+  pub kind : NameType
+  pub parts : PartsOf kind (filesOf s) p
+
+good-bundle : (kind : NameType) (s : List ℕ) (p : Pack) → pick (wellFormed (readBundle s)) (packIn kind (filesOf s)) (outcome.refused 10 0 0) ≡ outcome.fine p → LoadedFrom s p
+good-bundle kind s p e = ⊎-elim (λ w. record { kind = kind; parts = parts-of kind (filesOf s) p (w .1) }) (λ w. clash (cc (w .1))) (pick-inv _ _ _ _ e)
+
+loaded-from : (ty : ℕ) (s : List ℕ) (p : Pack) → loadOf ty s ≡ outcome.fine p → LoadedFrom s p
+unfolding loadOf onType
+loaded-from zero s p e = good-bundle Ashkenazi s p e
+loaded-from (suc zero) s p e = good-bundle Generic s p e
+loaded-from (suc (suc zero)) s p e = good-bundle Sephardic s p e
+loaded-from (suc (suc (suc n))) s p e = clash (cc)
+
+-- ---- they are good
+
+else-inv : (a b : ℕ) → orElse a b ≡ 0 → (a ≡ 0) × (b ≡ 0)
+unfolding orElse
+else-inv a b e = ⊎-elim (λ w. (eqb-true a 0 (w .0), w .1)) (λ w. absurd (eqb-false a 0 (w .0) (w .1))) (pick-inv _ _ _ _ e)
+
+form-good : (f : OptimizedRegex) → contextFault f ≡ 0 → isForm f ≡ true
+unfolding contextFault isForm
+form-good AllStringsMatcher e = refl
+form-good IsEmpty e = refl
+form-good Equals e = refl
+form-good StartsWith e = refl
+form-good EndsWith e = refl
+form-good EqualsChar e = refl
+form-good StartsWithChar e = refl
+form-good EndsWithChar e = refl
+form-good Outside e = absurd (omega arith)
+
+expression-good : (x : Expression) → expressionFault x ≡ 0 → isGood x ≡ true
+unfolding expressionFault isGood
+expression-good (Good n) e = refl
+expression-good Malformed e = absurd (omega arith)
+expression-good Stranger e = absurd (omega arith)
+
+some-pattern : (p l r e : ℕ) → lengthFault p l r e ≡ 0 → ltb 0 p ≡ true
+unfolding lengthFault
+some-pattern zero l r e h = absurd (omega (arith, sym (pick-true _ 13 _ (eq-eqb 0 0 refl)) ∙ h))
+some-pattern (suc p) l r e h = lt-ltb 0 (suc p) (omega arith)
+
+-- a rule that was read without a fault keeps the pack's rules
+rule-good : (names : List ℕ) (r : Rule) → GoodRead names r → ruleGood names r ≡ true
+unfolding ruleGood ruleFault
+rule-good names r g =
+    let a = else-inv _ _ (g .fault) in
+    let b = else-inv _ _ (a .1) in
+    let c = else-inv _ _ (b .1) in
+    and-yes _ _ (and-yes _ _ (g .pattern) (and-yes _ _ (g .left) (and-yes _ _ (g .right) (g .expression))))
+    (and-yes _ _ (some-pattern _ _ _ _ (a .0)) (and-yes _ _ (form-good _ (b .0)) (and-yes _ _ (form-good _ (c .0)) (expression-good _ (c .1)))))
+
+rules-good : (names : List ℕ) (rs : List Rule) → Each (GoodRead names) rs → all (ruleGood names) rs ≡ true
+unfolding all
+rules-good names [] none = refl
+rules-good names (r ∷ rs) (more g w) = and-yes _ _ (rule-good names r g) (rules-good names rs w)
+
+lists-good : (names : List ℕ) (fs : List File) (ws : List (List ℕ)) (ls : List (List Rule)) → listsOf names fs ws ≡ outcome.fine ls → Each (λ rs. listGood names rs ≡ true) ls
+unfolding listsOf listGood
+lists-good names fs [] ls e = rw (← fine-is e) none
+lists-good names fs (w ∷ ws) ls e =
+    let a = then-fine _ _ ls e in
+    let b = then-fine _ _ ls (a .2) in
+    let g = list-good names fs w (a .0) (a .1) in
+    rw (← fine-is (b .2)) (more (and-yes _ _ (le-leb _ _ (g .few)) (and-yes _ _ (rules-good names (a .0) (g .each)) (g .order))) (lists-good names fs ws (b .0) (b .1)))
+
+found-guesses : (xs : List (List ℕ)) (gs : List Guess) (x : Found) → onListed x (guessesOf (namesBytes xs)) ≡ outcome.fine gs → guessesGood (length xs) gs ≡ true
+unfolding onListed
+found-guesses xs gs missing e = clash (cc)
+found-guesses xs gs (found f s) e = guesses-good (namesBytes xs) xs (strings-names xs) f s gs e
+
+good-pack : (kind : NameType) (fs : List File) (p : Pack) → PartsOf kind fs p → GoodPack p
+unfolding guessFile listCount
+good-pack kind fs p x = record {
+  names = names-good kind fs (p .names) (x .names);
+  guesses = found-guesses (p .names) (p .guesses) _ (x .guesses);
+  counted = lists-counted kind fs (p .names) (p .lists) (x .lists);
+  lists = lists-good (namesBytes (p .names)) fs _ (p .lists) (x .lists);
+}
+
+-- ---- what was written
+
+-- the answer told done: what was loaded, and that it stands at the front of the buffer
+pub record Written (ty : ℕ) (s : List ℕ) (n : ℕ) (out′ : List ℕ) : Type 0 where
+  pub it : Pack
+  pub loads : loadOf ty s ≡ outcome.fine it
+  pub front : take n out′ ≡ packBytes it
+  pub accepts : packOf (take n out′) ≡ accepted it
+
+fits : (b out out′ : List ℕ) (n : ℕ) → Done n ≡ answer (outcome.fine b) (length out) → out′ ≡ filled (outcome.fine b) out → take n out′ ≡ b
+unfolding answer filled
+fits b out out′ n r h = ⊎-elim (λ w. yes-so (w .0) (cc (w .1))) (λ w. clash (cc (w .1))) (pick-inv _ _ _ _ (sym r))
+  where
+    yes-so : leb (length b) (length out) ≡ true → length b ≡ n → take n out′ ≡ b
+    yes-so t e = rw (h ∙ pick-true _ _ _ t ∙ sets-eq b out 0 (omega (arith, leb-true (length b) (length out) t))) (take-at b _ n e)
+
+written-by : (ty : ℕ) (s out out′ : List ℕ) (n : ℕ) (x : outcome.Outcome Pack) → loadOf ty s ≡ x → AnswerIs (written x) out (Done n) out′ → Written ty s n out′
+unfolding written answer
+written-by ty s out out′ n (outcome.fine p) e a =
+    let f : take n out′ ≡ packBytes p = fits (packBytes p) out out′ n (a .result) (a .buffer) in
+    let v = loaded-from ty s p e in
+    record { it = p; loads = e; front = f; accepts = rw f (packed p (good-pack (v .kind) (filesOf s) p (v .parts))) }
+written-by ty s out out′ n (outcome.refused c l f) e a = clash (cc (a .result))
+
+-- THE LAW: what `load` leaves where it is done is an accepted pack, and it is the definition's
+pub load-accepted : (ty : ℕ) (s out out′ : List ℕ) (n : ℕ) → LoadIs ty s out (Done n) out′ → Written ty s n out′
+load-accepted ty s out out′ n a = written-by ty s out out′ n (loadOf ty s) refl a

@@ -1,0 +1,91 @@
+-- What a language list or a guessing file says, item by item. Assumes nothing.
+use mathlib.Core.Path.{_≡_, refl, sym, ap, _∙_}
+use mathlib.Core.List.{List, [], _∷_}
+use Prim.Native.Nat.{ℕ, zero, suc, _+_, _-_, _≤_, _<_}
+use native.Mathlib.Decide.{decLe}
+use native.Mathlib.Omega.{arith}
+use lib.ListN.{length}
+use Rattle.name_parts.proofs.Laws.{clash}
+use Rattle.pack_bytes.specs.Bytes.{Each, none, more}
+use Rattle.rules_parser.specs.Files.{itemAt, itemsAt, itemsOf}
+use Rattle.rules_parser.proofs.Laws.{passed-goes, passed-in, tells-goes, tells-in, items-start, items-end, items-passed, items-tells, items-wrong}
+use Rattle.rules_parser.specs.declared.lines.FileKind.{FileKind}
+use Rattle.rules_parser.specs.declared.lines.Told.{Told}
+use Rattle.rules_parser.specs.declared.files.Item.{Item}
+use Rattle.rules_parser.specs.declared.files.Item.the-variants.{Passed, Tells, Wrong}
+use Rattle.rule_lists.specs.Outcomes.{Outcome, fine, refused, andThen}
+use Rattle.loader.specs.Files.{Kept, keeps, fault, onKept, toldIn}
+
+pub fine-is : {A : Type 0} {x y : A} → fine x ≡ fine y → x ≡ y
+fine-is e = cc
+
+-- what goes on came to a value: so did what was before it
+pub then-fine : {A B : Type 0} (x : Outcome A) (k : A → Outcome B) (b : B) → andThen x k ≡ fine b → (a : A) × (x ≡ fine a) × (k a ≡ fine b)
+unfolding andThen
+then-fine (fine a) k b e = (a, refl, e)
+then-fine (refused c l f) k b e = clash (cc)
+
+module _ {A : Type 0} (meaning : Told → Kept A) (f : ℕ) (k : FileKind) (s : List ℕ) where
+  -- what is said from the place p on, which is in line l
+  abbrev pub toldFrom : ℕ → ℕ → Outcome (List A)
+  toldFrom l p = toldIn meaning f l (itemsAt k s p)
+
+  pub told-start : toldFrom 1 0 ≡ toldIn meaning f 1 (itemsOf k s)
+  told-start = ap (toldIn meaning f 1) (items-start k s)
+
+  module _ (l p : ℕ) where
+    pub told-end : length s ≤ p → toldFrom l p ≡ fine []
+    unfolding toldIn
+    told-end h = ap (toldIn meaning f l) (items-end k s p h)
+
+    pub told-wrong : p < length s → itemAt k s p ≡ Wrong → toldFrom l p ≡ refused 12 l f
+    unfolding toldIn
+    told-wrong h e = ap (toldIn meaning f l) (items-wrong k s p h e)
+
+    pub told-passed : (a n : ℕ) → itemAt k s p ≡ Passed a n → toldFrom l p ≡ toldFrom (l + a) n
+    unfolding toldIn
+    told-passed a n e = ap (toldIn meaning f l) (items-passed k s p a n e)
+
+    module _ (t : Told) (n : ℕ) (e : itemAt k s p ≡ Tells t n) (x : Kept A) (m : meaning t ≡ x) where
+      told-tells : toldFrom l p ≡ onKept x (λ c. refused c l f) (λ a. andThen (toldFrom (l + 1) n) (λ rest. fine (a ∷ rest)))
+      unfolding toldIn
+      told-tells = ap (toldIn meaning f l) (items-tells k s p t n e)
+          ∙ ap (λ (y : Kept A). onKept y (λ c. refused c l f) (λ a. andThen (toldFrom (l + 1) n) (λ rest. fine (a ∷ rest)))) m
+
+    pub told-fault : (t : Told) (n c : ℕ) → itemAt k s p ≡ Tells t n → meaning t ≡ fault c → toldFrom l p ≡ refused c l f
+    unfolding onKept
+    told-fault t n c e m = told-tells t n e _ m
+
+    pub told-kept : (t : Told) (n : ℕ) (a : A) → itemAt k s p ≡ Tells t n → meaning t ≡ keeps a
+        → toldFrom l p ≡ andThen (toldFrom (l + 1) n) (λ rest. fine (a ∷ rest))
+    unfolding onKept
+    told-kept t n a e m = told-tells t n e _ m
+
+  -- what holds of all that a line of the file can be kept as holds of each that is kept
+  module _ (P : A → Type 0) (good : (p : ℕ) (t : Told) (n : ℕ) (a : A) → itemAt k s p ≡ Tells t n → meaning t ≡ keeps a → P a) where
+    abbrev Rest : ℕ → Type 0
+    Rest p = (l : ℕ) (xs : List A) → toldFrom l p ≡ fine xs → Each P xs
+
+    kept-by : (l p : ℕ) (xs : List A) (t : Told) (n : ℕ) → itemAt k s p ≡ Tells t n → (y : Kept A) → meaning t ≡ y → Rest n → toldFrom l p ≡ fine xs → Each P xs
+    kept-by l p xs t n e (keeps a) m ih q =
+        let w = then-fine _ _ xs (sym (told-kept l p t n a e m) ∙ q) in
+        rw (← fine-is (w .2)) (more (good p t n a e m) (ih (l + 1) (w .0) (w .1)))
+    kept-by l p xs t n e (fault c) m ih q = let z = sym (told-fault l p t n c e m) ∙ q in clash (cc)
+
+    item-by : (l p : ℕ) (xs : List A) → p < length s → (x : Item) → itemAt k s p ≡ x → ((n : ℕ) → p < n → n ≤ length s → Rest n) → toldFrom l p ≡ fine xs → Each P xs
+    item-by l p xs h (Passed a n) e ih q = ih n (passed-goes k s p a n e) (passed-in k s p a n e) (l + a) xs (sym (told-passed l p a n e) ∙ q)
+    item-by l p xs h (Tells t n) e ih q = kept-by l p xs t n e _ refl (ih n (tells-goes k s p t n e) (tells-in k s p t n e)) q
+    item-by l p xs h Wrong e ih q = let z = sym (told-wrong l p h e) ∙ q in clash (cc)
+
+    none-by : (l p : ℕ) (xs : List A) → length s ≤ p → toldFrom l p ≡ fine xs → Each P xs
+    none-by l p xs h q = rw (← fine-is (sym (told-end l p h) ∙ q)) none
+
+    each-from : (left p : ℕ) → length s - p ≤ left → Rest p
+    each-from zero p h l xs q = none-by l p xs (omega arith) q
+    each-from (suc left) p h l xs q = elim (decLe (length s) p) [
+      | yes i ↦ none-by l p xs i q
+      | no i ↦ item-by l p xs (omega arith) _ refl (λ n a b. each-from left n (omega arith)) q
+    ]
+
+    pub each-told : (xs : List A) → toldIn meaning f 1 (itemsOf k s) ≡ fine xs → Each P xs
+    each-told xs q = each-from (length s) 0 (omega arith) 1 xs (told-start ∙ q)

@@ -1,0 +1,345 @@
+-- The guessing file: a rule judged and written, the loop over its lines, and that what is kept is good in a pack. Assumes nothing.
+use mathlib.Core.Path.{_≡_, refl, sym, ap, ap₂, _∙_}
+use mathlib.Core.Bool.{Bool, true, false, not}
+use mathlib.Core.List.{List, [], _∷_, _++_}
+use Prim.Native.Nat.{ℕ, zero, suc, _+_, _-_, _*_, _^_, _≤_, _<_}
+use native.Mathlib.Nat.{zero-add}
+use native.Mathlib.Omega.{arith}
+use lib.Bits.{bitOr, bitAnd, or-lt, and-zero-r}
+use lib.Dec.{eqb, leb, ltb}
+use lib.ListN.{length}
+use lib.Pow.{pow-pos}
+use mir.Syntax.{w64}
+use mir.Val.{Fits, boolByte}
+use borrow.Author.Tests.{lt-ltb, le-ltb, ltb-false, leb-true, ne-eqb}
+use Rattle.base.specs.Pick.{pick, pick-true, pick-false, pick-all, and-yes, and-inv}
+use Rattle.base.proofs.Bits.{and-or}
+use Rattle.languages.specs.Names.{stringsOf}
+use Rattle.languages.specs.declared.names.Listed.{Listed}
+use Rattle.languages.specs.declared.names.Listed.the-variants.{Bit, Unlisted}
+use Rattle.languages.proofs.Laws.{is-listed, bit-held}
+use Rattle.rule.specs.Expressions.{plus, onFirst, cutAt, withBits, namesMask}
+use Rattle.lang.specs.Patterns.{inForms}
+use Rattle.name_parts.specs.Writing.{Put, cap}
+use Rattle.name_parts.proofs.Laws.{clash, put-none, put-then, put-long, put-place}
+use Rattle.pack.specs.Packs.{Guess, guess, all, guessGood, guessesGood}
+use Rattle.pack_bytes.specs.Bytes.{textBytes, textPut, maskBytes, guessBytes, Each, none, more}
+use Rattle.held.specs.Tables.{bytesOf}
+use Rattle.rules_parser.specs.Fields.{partOf}
+use Rattle.rules_parser.specs.Files.{itemAt}
+use Rattle.rules_parser.proofs.Laws.{passed-goes, passed-in, passed-lines, tells-goes, guess-pattern}
+use Rattle.rules_parser.specs.declared.fields.Text.{Text}
+use Rattle.rules_parser.specs.declared.lines.FileKind.the-variants.{Guesses}
+use Rattle.rules_parser.specs.declared.lines.Told.{Told}
+use Rattle.rules_parser.specs.declared.lines.Told.the-variants as told
+use Rattle.rules_parser.specs.declared.files.Item.{Item}
+use Rattle.rules_parser.specs.declared.files.Item.the-variants.{Passed, Tells, Wrong}
+use Rattle.rule_lists.specs.Outcomes.{Outcome, fine, refused, andThen}
+use Rattle.loader.specs.Files.{Kept, keeps, fault}
+use Rattle.loader.specs.Guesses.{acceptOf, withMask, judged, guessOf, guessesIn, counted, guessesOf}
+use Rattle.loader.specs.Walks.{judgment, judgedAs, guessPut, GuessesTold, GuessesAre}
+use Rattle.loader.specs.declared.guesses.Judged.{Judged}
+use Rattle.loader.specs.declared.guesses.Judged.the-variants.{Mask, Fault}
+use Rattle.loader.specs.declared.guesses.Guessed.{Guessed}
+use Rattle.loader.specs.declared.guesses.Guessed.the-variants.{Done, Refused}
+use Rattle.loader.proofs.FileLaws.{fine-is, then-fine, toldFrom, told-start, told-end, told-wrong, told-passed, told-fault, told-kept, each-told}
+
+-- ---- a rule judged
+
+module _ (names pattern joined : List ℕ) where
+  pub judge-long : 255 < length pattern → Fault 18 ≡ judgedAs names pattern joined
+  unfolding judgedAs judgment judged
+  judge-long h = sym (ap judgment (pick-true _ _ _ (lt-ltb 255 (length pattern) h)))
+
+  module _ (h : length pattern ≤ 255) (t : Bool) (e : t ≡ inForms pattern) where
+    judge-by : judgment (pick t (withMask true pattern (namesMask names (cutAt plus joined))) (fault 15)) ≡ judgedAs names pattern joined
+    unfolding judgedAs judged
+    judge-by = ap judgment (rw (← e) (sym (pick-false _ _ _ (le-ltb 255 (length pattern) h))))
+
+    pub judge-bad : t ≡ false → Fault 15 ≡ judgedAs names pattern joined
+    unfolding judgment pick
+    judge-bad q = rw q at judge-by
+
+    module _ (q : t ≡ true) (x : Listed) (g : x ≡ namesMask names (cutAt plus joined)) where
+      listed-by : judgment (withMask true pattern x) ≡ judgedAs names pattern joined
+      unfolding pick
+      listed-by = rw (q, ← g) at judge-by
+
+      pub judge-mask : (m : ℕ) → x ≡ Bit m → Mask m ≡ judgedAs names pattern joined
+      unfolding judgment withMask
+      judge-mask m p = rw p at listed-by
+
+      pub judge-stranger : x ≡ Unlisted → Fault 16 ≡ judgedAs names pattern joined
+      unfolding judgment withMask
+      judge-stranger p = rw p at listed-by
+
+pub ruleset judge-laws = (judge-long, judge-bad, judge-mask, judge-stranger)
+
+-- what a judgment tells, whether the rule accepts or not
+abbrev judgedBy : Bool → List ℕ → Bool → Bool → Listed → Kept Guess
+judgedBy v pattern t u x = pick t (fault 18) (pick u (withMask v pattern x) (fault 15))
+
+mask-by : (v : Bool) (pattern : List ℕ) (t u : Bool) (x : Listed) (m : ℕ) → judgment (judgedBy true pattern t u x) ≡ Mask m
+    → (t ≡ false) × (judgedBy v pattern t u x ≡ keeps (guess (acceptOf v) m pattern))
+unfolding judgment withMask pick
+mask-by v pattern true u x m e = clash (cc)
+mask-by v pattern false true (Bit k) m e = let same : k ≡ m = cc in (refl, ap (λ (i : ℕ). keeps (guess (acceptOf v) i pattern)) same)
+mask-by v pattern false true Unlisted m e = clash (cc)
+mask-by v pattern false false x m e = clash (cc)
+
+fault-by : (v : Bool) (pattern : List ℕ) (t u : Bool) (x : Listed) (c : ℕ) → judgment (judgedBy true pattern t u x) ≡ Fault c → judgedBy v pattern t u x ≡ fault c
+unfolding judgment withMask pick
+fault-by v pattern true u x c e = let same : 18 ≡ c = cc in ap (λ (i : ℕ). fault i) same
+fault-by v pattern false true (Bit k) c e = clash (cc)
+fault-by v pattern false true Unlisted c e = let same : 16 ≡ c = cc in ap (λ (i : ℕ). fault i) same
+fault-by v pattern false false x c e = let same : 15 ≡ c = cc in ap (λ (i : ℕ). fault i) same
+
+-- ---- a rule written
+
+module _ (o o₁ o₂ o₃ : List ℕ) (at p q r : ℕ) where
+  pub guess-put : (v : Bool) (m : ℕ) (pattern : List ℕ) → Put o o₁ at p (boolByte v ∷ []) → Put o₁ o₂ p q (maskBytes m) → Put o₂ o₃ q r (textPut pattern)
+      → Put o o₃ at r (guessPut v m pattern)
+  unfolding guessPut acceptOf
+  guess-put true m pattern x y z = put-then x (put-then y z)
+  guess-put false m pattern x y z = put-then x (put-then y z)
+
+put-bytes : (v : Bool) (m : ℕ) (pattern : List ℕ) → length pattern ≤ 255 → guessPut v m pattern ≡ guessBytes (guess (acceptOf v) m pattern)
+unfolding guessPut guessBytes textPut textBytes
+put-bytes v m pattern h = ap (λ (n : ℕ). acceptOf v ∷ (maskBytes m ++ (n ∷ pattern))) (omega arith)
+
+-- ---- the loop: what is left of the file, written behind n rules
+
+unfoldable pub ToldFrom : ℕ → Outcome (List Guess) → List ℕ → ℕ → Guessed → List ℕ → Type 0
+ToldFrom n (fine gs) o at r o′ = (p : ℕ) × (r ≡ Done (n + length gs) p) × Put o o′ at p (bytesOf guessBytes gs)
+ToldFrom n (refused c l f) o at r o′ = r ≡ Refused c l f
+
+from-start : (x : Outcome (List Guess)) (o : List ℕ) (at : ℕ) (r : Guessed) (o′ : List ℕ) → ToldFrom 0 x o at r o′ → GuessesTold x o at r o′
+unfolding ToldFrom GuessesTold
+from-start (fine gs) o at r o′ w = (w .0, w .1 ∙ ap (λ (n : ℕ). Done n (w .0)) (zero-add (length gs)), w .2)
+from-start (refused c l f) o at r o′ w = w
+
+from-next : (n : ℕ) (g : Guess) (x : Outcome (List Guess)) (o o₁ : List ℕ) (at p : ℕ) (r : Guessed) (o′ : List ℕ) → Put o o₁ at p (guessBytes g)
+    → ToldFrom (n + 1) x o₁ p r o′ → ToldFrom n (andThen x (λ gs. fine (g ∷ gs))) o at r o′
+unfolding ToldFrom andThen bytesOf
+from-next n g (fine gs) o o₁ at p r o′ y w =
+    let size : n + 1 + length gs ≡ n + suc (length gs) = omega arith in
+    (w .0, w .1 ∙ ap (λ (k : ℕ). Done k (w .0)) size, put-then y (w .2))
+from-next n g (refused c l f) o o₁ at p r o′ y w = w
+
+from-end : (n : ℕ) (o : List ℕ) (at : ℕ) → length o < cap → at ≤ cap → ToldFrom n (fine []) o at (Done n at) o
+unfolding ToldFrom bytesOf
+from-end n o at h k = let size : n ≡ n + 0 = omega arith in (at, ap (λ (i : ℕ). Done i at) size, put-none o at h k)
+
+from-refused : (n c l f : ℕ) (o : List ℕ) (at : ℕ) → ToldFrom n (refused c l f) o at (Refused c l f) o
+unfolding ToldFrom
+from-refused n c l f o at = refl
+
+-- n rules were written up to the place `at` of o, and the file is read up to its place p, in line l
+pub record Writing (names s : List ℕ) (f : ℕ) (o₀ : List ℕ) (at₀ : ℕ) (o : List ℕ) (at n p l : ℕ) : Type 0 where
+  pub lines : l ≤ p + 1
+  pub rules : n ≤ p
+  pub small : length s < cap
+  pub room : length o < cap
+  pub long : length o ≡ length o₀
+  pub place : at ≤ cap
+  pub is : (r : Guessed) (o′ : List ℕ) → ToldFrom n (toldFrom (guessOf names s) f Guesses s l p) o at r o′ → GuessesAre names s f o₀ at₀ r o′
+
+pub writing-start : (names s : List ℕ) (f : ℕ) (o : List ℕ) (at : ℕ) → length s * 1 < cap → length o * 1 < cap → at ≤ cap → Writing names s f o at o at 0 0 1
+unfolding GuessesAre guessesIn
+writing-start names s f o at b h k = record {
+  lines = omega arith;
+  rules = omega arith;
+  small = omega arith;
+  room = omega arith;
+  long = refl;
+  place = k;
+  is = λ r o′ w. from-start _ o at r o′ (rw (told-start (guessOf names s) f Guesses s) at w);
+}
+
+module _ {names s : List ℕ} {f : ℕ} {o₀ : List ℕ} {at₀ : ℕ} {o : List ℕ} {at n p l : ℕ} (w : Writing names s f o₀ at₀ o at n p l) where
+  -- what is left comes to a refusal
+  stops : (c : ℕ) → toldFrom (guessOf names s) f Guesses s l p ≡ refused c l f → GuessesAre names s f o₀ at₀ (Refused c l f) o
+  stops c e = w .is _ o (rw e (from-refused n c l f o at))
+
+  pub writing-long : length o ≡ length o₀
+  writing-long = w .long
+
+  pub writing-done : length s ≤ p → GuessesAre names s f o₀ at₀ (Done n at) o
+  writing-done h = w .is _ o (rw (told-end (guessOf names s) f Guesses s l p h) (from-end n o at (w .room) (w .place)))
+
+  module _ (h : p < length s) where
+    pub writing-count : Fits w64 (n + 1)
+    writing-count = record { fits = omega (arith, w .rules, w .small) }
+
+    pub writing-line : Fits w64 (l + 1)
+    writing-line = record { fits = omega (arith, w .lines, w .small) }
+
+  module _ (h : p < length s) (x : Item) (e : x ≡ itemAt Guesses s p) where
+    pub writing-wrong : x ≡ Wrong → GuessesAre names s f o₀ at₀ (Refused 12 l f) o
+    writing-wrong q = stops 12 (told-wrong (guessOf names s) f Guesses s l p h (sym e ∙ q))
+
+    module _ (k i : ℕ) (q : x ≡ Passed k i) where
+      here-passed : itemAt Guesses s p ≡ Passed k i
+      here-passed = sym e ∙ q
+
+      lines-passed : l + k ≤ i + 1
+      lines-passed = omega (arith, w .lines, passed-goes Guesses s p k i here-passed, passed-lines Guesses s p k i here-passed)
+
+      pub writing-lines : Fits w64 (l + k)
+      writing-lines = record { fits = omega (arith, lines-passed, passed-in Guesses s p k i here-passed, w .small) }
+
+      pub passed-less : length s - i < length s - p
+      passed-less = omega (arith, passed-goes Guesses s p k i here-passed)
+
+      pub writing-passed : Writing names s f o₀ at₀ o at n i (l + k)
+      writing-passed = record {
+        lines = lines-passed;
+        rules = omega (arith, w .rules, passed-goes Guesses s p k i here-passed);
+        small = w .small;
+        room = w .room;
+        long = w .long;
+        place = w .place;
+        is = λ r o′ y. w .is r o′ (rw (told-passed (guessOf names s) f Guesses s l p k i here-passed) y);
+      }
+
+    module _ (t : Told) (i : ℕ) (q : x ≡ Tells t i) where
+      here-tells : itemAt Guesses s p ≡ Tells t i
+      here-tells = sym e ∙ q
+
+      pub tells-less : length s - i < length s - p
+      tells-less = omega (arith, tells-goes Guesses s p t i here-tells)
+
+      faulty : (c : ℕ) → guessOf names s t ≡ fault c → GuessesAre names s f o₀ at₀ (Refused c l f) o
+      faulty c m = stops c (told-fault (guessOf names s) f Guesses s l p t i c here-tells m)
+
+      pub writing-rule : (a b c d : Text) → t ≡ told.Rule a b c d → GuessesAre names s f o₀ at₀ (Refused 12 l f) o
+      unfolding guessOf
+      writing-rule a b c d g = faulty 12 (ap (guessOf names s) g)
+
+      pub writing-include : (a : Text) → t ≡ told.Include a → GuessesAre names s f o₀ at₀ (Refused 12 l f) o
+      unfolding guessOf
+      writing-include a g = faulty 12 (ap (guessOf names s) g)
+
+      pub writing-name : (a : Text) → t ≡ told.Name a → GuessesAre names s f o₀ at₀ (Refused 12 l f) o
+      unfolding guessOf
+      writing-name a g = faulty 12 (ap (guessOf names s) g)
+
+      module _ (a b : Text) (v : Bool) (g : t ≡ told.Guess a b v) (pattern joined : List ℕ) (ea : pattern ≡ partOf s a) (eb : joined ≡ partOf s b)
+          (j : Judged) (ej : j ≡ judgedAs names pattern joined) where
+        judged-here : (y : Kept Guess) → judged names v pattern joined ≡ y → guessOf names s t ≡ y
+        unfolding guessOf
+        judged-here y z = ap (guessOf names s) g ∙ ap₂ (judged names v) (sym ea) (sym eb) ∙ z
+
+        pub writing-fault : (c : ℕ) → j ≡ Fault c → GuessesAre names s f o₀ at₀ (Refused c l f) o
+        unfolding judgedAs judged
+        writing-fault c z = faulty c (judged-here _ (fault-by v pattern _ _ _ c (sym ej ∙ z)))
+
+        module _ (m : ℕ) (z : j ≡ Mask m) where
+          kept : (ltb 255 (length pattern) ≡ false) × (judged names v pattern joined ≡ keeps (guess (acceptOf v) m pattern))
+          unfolding judgedAs judged
+          kept = mask-by v pattern _ _ _ m (sym ej ∙ z)
+
+          pub writing-kept : (o₁ : List ℕ) (r : ℕ) → Put o o₁ at r (guessPut v m pattern) → Writing names s f o₀ at₀ o₁ r (n + 1) i (l + 1)
+          writing-kept o₁ r y =
+              let goes = tells-goes Guesses s p t i here-tells in
+              let bytes = rw (put-bytes v m pattern (ltb-false _ _ (kept .0))) at y in
+              record {
+                lines = omega (arith, w .lines);
+                rules = omega (arith, w .rules);
+                small = w .small;
+                room = omega (arith, w .room, put-long o o₁ at r _ y);
+                long = put-long o o₁ at r _ y ∙ w .long;
+                place = put-place o o₁ at r _ y;
+                is = λ u o′ x. w .is u o′ (rw (told-kept (guessOf names s) f Guesses s l p t i _ here-tells (judged-here _ (kept .1))) (from-next n _ _ o o₁ at r u o′ bytes x));
+              }
+
+pub ruleset writing-laws = (writing-start, writing-long, writing-done, writing-count, writing-line, writing-wrong, writing-lines, passed-less, writing-passed, tells-less, writing-rule, writing-include, writing-name, writing-fault, writing-kept)
+
+-- ---- what is kept is good in a pack
+
+with-inv : (a b : Listed) (m : ℕ) → withBits a b ≡ Bit m → (x : ℕ) × (y : ℕ) × (a ≡ Bit x) × (b ≡ Bit y) × (bitOr x y ≡ m)
+unfolding withBits
+with-inv (Bit x) (Bit y) m e = (x, y, refl, refl, cc)
+with-inv (Bit x) Unlisted m e = clash (cc)
+with-inv Unlisted b m e = clash (cc)
+
+or-by : (x y n : ℕ) → bitOr x y ≡ n → 0 < x → 0 < n
+or-by x y zero e h = let none : x ≡ 0 = sym (and-or x y) ∙ ap (bitAnd x) e ∙ and-zero-r x in absurd (omega arith)
+or-by x y (suc n) e h = omega arith
+
+cut-by : (x : ℕ) (ps : List (List ℕ)) → 0 < length (onFirst x ps)
+unfolding onFirst
+cut-by x [] = omega arith
+cut-by x (p ∷ ps) = omega arith
+
+cut-some : (b : ℕ) (l : List ℕ) → 0 < length (cutAt b l)
+unfolding cutAt
+cut-some b [] = omega arith
+cut-some b (x ∷ l) = pick-all (λ (ps : List (List ℕ)). 0 < length ps) (eqb x b) _ _ (omega arith) (cut-by x (cutAt b l))
+
+-- the mask of names that are listed has only their bits, and one at least
+module _ (names : List ℕ) where
+  mask-held : (ns : List (List ℕ)) (m : ℕ) → namesMask names ns ≡ Bit m → m < 2 ^ length (stringsOf names)
+  unfolding namesMask
+  mask-held [] m e = let z : 0 ≡ m = cc in rw (← z) (pow-pos (length (stringsOf names)))
+  mask-held (n ∷ ns) m e =
+      let i = with-inv _ _ m e in
+      rw (← i .4) (or-lt _ (i .0) (i .1) (bit-held names n (i .0) _ refl (i .2)) (mask-held ns (i .1) (i .3)))
+
+  mask-some : (ns : List (List ℕ)) (m : ℕ) → 0 < length ns → namesMask names ns ≡ Bit m → 0 < m
+  unfolding namesMask
+  mask-some [] m h e = absurd (omega arith)
+  mask-some (n ∷ ns) m h e =
+      let i = with-inv _ _ m e in
+      let l = is-listed names n (i .0) _ refl (i .2) in
+      or-by (i .0) (i .1) m (i .4) (rw (l .bit) (pow-pos (l .place)))
+
+kept-inv : (v : Bool) (pattern : List ℕ) (t u : Bool) (x : Listed) (g : Guess) → judgedBy v pattern t u x ≡ keeps g
+    → (m : ℕ) × (u ≡ true) × (x ≡ Bit m) × (guess (acceptOf v) m pattern ≡ g)
+unfolding withMask pick
+kept-inv v pattern true u x g e = clash (cc)
+kept-inv v pattern false true (Bit m) g e = (m, refl, refl, cc)
+kept-inv v pattern false true Unlisted g e = clash (cc)
+kept-inv v pattern false false x g e = clash (cc)
+
+accept-good : (v : Bool) → leb (acceptOf v) 1 ≡ true
+unfolding acceptOf
+accept-good true = refl
+accept-good false = refl
+
+-- a line that is kept
+kept-good : (names s : List ℕ) (p : ℕ) (t : Told) (n : ℕ) (g : Guess) → itemAt Guesses s p ≡ Tells t n → guessOf names s t ≡ keeps g
+    → guessGood (length (stringsOf names)) g ≡ true
+unfolding guessOf judged guessGood
+kept-good names s p (told.Rule a b c d) n g e k = clash (cc)
+kept-good names s p (told.Include a) n g e k = clash (cc)
+kept-good names s p (told.Name a) n g e k = clash (cc)
+kept-good names s p (told.Guess a b v) n g e k =
+    let i = kept-inv v (partOf s a) _ _ _ g k in
+    let some = mask-some names _ (i .0) (cut-some plus (partOf s b)) (i .2) in
+    let more = ap not (ne-eqb (i .0) 0 (λ z. omega arith)) in
+    rw (← i .3) (and-yes _ _ (accept-good v) (and-yes _ _ more
+    (and-yes _ _ (lt-ltb _ _ (mask-held names _ (i .0) (i .2))) (and-yes _ _ (guess-pattern s p a b v n e) (i .1)))))
+
+each-all : {A : Type 0} (f : A → Bool) {xs : List A} → Each (λ x. f x ≡ true) xs → all f xs ≡ true
+unfolding all
+each-all f none = refl
+each-all f (more x xs) = and-yes _ _ x (each-all f xs)
+
+counted-inv : (t : Bool) (gs hs : List Guess) → pick t (fine gs) (refused 18 0 0) ≡ fine hs → (t ≡ true) × (gs ≡ hs)
+unfolding pick
+counted-inv true gs hs e = (refl, fine-is e)
+counted-inv false gs hs e = clash (cc)
+
+-- `names` is the bytes of the languages xs, each behind its length byte
+module _ (names : List ℕ) (xs : List (List ℕ)) (listed : stringsOf names ≡ xs) (f : ℕ) (s : List ℕ) (gs : List Guess) (e : guessesOf names f s ≡ fine gs) where
+  pub guesses-good : guessesGood (length xs) gs ≡ true
+  unfolding guessesOf guessesIn counted guessesGood
+  guesses-good =
+      let w = then-fine _ _ gs e in
+      let c = counted-inv _ (w .0) gs (w .2) in
+      rw (← listed, ← c .1) (and-yes _ _ (c .0) (each-all _ (each-told (guessOf names s) f Guesses s _ (kept-good names s) (w .0) (w .1))))
+
+  pub guesses-few : length gs ≤ 4096
+  unfolding guessesGood
+  guesses-few = leb-true _ _ (and-inv _ _ guesses-good .0)

@@ -1,0 +1,127 @@
+-- The parts of loading: the type's number, its files by their names, its guessing rules, the pack's front. Assumes nothing.
+use mathlib.Core.Path.{_≡_, refl}
+use mathlib.Core.List.{List, [], _∷_, _++_}
+use Prim.Native.Nat.{ℕ, zero, suc, _-_, _≤_, _<_}
+use lib.ListN.{length, take, drop}
+use borrow.Author.Tests.{le-leb, lt-leb}
+use Rattle.base.specs.Pick.{pick-true, pick-false}
+use Rattle.name_parts.specs.Writing.{Put}
+use Rattle.name_parts.specs.declared.prefixes.NameType.{NameType}
+use Rattle.name_parts.specs.declared.prefixes.NameType.the-variants.{Ashkenazi, Generic, Sephardic}
+use Rattle.name_parts.proofs.Laws.{clash, put-then}
+use Rattle.pack.specs.Packs.{Guess}
+use Rattle.pack_bytes.specs.Bytes.{countBytes}
+use Rattle.bundles.specs.Bundles.{filesOf, fileNamed}
+use Rattle.bundles.specs.Walks.{Finds}
+use Rattle.bundles.specs.declared.FileAt.{FileAt}
+use Rattle.bundles.specs.declared.FileAt.the-variants as file-at
+use Rattle.bundles.proofs.Laws.{missing-is, found-is, found-order, found-within}
+use Rattle.rule_lists.specs.Outcomes.{Outcome, fine, refused, andThen}
+use Rattle.rule_lists.specs.Lists.{prefixOf}
+use Rattle.loader.specs.Guesses.{guessesIn, counted, guessesOf}
+use Rattle.loader.specs.Loading.{onType, langPart, onListed, guessFile}
+use Rattle.loader.specs.Walks.{kindOf, GuessesTold, GuessesAre, frontBytes}
+use Rattle.loader.specs.declared.loading.Kind.the-variants.{Is, Unknown}
+use Rattle.loader.specs.declared.guesses.Guessed.{Guessed}
+use Rattle.loader.specs.declared.guesses.Guessed.the-variants.{Done, Refused}
+
+-- ---- the type's number
+
+pub kind-ashkenazi : (n : ℕ) → n ≡ 0 → Is Ashkenazi ≡ kindOf n
+unfolding kindOf onType
+kind-ashkenazi n e = rw e refl
+
+pub kind-generic : (n : ℕ) → n ≡ 1 → Is Generic ≡ kindOf n
+unfolding kindOf onType
+kind-generic n e = rw e refl
+
+pub kind-sephardic : (n : ℕ) → n ≡ 2 → Is Sephardic ≡ kindOf n
+unfolding kindOf onType
+kind-sephardic n e = rw e refl
+
+pub kind-unknown : (n : ℕ) → (n ≡ 0 → ⊥) → (n ≡ 1 → ⊥) → (n ≡ 2 → ⊥) → Unknown ≡ kindOf n
+unfolding kindOf onType
+kind-unknown zero a b c = absurd (a refl)
+kind-unknown (suc zero) a b c = absurd (b refl)
+kind-unknown (suc (suc zero)) a b c = absurd (c refl)
+kind-unknown (suc (suc (suc n))) a b c = refl
+
+pub ruleset kind-laws = (kind-ashkenazi, kind-generic, kind-sephardic, kind-unknown)
+
+-- ---- a type's file, by its whole name
+
+module _ (kind : NameType) (part s : List ℕ) (r : FileAt) where
+  abbrev Named : List ℕ → Type 0
+  Named name = Finds s (fileNamed name 0 (filesOf s)) r
+
+  pub file-ashkenazi : kind ≡ Ashkenazi → Named (97 ∷ 115 ∷ 104 ∷ part) → Named (prefixOf kind ++ part)
+  unfolding prefixOf
+  file-ashkenazi e w = rw e w
+
+  pub file-generic : kind ≡ Generic → Named (103 ∷ 101 ∷ 110 ∷ part) → Named (prefixOf kind ++ part)
+  unfolding prefixOf
+  file-generic e w = rw e w
+
+  pub file-sephardic : kind ≡ Sephardic → Named (115 ∷ 101 ∷ 112 ∷ part) → Named (prefixOf kind ++ part)
+  unfolding prefixOf
+  file-sephardic e w = rw e w
+
+pub ruleset file-laws = (file-ashkenazi, file-generic, file-sephardic)
+
+-- ---- the pack's front
+
+module _ (o o₁ o₂ o₃ : List ℕ) (p q r : ℕ) where
+  pub front-put : (n : ℕ) (names : List ℕ) (g : ℕ) → Put o o₁ 0 p (n ∷ []) → Put o₁ o₂ p q names → Put o₂ o₃ q r (countBytes g) → Put o o₃ 0 r (frontBytes n names g)
+  unfolding frontBytes
+  front-put n names g x y z = put-then (put-then x y) z
+
+-- ---- the guessing file
+
+done-by : (x : Outcome (List Guess)) (o : List ℕ) (at n p : ℕ) (o′ : List ℕ) → GuessesTold x o at (Done n p) o′
+    → ((n ≤ 4096 → GuessesTold (andThen x counted) o at (Done n p) o′) × (4096 < n → GuessesTold (andThen x counted) o at (Refused 18 0 0) o′))
+unfolding GuessesTold andThen counted
+done-by (fine gs) o at n p o′ w =
+    let size : n ≡ length gs = let e = w .1 in cc in
+    (λ h. rw (pick-true _ (fine gs) (refused 18 0 0) (le-leb (length gs) 4096 (rw size at h))) w, λ h. rw (pick-false _ (fine gs) (refused 18 0 0) (lt-leb (length gs) 4096 (rw size at h))) refl)
+done-by (refused c l f) o at n p o′ w = clash (cc)
+
+refused-by : (x : Outcome (List Guess)) (o : List ℕ) (at c l f : ℕ) (o′ : List ℕ) → GuessesTold x o at (Refused c l f) o′ → GuessesTold (andThen x counted) o at (Refused c l f) o′
+unfolding GuessesTold andThen
+refused-by (fine gs) o at c l f o′ w = let e = w .1 in clash (cc)
+refused-by (refused d m g) o at c l f o′ w = w
+
+module _ (kind : NameType) (s : List ℕ) (x : FileAt) (e : Finds s (fileNamed (prefixOf kind ++ langPart) 0 (filesOf s)) x) (names o : List ℕ) (at : ℕ) where
+  pub load-missing : x ≡ file-at.Missing → GuessesTold (guessFile kind (filesOf s) names) o at (Refused 11 0 0) o
+  unfolding guessFile onListed GuessesTold
+  load-missing q = rw (missing-is s _ x e q) refl
+
+  module _ (k a b : ℕ) (q : x ≡ file-at.At k a b) where
+    pub load-order : a ≤ b
+    load-order = found-order s _ x e k a b q
+
+    pub load-within : b ≤ length s
+    load-within = found-within s _ x e k a b q
+
+    module _ (g : Guessed) (o′ : List ℕ) (w : GuessesAre names (take (b - a) (drop a s)) k o at g o′) where
+      abbrev inFile : Outcome (List Guess)
+      inFile = guessesIn names k (take (b - a) (drop a s))
+
+      is-file : andThen inFile counted ≡ guessFile kind (filesOf s) names
+      unfolding guessFile onListed guessesOf
+      is-file = rw (found-is s _ x e k a b q) refl
+
+      told : (y : Guessed) → g ≡ y → GuessesTold inFile o at y o′
+      unfolding GuessesAre
+      told y z = rw z at w
+
+      pub load-refused : (c l f : ℕ) → g ≡ Refused c l f → GuessesTold (guessFile kind (filesOf s) names) o at (Refused c l f) o′
+      load-refused c l f z = rw (← is-file) (refused-by inFile o at c l f o′ (told _ z))
+
+      module _ (n p : ℕ) (z : g ≡ Done n p) where
+        pub load-done : n ≤ 4096 → GuessesTold (guessFile kind (filesOf s) names) o at (Done n p) o′
+        load-done h = rw (← is-file) (done-by inFile o at n p o′ (told _ z) .0 h)
+
+        pub load-many : 4096 < n → GuessesTold (guessFile kind (filesOf s) names) o at (Refused 18 0 0) o′
+        load-many h = rw (← is-file) (done-by inFile o at n p o′ (told _ z) .1 h)
+
+pub ruleset load-laws = (load-missing, load-order, load-within, load-refused, load-done, load-many)

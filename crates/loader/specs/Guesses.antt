@@ -1,0 +1,51 @@
+-- The guessing file (01, Rule files and includes: "Guessing lines").
+use Prim.Native.Nat.{ℕ}
+use mathlib.Core.Bool.{Bool, true, false}
+use mathlib.Core.List.{List, [], _∷_}
+use lib.Dec.{leb, ltb}
+use lib.ListN.{length}
+use Rattle.base.specs.Pick.{pick}
+use Rattle.languages.specs.declared.names.Listed.{Listed}
+use Rattle.languages.specs.declared.names.Listed.the-variants.{Bit, Unlisted}
+use Rattle.rule.specs.Expressions.{cutAt, plus, namesMask}
+use Rattle.lang.specs.Patterns.{inForms}
+use Rattle.pack.specs.Packs as packs
+use Rattle.rules_parser.specs.Fields.{partOf}
+use Rattle.rules_parser.specs.Files.{itemsOf}
+use Rattle.rules_parser.specs.declared.lines.FileKind.the-variants.{Guesses}
+use Rattle.rules_parser.specs.declared.lines.Told.{Told}
+use Rattle.rules_parser.specs.declared.lines.Told.the-variants.{Rule, Include, Guess, Name}
+use Rattle.rule_lists.specs.Outcomes.{Outcome, fine, refused, andThen}
+use Rattle.loader.specs.Files.{Kept, keeps, fault, toldIn}
+
+-- "accept byte 0 or 1"
+unfoldable pub acceptOf : Bool → ℕ
+acceptOf true = 1
+acceptOf false = 0
+
+-- "an unlisted name in a rule or guessing line, an empty one too, is 16"
+unfoldable pub withMask : Bool → List ℕ → Listed → Kept packs.Guess
+withMask v pattern (Bit m) = keeps (packs.guess (acceptOf v) m pattern)
+withMask v pattern Unlisted = fault 16
+
+-- "in a line 12, 13, 18, 15 .., 16"
+unfoldable pub judged : List ℕ → Bool → List ℕ → List ℕ → Kept packs.Guess
+judged names v pattern joined =
+    pick (ltb 255 (length pattern)) (fault 18) (pick (inForms pattern) (withMask v pattern (namesMask names (cutAt plus joined))) (fault 15))
+
+unfoldable pub guessOf : List ℕ → List ℕ → Told → Kept packs.Guess
+guessOf names s (Rule a b c d) = fault 12
+guessOf names s (Include t) = fault 12
+guessOf names s (Guess a b v) = judged names v (partOf s a) (partOf s b)
+guessOf names s (Name t) = fault 12
+
+-- the guessing rules of file f, whose content is s; `names` is the bytes of the languages, each behind its length byte
+unfoldable pub guessesIn : List ℕ → ℕ → List ℕ → Outcome (List packs.Guess)
+guessesIn names f s = toldIn (guessOf names s) f 1 (itemsOf Guesses s)
+
+-- "over 4,096 guessing rules"
+unfoldable pub counted : List packs.Guess → Outcome (List packs.Guess)
+counted gs = pick (leb (length gs) 4096) (fine gs) (refused 18 0 0)
+
+unfoldable pub guessesOf : List ℕ → ℕ → List ℕ → Outcome (List packs.Guess)
+guessesOf names f s = andThen (guessesIn names f s) counted

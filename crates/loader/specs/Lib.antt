@@ -1,0 +1,5 @@
+pub mod Files
+pub mod Languages
+pub mod Guesses
+pub mod Loading
+pub mod Walks

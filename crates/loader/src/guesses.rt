@@ -1,0 +1,127 @@
+// The guessing file: its rules, checked and written.
+ghost use mathlib.Core.Path.{_≡_};
+ghost use Prim.Native.Nat.{_≤_};
+ghost use Rattle.name_parts.specs.Writing.{Put, cap};
+ghost use Rattle.loader.specs.Walks.{guessPut, judgedAs, GuessesAre};
+use languages::Listed;
+use rules_parser::FileKind;
+use rules_parser::Item;
+use rules_parser::Text;
+use rules_parser::Told;
+
+// The mask of a guessing rule, or the number of its fault.
+pub(crate) enum Judged {
+    Mask { mask: u32 },
+    Fault { code: u32 },
+}
+
+// How many rules were written and where they end, or the refusal.
+pub(crate) enum Guessed {
+    Done { count: usize, at: usize },
+    Refused { code: u32, line: usize, file: usize },
+}
+
+// In the order 18, 15, 16.
+fn judge(names: &[u8], pattern: &[u8], joined: &[u8]) -> Judged
+    ensures { λ r. ⌜ r ≡ judgedAs (now (names .entry)) (now (pattern .entry)) (now (joined .entry)) ⌝ }
+{
+    if 255 < pattern.len() {
+        return Judged::Fault { code: 18 };
+    }
+    if lang::check_pattern(pattern) {
+        match rule::names_mask(names, joined) {
+            Listed::Bit(mask) => Judged::Mask { mask },
+            Listed::Unlisted => Judged::Fault { code: 16 },
+        }
+    } else {
+        Judged::Fault { code: 15 }
+    }
+}
+
+// Writes a guessing rule.
+fn put_guess(accept: bool, mask: u32, pattern: &[u8], out: &mut [u8], at: usize) -> usize
+    ensures { λ r. ⌜ Put (now (out .entry)) (now (out .exit)) at r (guessPut accept mask (now (pattern .entry))) ⌝ }
+{
+    let p = name_parts::push(out, at, accept as u8);
+    let q = pack_bytes::put_mask(mask, out, p);
+    pack_bytes::put_text(pattern, out, q)
+}
+
+// Writes what fits of the rules of the guessing file s from a place on.
+pub(crate) fn write_guesses(
+    s: &[u8],
+    file: usize,
+    names: &[u8],
+    out: &mut [u8],
+    at: usize,
+) -> Guessed
+    requires { ⌜ at ≤ cap ⌝ }
+    ensures { λ r. ⌜ GuessesAre (now (names .entry)) (now (s .entry)) file (now (out .entry)) at r (now (out .exit)) ⌝ }
+{
+    let mut place = at;
+    let mut count: usize = 0;
+    let mut p: usize = 0;
+    let mut line: usize = 1;
+    while p < s.len() {
+        match rules_parser::read_item(FileKind::Guesses, s, p) {
+            Item::Passed { lines, next } => {
+                line += lines;
+                p = next;
+            }
+            Item::Tells { told, next } => match told {
+                Told::Guess {
+                    pattern,
+                    names: joined,
+                    accept,
+                } => {
+                    let text = rules_parser::part(s, pattern);
+                    match judge(names, text, rules_parser::part(s, joined)) {
+                        Judged::Mask { mask } => {
+                            place = put_guess(accept, mask, text, out, place);
+                            count += 1;
+                            line += 1;
+                            p = next;
+                        }
+                        Judged::Fault { code } => {
+                            return Guessed::Refused { code, line, file };
+                        }
+                    }
+                }
+                Told::Rule {
+                    pattern: _,
+                    left: _,
+                    right: _,
+                    expression: _,
+                } => {
+                    return Guessed::Refused {
+                        code: 12,
+                        line,
+                        file,
+                    };
+                }
+                Told::Include { name: _ } => {
+                    return Guessed::Refused {
+                        code: 12,
+                        line,
+                        file,
+                    };
+                }
+                Told::Name { name: _ } => {
+                    return Guessed::Refused {
+                        code: 12,
+                        line,
+                        file,
+                    };
+                }
+            },
+            Item::Wrong => {
+                return Guessed::Refused {
+                    code: 12,
+                    line,
+                    file,
+                };
+            }
+        }
+    }
+    Guessed::Done { count, at: place }
+}

@@ -1,0 +1,252 @@
+// A bundle loaded: checked and measured first, and written only where it fits.
+ghost use mathlib.Core.Path.{_≡_};
+ghost use mathlib.Core.List.{List, _++_};
+ghost use Prim.Native.Nat.{ℕ, _≤_, min};
+ghost use lib.ListN.{length};
+ghost use Rattle.name_parts.specs.Writing.{Put, cap};
+ghost use Rattle.bundles.specs.Bundles.{filesOf, fileNamed};
+ghost use Rattle.bundles.specs.Walks.{Finds};
+ghost use Rattle.rule_lists.specs.Outcomes.{Told};
+ghost use Rattle.rule_lists.specs.Lists.{prefixOf};
+ghost use Rattle.loader.specs.Loading.{languagesPart, langPart, namesOf, guessFile, packIn, written, AnswerIs, LoadIs};
+ghost use Rattle.loader.specs.Walks.{kindOf, NamesTold, GuessesTold, frontBytes, packedOf};
+use crate::guesses::Guessed;
+use crate::language_list::Names;
+use bundles::FileAt;
+use name_parts::NameType;
+use rule_lists::Written;
+
+// The pack's length, or the refusal: its code, its line (the length needed for 9), and the file's number in the bundle.
+pub enum Loaded {
+    Done {
+        length: usize,
+    },
+    Refused {
+        code: u32,
+        place: usize,
+        file: usize,
+    },
+}
+
+// The name type of a setting's number.
+pub(crate) enum Kind {
+    Is { kind: NameType },
+    Unknown,
+}
+
+fn kind_of(name_type: u32) -> Kind
+    ensures { λ r. ⌜ r ≡ kindOf «name_type» ⌝ }
+{
+    if name_type == 0 {
+        Kind::Is {
+            kind: NameType::Ashkenazi,
+        }
+    } else if name_type == 1 {
+        Kind::Is {
+            kind: NameType::Generic,
+        }
+    } else if name_type == 2 {
+        Kind::Is {
+            kind: NameType::Sephardic,
+        }
+    } else {
+        Kind::Unknown
+    }
+}
+
+// The language list of a type.
+fn languages_file(kind: NameType, bundle: &[u8]) -> FileAt
+    ensures { λ r. ⌜ Finds (now (bundle .entry)) (fileNamed (prefixOf kind ++ languagesPart) 0 (filesOf (now (bundle .entry)))) r ⌝ }
+{
+    match kind {
+        NameType::Ashkenazi => bundles::find_file(bundle, b"ash_languages"),
+        NameType::Generic => bundles::find_file(bundle, b"gen_languages"),
+        NameType::Sephardic => bundles::find_file(bundle, b"sep_languages"),
+    }
+}
+
+// The guessing file of a type.
+fn guessing_file(kind: NameType, bundle: &[u8]) -> FileAt
+    ensures { λ r. ⌜ Finds (now (bundle .entry)) (fileNamed (prefixOf kind ++ langPart) 0 (filesOf (now (bundle .entry)))) r ⌝ }
+{
+    match kind {
+        NameType::Ashkenazi => bundles::find_file(bundle, b"ash_lang"),
+        NameType::Generic => bundles::find_file(bundle, b"gen_lang"),
+        NameType::Sephardic => bundles::find_file(bundle, b"sep_lang"),
+    }
+}
+
+// The names of a type's languages, each behind its length byte.
+fn load_names(kind: NameType, bundle: &[u8], names: &mut [u8]) -> Names
+    requires { ⌜ length (now names) ≡ 832 ⌝ }
+    ensures { λ r. ⌜ NamesTold (namesOf kind (filesOf (now (bundle .entry)))) r (now (names .exit)) ⌝ }
+{
+    match languages_file(kind, bundle) {
+        FileAt::At { number, start, end } => {
+            crate::language_list::read_names(&bundle[start..end], number, names)
+        }
+        FileAt::Missing => Names::Refused {
+            code: 11,
+            line: 0,
+            file: 0,
+        },
+    }
+}
+
+// Writes what fits of a type's guessing rules from a place on; at most 4,096.
+fn load_guesses(kind: NameType, bundle: &[u8], names: &[u8], out: &mut [u8], at: usize) -> Guessed
+    requires { ⌜ at ≤ cap ⌝ }
+    ensures { λ r. ⌜ GuessesTold (guessFile kind (filesOf (now (bundle .entry))) (now (names .entry))) (now (out .entry)) at r (now (out .exit)) ⌝ }
+{
+    match guessing_file(kind, bundle) {
+        FileAt::At { number, start, end } => {
+            match crate::guesses::write_guesses(&bundle[start..end], number, names, out, at) {
+                Guessed::Done { count, at: end } => {
+                    if 4096 < count {
+                        Guessed::Refused {
+                            code: 18,
+                            line: 0,
+                            file: 0,
+                        }
+                    } else {
+                        Guessed::Done { count, at: end }
+                    }
+                }
+                Guessed::Refused { code, line, file } => Guessed::Refused { code, line, file },
+            }
+        }
+        FileAt::Missing => Guessed::Refused {
+            code: 11,
+            line: 0,
+            file: 0,
+        },
+    }
+}
+
+// Writes what fits of the pack's front: the languages, and the guessing count.
+fn write_front(names: &[u8], languages: usize, guesses: usize, out: &mut [u8]) -> usize
+    requires { ⌜ (languages ≤ 32) × (guesses ≤ 4096) ⌝ }
+    ensures { λ r. ⌜ Put (now (out .entry)) (now (out .exit)) 0 r (frontBytes languages (now (names .entry)) guesses) ⌝ }
+{
+    let p = name_parts::push(out, 0, languages as u8);
+    let q = name_parts::copy(names, out, p);
+    pack_bytes::put_count(guesses as u16, out, q)
+}
+
+// Writes what fits of the pack.
+fn write_pack(
+    kind: NameType,
+    bundle: &[u8],
+    names: &[u8],
+    languages: usize,
+    guesses: usize,
+    out: &mut [u8],
+) -> Written
+    requires { ⌜ (languages ≤ 32) × (guesses ≤ 4096) ⌝ }
+    ensures { λ r. ⌜ Told (λ (bytes : List ℕ). bytes) (packedOf kind (filesOf (now (bundle .entry))) (now (names .entry)) languages guesses) (now (out .entry)) (now (out .exit)) 0 r ⌝ }
+{
+    let p = write_front(names, languages, guesses, out);
+    match load_guesses(kind, bundle, names, out, p) {
+        Guessed::Done { count: _, at } => {
+            let q = name_parts::push(out, at, (3 * languages + 2) as u8);
+            rule_lists::write_lists(kind, bundle, names, out, q)
+        }
+        Guessed::Refused { code, line, file } => Written::Refused { code, line, file },
+    }
+}
+
+// The length needed, 4294967295 if more.
+fn needed(length: usize) -> usize
+    ensures { λ r. ⌜ r ≡ min 4294967295 length ⌝ }
+{
+    if length < 4294967295 {
+        length
+    } else {
+        4294967295
+    }
+}
+
+// The pack of a bundle, written where it fits.
+fn load_pack(
+    kind: NameType,
+    bundle: &[u8],
+    names: &[u8],
+    languages: usize,
+    guesses: usize,
+    out: &mut [u8],
+) -> Loaded
+    requires { ⌜ (languages ≤ 32) × (guesses ≤ 4096) ⌝ }
+    ensures { λ r. ⌜ AnswerIs (packedOf kind (filesOf (now (bundle .entry))) (now (names .entry)) languages guesses) (now (out .entry)) r (now (out .exit)) ⌝ }
+{
+    let mut none = [0u8; 1];
+    match write_pack(kind, bundle, names, languages, guesses, &mut none) {
+        Written::Done { at: length } => {
+            if out.len() < length {
+                return Loaded::Refused {
+                    code: 9,
+                    place: needed(length),
+                    file: 0,
+                };
+            }
+            write_pack(kind, bundle, names, languages, guesses, out);
+            Loaded::Done { length }
+        }
+        Written::Refused { code, line, file } => Loaded::Refused {
+            code,
+            place: line,
+            file,
+        },
+    }
+}
+
+// The bundle of a type, once it is well formed.
+fn load_files(kind: NameType, bundle: &[u8], out: &mut [u8]) -> Loaded
+    ensures { λ r. ⌜ AnswerIs (written (packIn kind (filesOf (now (bundle .entry))))) (now (out .entry)) r (now (out .exit)) ⌝ }
+{
+    let mut names = [0u8; 832];
+    let mut none = [0u8; 1];
+    match load_names(kind, bundle, &mut names) {
+        Names::Done {
+            count: languages,
+            len,
+        } => match load_guesses(kind, bundle, &names[0..len], &mut none, 0) {
+            Guessed::Done { count, at: _ } => {
+                load_pack(kind, bundle, &names[0..len], languages, count, out)
+            }
+            Guessed::Refused { code, line, file } => Loaded::Refused {
+                code,
+                place: line,
+                file,
+            },
+        },
+        Names::Refused { code, line, file } => Loaded::Refused {
+            code,
+            place: line,
+            file,
+        },
+    }
+}
+
+// Loads the rule files of a type from any bytes. A refusal leaves `out` as it was, and a success the bytes behind the pack.
+pub fn load(name_type: u32, bundle: &[u8], out: &mut [u8]) -> Loaded
+    ensures { λ r. ⌜ LoadIs «name_type» (now (bundle .entry)) (now (out .entry)) r (now (out .exit)) ⌝ }
+{
+    match kind_of(name_type) {
+        Kind::Is { kind } => {
+            if bundles::check_bundle(bundle) {
+                load_files(kind, bundle, out)
+            } else {
+                Loaded::Refused {
+                    code: 10,
+                    place: 0,
+                    file: 0,
+                }
+            }
+        }
+        Kind::Unknown => Loaded::Refused {
+            code: 4,
+            place: 0,
+            file: 0,
+        },
+    }
+}

@@ -1,0 +1,183 @@
+-- The list of one file: a law for each way that `write_list` can go, and what every list has. Assumes nothing.
+use mathlib.Core.Path.{_≡_, refl, sym, ap, ap₂, subst, _∙_}
+use mathlib.Core.Bool.{true}
+use mathlib.Core.Logic.{⊎-elim}
+use mathlib.Core.List.{List, [], _∷_, _++_}
+use Prim.Native.Nat.{ℕ, _-_, _%_, _≤_}
+use native.Mathlib.Omega.{arith}
+use lib.Dec.{eqb, ltb}
+use lib.ListN.{length, take, drop}
+use borrow.Author.Tests.{eqb-true, ltb-false, leb-true, le-leb}
+use Rattle.base.specs.Pick.{pick, pick-inv, and-yes}
+use Rattle.name_parts.proofs.Laws.{clash}
+use Rattle.pack.specs.Packs.{Rule, ordered}
+use Rattle.pack_bytes.specs.Bytes.{textBytes, textPut, countBytes, ruleBytes, listBytes}
+use Rattle.pack_bytes.specs.Bytes as bytes
+use Rattle.bundles.specs.Bundles.{File, Found, missing, found, filesOf, fileNamed}
+use Rattle.bundles.specs.Walks.{Finds}
+use Rattle.bundles.specs.declared.FileAt.{FileAt}
+use Rattle.bundles.specs.declared.FileAt.the-variants.{At, Missing}
+use Rattle.bundles.proofs.Laws.{missing-is, found-is}
+use Rattle.held.specs.Met.{Met, finished}
+use Rattle.held.specs.Files.{Read, good, readListed}
+use Rattle.held.specs.Files as files
+use Rattle.held.specs.Tables.{bytesOf, keyBytes}
+use Rattle.held.proofs.Finished.{From, finished-from, length-kept}
+use Rattle.held.proofs.Keys.{finished-keys}
+use Rattle.held.proofs.Reading.{listed-entries}
+use Rattle.rule_lists.specs.Outcomes.{Outcome, fine, refused, andThen, Told}
+use Rattle.rule_lists.specs.Lines.{lengthFault, orElse, ruleFault, linesOf}
+use Rattle.rule_lists.specs.Tables.{KeptIs, keysOf, Low}
+use Rattle.rule_lists.specs.Walks.{firstOf, filesFor, counted, keptOf, CollectIs}
+use Rattle.rule_lists.specs.Writing.{rulePut, SomeKept, RowsPut}
+use Rattle.rule_lists.specs.Lists.{listIn, listOf}
+use Rattle.rule_lists.specs.declared.walk.Collected.{Collected}
+use Rattle.rule_lists.specs.declared.walk.Collected.the-variants as collected
+use Rattle.rule_lists.specs.declared.writing.Written.the-variants.{Done, Refused}
+use Rattle.rule_lists.proofs.TableLaws.{kept-rows, kept-low, keys-rows}
+use Rattle.rule_lists.proofs.WalkLaws.{GoodRead, each-read, each-finished, within-all}
+
+-- ---- a rule without a fault is written as a pack has it: its strings fit their length bytes
+
+or-first : (a b : ℕ) → orElse a b ≡ 0 → a ≡ 0
+unfolding orElse
+or-first a b e = ⊎-elim (λ w. eqb-true a 0 (w .0)) (λ w. w .1) (pick-inv (eqb a 0) b a 0 e)
+
+some-length : (p x : ℕ) → pick (eqb p 0) 13 x ≡ 0 → x ≡ 0
+some-length p x e = ⊎-elim (λ w. let no-way : ⊥ = omega (arith, w .1) in absurd no-way) (λ w. w .1) (pick-inv (eqb p 0) 13 x 0 e)
+
+short-length : (p x : ℕ) → pick (ltb 255 p) 18 x ≡ 0 → (p ≤ 255) × (x ≡ 0)
+short-length p x e = ⊎-elim (λ w. let no-way : ⊥ = omega (arith, w .1) in absurd no-way) (λ w. (ltb-false 255 p (w .0), w .1)) (pick-inv (ltb 255 p) 18 x 0 e)
+
+text-short : (t : List ℕ) → length t ≤ 255 → textPut t ≡ textBytes t
+unfolding textPut textBytes
+text-short t h = let e : length t % 256 ≡ length t = omega arith in ap (λ (n : ℕ). n ∷ t) e
+
+lengths-short : (p l r e : ℕ) → lengthFault p l r e ≡ 0 → (p ≤ 255) × (l ≤ 255) × (r ≤ 255) × (e ≤ 255)
+unfolding lengthFault
+lengths-short p l r e h =
+    let a = short-length p _ (some-length p _ h) in
+    let b = short-length l _ (a .1) in
+    let c = short-length r _ (b .1) in
+    (a .0, b .0, c .0, short-length e 0 (c .1) .0)
+
+rule-short : (names : List ℕ) (r : Rule) → ruleFault names r ≡ 0 → rulePut r ≡ ruleBytes r
+unfolding rulePut ruleBytes ruleFault
+rule-short names r e =
+    let w = lengths-short (length (r .pattern)) (length (r .left)) (length (r .right)) (length (r .expression)) (or-first _ _ e) in
+    ap₂ _++_ (text-short (r .pattern) (w .0)) (ap₂ _++_ (text-short (r .left) (w .1)) (ap₂ _++_ (text-short (r .right) (w .2)) (text-short (r .expression) (w .3))))
+
+rules-short : (names : List ℕ) (rs : List Rule) → bytes.Each (GoodRead names) rs → bytesOf rulePut rs ≡ bytesOf ruleBytes rs
+unfolding bytesOf
+rules-short names [] bytes.none = refl
+rules-short names (r ∷ rs) (bytes.more h e) = ap₂ _++_ (rule-short names r (h .fault)) (rules-short names rs e)
+
+-- ---- what is told of a file
+
+counted-fine : (x : Read Rule) (t : Met Rule) → counted x ≡ fine t → (x ≡ good t) × (length (finished firstOf t) ≤ 4096)
+unfolding counted
+counted-fine (good u) t e = ⊎-elim (λ w. let q : u ≡ t = cc (w .1) in (ap good q, rw q at (leb-true (length (finished firstOf u)) 4096 (w .0)))) (λ w. clash (cc (w .1))) (pick-inv _ (fine u) (refused 18 0 0) (fine t) e)
+counted-fine (files.refused c l f) t e = clash (cc)
+
+collect-done : (bundle : List ℕ) (x : Outcome (Met Rule)) (g : Collected) (rows : List ℕ) (n : ℕ) → CollectIs bundle x g rows → g ≡ collected.Rules n → (t : Met Rule) × (x ≡ fine t) × KeptIs bundle rows n (keptOf t)
+unfolding CollectIs
+collect-done bundle (fine t) g rows n w e = let q : w .0 ≡ n = cc (w .1) in (t, refl, rw q at (w .2))
+collect-done bundle (refused c l f) g rows n w e = clash (cc)
+
+collect-stop : (bundle : List ℕ) (x : Outcome (Met Rule)) (g : Collected) (rows : List ℕ) (c l f : ℕ) → CollectIs bundle x g rows → g ≡ collected.Refused c l f → x ≡ refused c l f
+unfolding CollectIs
+collect-stop bundle (fine t) g rows c l f w e = clash (cc (w .1))
+collect-stop bundle (refused d m k) g rows c l f w e = cc
+
+-- the list that was read
+module _ (names : List ℕ) (fs : List File) (k : ℕ) (s : List ℕ) (t : Met Rule) (e : counted (readListed (filesFor names fs) k (linesOf names s)) ≡ fine t) where
+  read : readListed (filesFor names fs) k (linesOf names s) ≡ good t
+  read = counted-fine _ t e .0
+
+  few-finished : length (finished firstOf t) ≤ 4096
+  few-finished = counted-fine _ t e .1
+
+  good-finished : bytes.Each (GoodRead names) (finished firstOf t)
+  good-finished = each-finished (GoodRead names) firstOf t (each-read names fs k s t read)
+
+  -- rows that are kept, written by their keys, are the finished list
+  list-bytes : (bundle rows : List ℕ) (n : ℕ) → KeptIs bundle rows n (keptOf t) → countBytes n ++ keyBytes rulePut (keptOf t) (keysOf rows n 0 []) ≡ listBytes (finished firstOf t)
+  unfolding listBytes keptOf
+  list-bytes bundle rows n h =
+      let short = listed-entries _ k _ t read in
+      let all = length-kept firstOf t short (within-all t) in
+      let size : n ≡ length (finished firstOf t) = omega (arith, h .count, all, few-finished) in
+      let kept : length (keptOf t) ≡ n = all ∙ sym size in
+      let few : n ≤ 4096 = omega (arith, few-finished) in
+      ap₂ _++_ (ap countBytes size)
+      (ap (keyBytes rulePut (keptOf t)) (ap (λ (m : ℕ). keysOf rows m 0 []) (sym kept) ∙ keys-rows bundle rows (keptOf t) (kept-rows h few))
+      ∙ finished-keys firstOf rulePut t short (within-all t) (omega (arith, kept)) ∙ rules-short names (finished firstOf t) good-finished)
+
+module _ (bundle names wanted : List ℕ) (f : FileAt) (w : Finds bundle (fileNamed wanted 0 (filesOf bundle)) f) where
+  pub list-missing : f ≡ Missing → (o : List ℕ) (at : ℕ) → Told listBytes (listOf names (filesOf bundle) wanted) o o at (Refused 11 0 0)
+  unfolding listOf listIn Told
+  list-missing q o at = rw (missing-is bundle _ f w q) refl
+
+  module _ (k a b : ℕ) (q : f ≡ At k a b) where
+    list-found : listOf names (filesOf bundle) wanted ≡ andThen (counted (readListed (filesFor names (filesOf bundle)) k (linesOf names (take (b - a) (drop a bundle))))) (λ t. fine (finished firstOf t))
+    unfolding listOf listIn
+    list-found = ap (listIn names (filesOf bundle)) (found-is bundle _ f w k a b q)
+
+    module _ (g : Collected) (rows : List ℕ) (v : CollectIs bundle (counted (readListed (filesFor names (filesOf bundle)) k (linesOf names (take (b - a) (drop a bundle))))) g rows) where
+      pub list-refused : (c l i : ℕ) → g ≡ collected.Refused c l i → (o o′ : List ℕ) (at : ℕ) → Told listBytes (listOf names (filesOf bundle) wanted) o o′ at (Refused c l i)
+      unfolding Told andThen
+      list-refused c l i e o o′ at = rw (list-found, collect-stop bundle _ g rows c l i v e) refl
+
+      module _ (n : ℕ) (e : g ≡ collected.Rules n) where
+        told : (t : Met Rule) × (counted (readListed (filesFor names (filesOf bundle)) k (linesOf names (take (b - a) (drop a bundle)))) ≡ fine t) × KeptIs bundle rows n (keptOf t)
+        told = collect-done bundle _ g rows n v e
+
+        pub list-kept : SomeKept bundle rows n
+        list-kept = record { some = (keptOf (told .0), told .2) }
+
+        pub list-size : length rows ≡ 16384
+        list-size = told .2 .size
+
+        pub list-few : n ≤ 4096
+        unfolding keptOf
+        list-few =
+            let short = listed-entries _ k _ (told .0) (read _ _ k _ (told .0) (told .1)) in
+            omega (arith, told .2 .count, length-kept firstOf (told .0) short (within-all (told .0)), few-finished _ _ k _ (told .0) (told .1))
+
+        pub list-low : Low rows n
+        list-low = kept-low bundle rows n (keptOf (told .0)) (told .2) list-few
+
+        pub list-told : (o o′ : List ℕ) (at p : ℕ) → RowsPut bundle rows n o at p o′ → Told listBytes (listOf names (filesOf bundle) wanted) o o′ at (Done p)
+        unfolding Told andThen
+        list-told o o′ at p u = rw (list-found, told .1) (p, refl, rw (list-bytes _ _ k _ (told .0) (told .1) bundle rows n (told .2)) at (u .is (keptOf (told .0)) (told .2)))
+
+pub ruleset file-laws = (list-missing, list-refused, list-kept, list-size, list-few, list-low, list-told)
+
+-- ---- what every list has
+
+ordered-from : (c : ℕ) (rs : List Rule) → From firstOf c rs → ordered rs ≡ true
+unfolding ordered firstOf
+ordered-from c [] h = refl
+ordered-from c (x ∷ []) h = refl
+ordered-from c (x ∷ y ∷ l) h = and-yes _ _ (le-leb _ _ (h .1 .0)) (ordered-from (firstOf x) (y ∷ l) (h .1))
+
+pub record GoodList (names : List ℕ) (rs : List Rule) : Type 0 where
+  pub each : bytes.Each (GoodRead names) rs
+  pub few : length rs ≤ 4096
+  pub order : ordered rs ≡ true
+
+found-good : (names : List ℕ) (fs : List File) (k : ℕ) (s : List ℕ) (rs : List Rule) (x : Outcome (Met Rule)) → counted (readListed (filesFor names fs) k (linesOf names s)) ≡ x → andThen x (λ t. fine (finished firstOf t)) ≡ fine rs → GoodList names rs
+unfolding andThen
+found-good names fs k s rs (fine t) e h =
+    let same : finished firstOf t ≡ rs = cc in
+    subst (GoodList names) same (record { each = good-finished names fs k s t e; few = few-finished names fs k s t e; order = ordered-from 0 _ (finished-from firstOf t) })
+found-good names fs k s rs (refused c l f) e h = clash (cc)
+
+good-in : (names : List ℕ) (fs : List File) (rs : List Rule) (x : Found) → listIn names fs x ≡ fine rs → GoodList names rs
+unfolding listIn
+good-in names fs rs missing h = clash (cc)
+good-in names fs rs (found k s) h = found-good names fs k s rs _ refl h
+
+pub list-good : (names : List ℕ) (fs : List File) (w : List ℕ) (rs : List Rule) → listOf names fs w ≡ fine rs → GoodList names rs
+unfolding listOf
+list-good names fs w rs h = good-in names fs rs (fileNamed w 0 fs) h

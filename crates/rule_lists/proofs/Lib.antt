@@ -1,0 +1,10 @@
+pub mod EnterLaws
+pub mod FileLaws
+pub mod GoingLaws
+pub mod LineLaws
+pub mod ListLaws
+pub mod NumberLaws
+pub mod RuledLaws
+pub mod TableLaws
+pub mod WalkLaws
+pub mod WritingLaws

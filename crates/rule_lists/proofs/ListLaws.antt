@@ -1,0 +1,218 @@
+-- A law for each way that the functions of `lists` can go. Assumes nothing.
+use mathlib.Core.Path.{_≡_, refl, ap, _∙_}
+use mathlib.Core.List.{List, [], _∷_, _++_, append-nil}
+use Prim.Native.Nat.{ℕ, suc, _+_, _-_, _≤_, _<_}
+use native.Mathlib.Omega.{arith}
+use lib.ListN.{length, getD, take, drop, length-take, length-append}
+use Rattle.name_parts.specs.Writing.{Put}
+use Rattle.name_parts.proofs.Laws.{clash, put-then, put-long, put-fits}
+use Rattle.languages.specs.Names.{strings, stringsOf, stringAt}
+use Rattle.languages.specs.declared.names.Next.{Next}
+use Rattle.languages.specs.declared.names.Next.the-variants as next
+use Rattle.languages.proofs.Laws.{string-whole, string-cut, strings-all}
+use Rattle.name_parts.specs.declared.prefixes.NameType.{NameType}
+use Rattle.name_parts.specs.declared.prefixes.NameType.the-variants.{Ashkenazi, Generic, Sephardic}
+use Rattle.name_parts.proofs.PrefixLaws.{none-left, one-left, part-order, part-fits, walk-less}
+use Rattle.pack.specs.Packs.{Rule}
+use Rattle.pack_bytes.specs.Bytes.{listBytes}
+use Rattle.pack_bytes.proofs.Laws.{bytes-append}
+use Rattle.bundles.specs.Bundles.{File}
+use Rattle.held.specs.Tables.{bytesOf}
+use Rattle.rule_lists.specs.Outcomes.{Outcome, fine, refused, andThen, Told}
+use Rattle.rule_lists.specs.Lists.{listOf, listsOf, prefixOf, rulesPart, approxPart, exactPart, commonPart, twoOf, threeOf, listFiles}
+use Rattle.rule_lists.specs.declared.writing.Written.{Written}
+use Rattle.rule_lists.specs.declared.writing.Written.the-variants.{Done, Refused}
+
+-- ---- what an answer tells
+
+told-done : {A : Type 0} (f : A → List ℕ) (x : Outcome A) (o o′ : List ℕ) (at p : ℕ) (r : Written) → Told f x o o′ at r → r ≡ Done p → (a : A) × (x ≡ fine a) × Put o o′ at p (f a)
+unfolding Told
+told-done f (fine a) o o′ at p r w q =
+    let e = w .1 in
+    let same : w .0 ≡ p = cc in
+    (a, refl, rw same at (w .2))
+told-done f (refused c l k) o o′ at p r w q = clash (cc)
+
+told-refused : {A : Type 0} (f : A → List ℕ) (x : Outcome A) (o o′ : List ℕ) (at c l k : ℕ) (r : Written) → Told f x o o′ at r → r ≡ Refused c l k → x ≡ refused c l k
+unfolding Told
+told-refused f (fine a) o o′ at c l k r w q = let e = w .1 in clash (cc)
+told-refused f (refused d m j) o o′ at c l k r w q =
+    let code : d ≡ c = cc in
+    let line : m ≡ l = cc in
+    let file : j ≡ k = cc in
+    rw (code, line, file) refl
+
+-- ---- one part, and then another
+
+module _ {A B C : Type 0} (f : A → List ℕ) (g : B → List ℕ) (h : C → List ℕ) (k : A → B → C) (e : (a : A) (b : B) → h (k a b) ≡ f a ++ g b) where
+  then-done : (a : A) (y : Outcome B) (o o₁ o₂ : List ℕ) (at p : ℕ) (s : Written) → Put o o₁ at p (f a) → Told g y o₁ o₂ p s → Told h (andThen y (λ b. fine (k a b))) o o₂ at s
+  unfolding Told andThen
+  then-done a (fine b) o o₁ o₂ at p s v w = (w .0, w .1, rw (e a b) (put-then v (w .2)))
+  then-done a (refused c l i) o o₁ o₂ at p s v w = w
+
+  told-then : (x : Outcome A) (y : Outcome B) (o o₁ o₂ : List ℕ) (at p : ℕ) (r s : Written) → Told f x o o₁ at r → r ≡ Done p → Told g y o₁ o₂ p s
+      → Told h (andThen x (λ a. andThen y (λ b. fine (k a b)))) o o₂ at s
+  unfolding andThen
+  told-then x y o o₁ o₂ at p r s v q w =
+      let d = told-done f x o o₁ at p r v q in
+      rw (d .1) (then-done (d .0) y o o₁ o₂ at p s (d .2) w)
+
+told-stop : {A B : Type 0} (f : A → List ℕ) (h : B → List ℕ) (x : Outcome A) (m : A → Outcome B) (o o₁ : List ℕ) (at : ℕ) (r : Written) (c l i : ℕ) → Told f x o o₁ at r → r ≡ Refused c l i
+    → Told h (andThen x m) o o₁ at (Refused c l i)
+unfolding Told andThen
+told-stop f h x m o o₁ at r c l i v q = rw (told-refused f x o o₁ at c l i r v q) refl
+
+-- ---- a name of three parts
+
+module _ (pre kind lang : List ℕ) where
+  pub name-put : (w w₁ w₂ w₃ : List ℕ) (a b n : ℕ) → Put w w₁ 0 a pre → Put w₁ w₂ a b kind → Put w₂ w₃ b n lang → Put w w₃ 0 n (pre ++ (kind ++ lang))
+  name-put w w₁ w₂ w₃ a b n x y z = put-then x (put-then y z)
+
+  module _ (w w₁ : List ℕ) (n : ℕ) (x : Put w w₁ 0 n (pre ++ (kind ++ lang))) (size : length w ≡ 320) (h : length pre + (length kind + length lang) ≤ 320) where
+    name-is : (n ≡ length (pre ++ (kind ++ lang))) × (take n w₁ ≡ pre ++ (kind ++ lang))
+    name-is = put-fits x (omega (arith, length-append pre (kind ++ lang), length-append kind lang))
+
+    pub name-fits : n ≤ length w₁
+    name-fits = omega (arith, name-is .0, length-append pre (kind ++ lang), length-append kind lang, put-long w w₁ 0 n _ x)
+
+    pub name-told : (names : List ℕ) (fs : List File) (o o′ : List ℕ) (at : ℕ) (r : Written) → Told listBytes (listOf names fs (take (n - 0) w₁)) o o′ at r
+        → Told listBytes (listOf names fs (pre ++ (kind ++ lang))) o o′ at r
+    name-told names fs o o′ at r v = let all : n - 0 ≡ n = omega arith in rw (name-is .1) at (rw all at v)
+
+module _ (names : List ℕ) (fs : List File) where
+  lists-append : (ws us : List (List ℕ)) → listsOf names fs (ws ++ us) ≡ andThen (listsOf names fs ws) (λ a. andThen (listsOf names fs us) (λ b. fine (a ++ b)))
+  unfolding listsOf andThen
+  lists-append [] us = self (listsOf names fs us)
+    where
+      self : (x : Outcome (List (List Rule))) → x ≡ andThen x (λ b. fine b)
+      self (fine b) = refl
+      self (refused c l f) = refl
+  lists-append (w ∷ ws) us = ap (λ (x : Outcome (List (List Rule))). andThen (listOf names fs w) (λ rs. andThen x (λ rest. fine (rs ∷ rest)))) (lists-append ws us) ∙ turned (listOf names fs w) (listsOf names fs ws) (listsOf names fs us)
+    where
+      turned : (x : Outcome (List Rule)) (y z : Outcome (List (List Rule)))
+          → andThen x (λ rs. andThen (andThen y (λ a. andThen z (λ b. fine (a ++ b)))) (λ rest. fine (rs ∷ rest))) ≡ andThen (andThen x (λ rs. andThen y (λ rest. fine (rs ∷ rest)))) (λ a. andThen z (λ b. fine (a ++ b)))
+      turned (fine rs) (fine a) (fine b) = refl
+      turned (fine rs) (fine a) (refused c l f) = refl
+      turned (fine rs) (refused c l f) z = refl
+      turned (refused c l f) y z = refl
+
+  -- as many lists as files
+  pub lists-length : (ws : List (List ℕ)) (ls : List (List Rule)) → listsOf names fs ws ≡ fine ls → length ls ≡ length ws
+  unfolding listsOf andThen
+  lists-length [] [] e = refl
+  lists-length [] (rs ∷ ls) e = clash (cc)
+  lists-length (w ∷ ws) ls e = by (listOf names fs w) (listsOf names fs ws) e (lists-length ws)
+    where
+      by : (x : Outcome (List Rule)) (y : Outcome (List (List Rule))) → andThen x (λ rs. andThen y (λ rest. fine (rs ∷ rest))) ≡ fine ls
+          → ((us : List (List Rule)) → y ≡ fine us → length us ≡ length ws) → length ls ≡ suc (length ws)
+      by (fine rs) (fine us) e h = let same : ls ≡ rs ∷ us = cc in ap length same ∙ ap suc (h us refl)
+      by (fine rs) (refused c l f) e h = clash (cc)
+      by (refused c l f) y e h = clash (cc)
+
+  abbrev Lists : List (List ℕ) → List ℕ → List ℕ → ℕ → Written → Type 0
+  Lists ws o o′ at r = Told (bytesOf listBytes) (listsOf names fs ws) o o′ at r
+
+  abbrev One : List ℕ → List ℕ → List ℕ → ℕ → Written → Type 0
+  One w o o′ at r = Told listBytes (listOf names fs w) o o′ at r
+
+  list-then : (w : List ℕ) (ws : List (List ℕ)) (o o₁ o₂ : List ℕ) (at p : ℕ) (r s : Written) → One w o o₁ at r → r ≡ Done p → Lists ws o₁ o₂ p s → Lists (w ∷ ws) o o₂ at s
+  unfolding listsOf bytesOf
+  list-then w ws o o₁ o₂ at p r s v q u = told-then listBytes (bytesOf listBytes) (bytesOf listBytes) _∷_ (λ rs ls. refl) (listOf names fs w) (listsOf names fs ws) o o₁ o₂ at p r s v q u
+
+  list-last : (w : List ℕ) (o o′ : List ℕ) (at : ℕ) (r : Written) → One w o o′ at r → Lists (w ∷ []) o o′ at r
+  unfolding listsOf andThen Told bytesOf
+  list-last w o o′ at r v = by (listOf names fs w) v
+    where
+      by : (x : Outcome (List Rule)) → Told listBytes x o o′ at r → Told (bytesOf listBytes) (andThen x (λ rs. fine (rs ∷ []))) o o′ at r
+      by (fine rs) v = (v .0, v .1, rw (append-nil (listBytes rs)) (v .2))
+      by (refused c l f) v = v
+
+  list-stop : (w : List ℕ) (ws : List (List ℕ)) (o o₁ : List ℕ) (at : ℕ) (r : Written) (c l i : ℕ) → One w o o₁ at r → r ≡ Refused c l i → Lists (w ∷ ws) o o₁ at (Refused c l i)
+  unfolding listsOf
+  list-stop w ws o o₁ at r c l i v q = told-stop listBytes (bytesOf listBytes) (listOf names fs w) _ o o₁ at r c l i v q
+
+  lists-then : (ws us : List (List ℕ)) (o o₁ o₂ : List ℕ) (at p : ℕ) (r s : Written) → Lists ws o o₁ at r → r ≡ Done p → Lists us o₁ o₂ p s → Lists (ws ++ us) o o₂ at s
+  lists-then ws us o o₁ o₂ at p r s v q u = rw (lists-append ws us)
+      (told-then (bytesOf listBytes) (bytesOf listBytes) (bytesOf listBytes) _++_ (bytes-append listBytes) (listsOf names fs ws) (listsOf names fs us) o o₁ o₂ at p r s v q u)
+
+  lists-stop : (ws us : List (List ℕ)) (o o₁ : List ℕ) (at : ℕ) (r : Written) (c l i : ℕ) → Lists ws o o₁ at r → r ≡ Refused c l i → Lists (ws ++ us) o o₁ at (Refused c l i)
+  lists-stop ws us o o₁ at r c l i v q = rw (lists-append ws us) (told-stop (bytesOf listBytes) (bytesOf listBytes) (listsOf names fs ws) _ o o₁ at r c l i v q)
+
+  -- ---- the lists of a language
+
+  module _ (pre lang : List ℕ) (o o₁ o₂ : List ℕ) (at p : ℕ) (r s : Written) where
+    pub two-all : One (pre ++ (approxPart ++ lang)) o o₁ at r → r ≡ Done p → One (pre ++ (exactPart ++ lang)) o₁ o₂ p s → Lists (twoOf pre lang) o o₂ at s
+    unfolding twoOf
+    two-all v q u = list-then _ _ o o₁ o₂ at p r s v q (list-last _ o₁ o₂ p s u)
+
+    pub two-stop : (c l i : ℕ) → One (pre ++ (approxPart ++ lang)) o o₁ at r → r ≡ Refused c l i → Lists (twoOf pre lang) o o₁ at (Refused c l i)
+    unfolding twoOf
+    two-stop c l i v q = list-stop _ _ o o₁ at r c l i v q
+
+    pub three-all : One (pre ++ (rulesPart ++ lang)) o o₁ at r → r ≡ Done p → Lists (twoOf pre lang) o₁ o₂ p s → Lists (threeOf pre lang) o o₂ at s
+    unfolding threeOf
+    three-all v q u = list-then _ _ o o₁ o₂ at p r s v q u
+
+    pub three-stop : (c l i : ℕ) → One (pre ++ (rulesPart ++ lang)) o o₁ at r → r ≡ Refused c l i → Lists (threeOf pre lang) o o₁ at (Refused c l i)
+    unfolding threeOf
+    three-stop c l i v q = list-stop _ _ o o₁ at r c l i v q
+
+  -- ---- string by string: what is left of the names, from a place on, is written behind what was
+
+  pub record Listing (pre o₀ : List ℕ) (at₀ from : ℕ) (o : List ℕ) (at : ℕ) : Type 0 where
+    pub fuel : ℕ
+    pub enough : length names - from ≤ fuel
+    pub is : (o′ : List ℕ) (r : Written) → Lists (listFiles pre (strings fuel (drop from names))) o o′ at r → Lists (listFiles pre (stringsOf names)) o₀ o′ at₀ r
+
+  pub listing-start : (pre o : List ℕ) (at : ℕ) → Listing pre o at 0 o at
+  listing-start pre o at = record { fuel = length names; enough = omega arith; is = λ o′ r v. rw (strings-all names) v }
+
+  module _ {pre o₀ : List ℕ} {at₀ from : ℕ} {o : List ℕ} {at : ℕ} (w : Listing pre o₀ at₀ from o at) (r : Next) (p : r ≡ stringAt names from) where
+    module _ (a e : ℕ) (q : r ≡ next.Whole a e) (o₁ : List ℕ) (s : Written) (v : Lists (threeOf pre (take (e - a) (drop a names))) o o₁ at s) where
+      files-one : (f : ℕ) → w .fuel ≡ suc f → listFiles pre (strings (w .fuel) (drop from names)) ≡ threeOf pre (take (e - a) (drop a names)) ++ listFiles pre (strings f (drop e names))
+      unfolding listFiles
+      files-one f m = ap (λ (k : ℕ). listFiles pre (strings k (drop from names))) m ∙ ap (listFiles pre) (one-left names from a e r p q f)
+
+      some-fuel : w .fuel ≡ suc (w .fuel - 1)
+      some-fuel = omega (arith, walk-less names from a e r p q, w .enough)
+
+      pub listing-next : (z : ℕ) → s ≡ Done z → Listing pre o₀ at₀ e o₁ z
+      listing-next z d = record {
+        fuel = w .fuel - 1;
+        enough = omega (arith, walk-less names from a e r p q, w .enough);
+        is = λ o′ t u. w .is o′ t (rw (files-one _ some-fuel) (lists-then _ _ o o₁ o′ at z s t v d u));
+      }
+
+      pub listing-stop : (c l i : ℕ) → s ≡ Refused c l i → Lists (listFiles pre (stringsOf names)) o₀ o₁ at₀ (Refused c l i)
+      listing-stop c l i d = w .is o₁ _ (rw (files-one _ some-fuel) (lists-stop _ _ o o₁ at s c l i v d))
+
+    pub listing-done : r ≡ next.Cut → (o₁ : List ℕ) (s : Written) → Lists (twoOf pre commonPart) o o₁ at s → Lists (listFiles pre (stringsOf names)) o₀ o₁ at₀ s
+    unfolding listFiles
+    listing-done q o₁ s v = w .is o₁ s (rw (none-left names from (w .fuel) (string-cut names from r p q)) v)
+
+  -- ---- the prefix of a type
+
+  pub lists-ash : (kind : NameType) (o o′ : List ℕ) (at : ℕ) (r : Written) → kind ≡ Ashkenazi → Lists (listFiles (97 ∷ 115 ∷ 104 ∷ []) (stringsOf names)) o o′ at r → Lists (listFiles (prefixOf kind) (stringsOf names)) o o′ at r
+  unfolding prefixOf
+  lists-ash kind o o′ at r e v = rw e v
+
+  pub lists-gen : (kind : NameType) (o o′ : List ℕ) (at : ℕ) (r : Written) → kind ≡ Generic → Lists (listFiles (103 ∷ 101 ∷ 110 ∷ []) (stringsOf names)) o o′ at r → Lists (listFiles (prefixOf kind) (stringsOf names)) o o′ at r
+  unfolding prefixOf
+  lists-gen kind o o′ at r e v = rw e v
+
+  pub lists-sep : (kind : NameType) (o o′ : List ℕ) (at : ℕ) (r : Written) → kind ≡ Sephardic → Lists (listFiles (115 ∷ 101 ∷ 112 ∷ []) (stringsOf names)) o o′ at r → Lists (listFiles (prefixOf kind) (stringsOf names)) o o′ at r
+  unfolding prefixOf
+  lists-sep kind o o′ at r e v = rw e v
+
+-- a string's length is a byte, so a name with it is short; m is the length of the prefix
+pub string-short : (m : ℕ) (names : List ℕ) (from a e : ℕ) (r : Next) → r ≡ stringAt names from → r ≡ next.Whole a e → getD names from 0 < 256 → m ≤ 40
+    → m + length (take (e - a) (drop a names)) ≤ 300
+string-short m names from a e r p q b h = omega (arith, string-whole names from a e r p q, length-take (e - a) (drop a names))
+
+pub ruleset name-laws = (name-put, name-fits, name-told)
+
+pub ruleset list-laws = (two-all, two-stop, three-all, three-stop)
+
+pub ruleset all-laws = (part-order, part-fits, walk-less, listing-start, listing-next, listing-stop, listing-done)
+
+pub ruleset prefix-laws = (lists-ash, lists-gen, lists-sep)

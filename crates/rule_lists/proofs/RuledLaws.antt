@@ -1,0 +1,54 @@
+-- Laws of meeting a rule: one for each way out of `on_rule`. Assumes nothing.
+use mathlib.Core.Path.{_≡_, refl, sym, _∙_}
+use mathlib.Core.Bool.{Bool, true, false}
+use mathlib.Core.List.{List}
+use Prim.Native.Nat.{ℕ, _≤_}
+use native.Mathlib.Omega.{arith}
+use Rattle.base.specs.Pick.{pick-true, pick-false}
+use Rattle.pack.specs.Packs.{Rule}
+use Rattle.held.specs.Tables.{staysIn}
+use Rattle.rule_lists.specs.Tables.{Notes, StaysIs, Keeps, SpotIs}
+use Rattle.rule_lists.specs.Walks.{firstOf, Known, ruled, stateOf, Holds, Ready, RuledIs}
+use Rattle.rule_lists.specs.declared.tables.Spot.{Spot}
+use Rattle.rule_lists.specs.declared.walk.Task.{Task}
+use Rattle.rule_lists.specs.declared.walk.Task.the-variants.{Survey, Collect}
+use Rattle.rule_lists.specs.declared.walk.State.{State}
+use Rattle.rule_lists.proofs.TableLaws.{keep-is}
+
+pub ready-whole : {bundle : List ℕ} {task : Task} {st : State} {lasts rows : List ℕ} → Ready bundle task st lasts rows → task ≡ Collect → st .noted ≤ 4096
+ready-whole y e = y .whole e
+
+module _ (bundle : List ℕ) (task : Task) (own : ℕ) (st : State) (spot : Spot) (lasts rows : List ℕ) where
+  pub ruled-survey : task ≡ Survey → (m : ℕ) (lasts′ : List ℕ) → Notes lasts (st .noted) (spot .code) own m lasts′
+      → RuledIs bundle task own st spot lasts rows (stateOf (st .followed) m (st .kept)) lasts′ rows
+  unfolding ruled firstOf
+  ruled-survey e m lasts′ o = record {
+    followed = refl;
+    noted = λ q. let z : _≡_ {A = ℕ} 0 1 = cc in let no-way : ⊥ = omega arith in absurd no-way;
+    holds = λ a r h s. rw e (record { noted = rw (s .first) at (o .is (a .lasts) (h .noted)); kept = h .kept });
+  }
+
+  module _ (e : task ≡ Collect) (x : Bool) (y : StaysIs lasts (st .noted) (spot .code) (st .followed) x) where
+    stays-by : (a : Known) (r : Rule) → Holds bundle lasts rows st a → SpotIs bundle (spot .code) (spot .start) (spot .end) (spot .place) r
+        → x ≡ staysIn (firstOf r) (st .followed) (a .lasts)
+    unfolding firstOf
+    stays-by a r h s = rw (s .first) at (y .is (a .lasts) (h .noted))
+
+    pub ruled-kept : x ≡ true → (k : ℕ) (rows′ : List ℕ) → Keeps rows (st .kept) spot k rows′
+        → RuledIs bundle task own st spot lasts rows (stateOf (st .followed) (st .noted) k) lasts rows′
+    unfolding ruled
+    ruled-kept t k rows′ o = record {
+      followed = refl;
+      noted = λ q. refl;
+      holds = λ a r h s. rw (e, pick-true _ _ _ (sym (stays-by a r h s) ∙ t)) (record { noted = h .noted; kept = keep-is bundle rows rows′ (st .kept) k spot (a .rules) r o (h .kept) s });
+    }
+
+    pub ruled-passed : x ≡ false → RuledIs bundle task own st spot lasts rows (stateOf (st .followed) (st .noted) (st .kept)) lasts rows
+    unfolding ruled
+    ruled-passed t = record {
+      followed = refl;
+      noted = λ q. refl;
+      holds = λ a r h s. rw (e, pick-false _ _ _ (sym (stays-by a r h s) ∙ t)) (record { noted = h .noted; kept = h .kept });
+    }
+
+pub ruleset ruled-laws = (ready-whole, ruled-survey, ruled-kept, ruled-passed)

@@ -1,0 +1,58 @@
+use borrow.Author.Needs.{needs}
+use Rattle.rule_lists.proofs.LineLaws.{fault-laws}
+use Rattle.rule_lists.specs.Lines.{ruleFault}
+use Rattle.rule_lists.proofs.lines.rule_fault.Statement.{statement}
+use Rattle.rule_lists.proofs.lines.rule_fault.Tie as tie
+
+length-fault-requires : tie.Need-length-fault-requires
+length-fault-requires c κs = search needs
+
+returns : tie.Need-returns
+unfolding ruleFault
+returns c = search fault-laws
+
+left-form-requires : tie.Need-left-form-requires
+left-form-requires c κs = search needs
+
+context-fault-requires : tie.Need-context-fault-requires
+context-fault-requires c κs = search needs
+
+returns-2 : tie.Need-returns-2
+unfolding ruleFault
+returns-2 c = search fault-laws
+
+right-form-requires : tie.Need-right-form-requires
+right-form-requires c κs = search needs
+
+context-fault-requires-2 : tie.Need-context-fault-requires-2
+context-fault-requires-2 c κs = search needs
+
+returns-3 : tie.Need-returns-3
+unfolding ruleFault
+returns-3 c = search fault-laws
+
+check-expression-requires : tie.Need-check-expression-requires
+check-expression-requires c κs = search needs
+
+expression-fault-requires : tie.Need-expression-fault-requires
+expression-fault-requires c κs = search needs
+
+returns-4 : tie.Need-returns-4
+unfolding ruleFault
+returns-4 c = search fault-laws
+
+pub rule-fault-spec : {M : Type 1} → statement M
+rule-fault-spec =
+    tie.close
+    (tie.spec
+    length-fault-requires
+    returns
+    left-form-requires
+    context-fault-requires
+    returns-2
+    right-form-requires
+    context-fault-requires-2
+    returns-3
+    check-expression-requires
+    expression-fault-requires
+    returns-4)

@@ -1,0 +1,49 @@
+-- What is written of a list.
+use mathlib.Core.Path.{_≡_}
+use Prim.Native.Nat.{ℕ, _+_, _-_, _*_, _≤_}
+use mathlib.Core.List.{List, [], _++_}
+use lib.ListN.{length, getD, take, drop}
+use Rattle.name_parts.specs.Writing.{Put}
+use Rattle.pack.specs.Packs.{Rule}
+use Rattle.pack_bytes.specs.Bytes.{textPut, countBytes}
+use Rattle.held.specs.Tables.{keyBytes}
+use Rattle.rules_parser.specs.Files.{itemAt}
+use Rattle.rules_parser.specs.declared.lines.FileKind.the-variants.{Rules}
+use Rattle.rules_parser.specs.declared.lines.Told.the-variants as told
+use Rattle.rules_parser.specs.declared.files.Item.{Item}
+use Rattle.rules_parser.specs.declared.files.Item.the-variants as item
+use Rattle.rule_lists.specs.Lines.{ruleIn}
+use Rattle.rule_lists.specs.Tables.{KeptIs, keysOf}
+
+unfoldable pub rulePut : Rule → List ℕ
+rulePut r = textPut (r .pattern) ++ (textPut (r .left) ++ (textPut (r .right) ++ textPut (r .expression)))
+
+-- the rule of a line; nothing for another
+unfoldable pub itemPut : List ℕ → Item → List ℕ
+itemPut s (item.Passed k n) = []
+itemPut s (item.Tells (told.Rule a b c d) n) = rulePut (ruleIn s a b c d)
+itemPut s (item.Tells (told.Include t) n) = []
+itemPut s (item.Tells (told.Guess a b v) n) = []
+itemPut s (item.Tells (told.Name t) n) = []
+itemPut s item.Wrong = []
+
+unfoldable pub rowPut : List ℕ → ℕ → List ℕ
+rowPut s place = itemPut s (itemAt Rules s place)
+
+-- the rows are those of some rules
+pub record SomeKept (bundle rows : List ℕ) (n : ℕ) : Type 0 where
+  pub some : (rs : List Rule) × KeptIs bundle rows n rs
+
+-- row j lies within the rows, and its file within the bundle
+pub record RowFits (bundle rows : List ℕ) (j : ℕ) : Type 0 where
+  pub size : length rows ≡ 16384
+  pub order : getD rows (4 * j + 1) 0 ≤ getD rows (4 * j + 2) 0
+  pub within : getD rows (4 * j + 2) 0 ≤ length bundle
+
+-- the rule of row j
+abbrev pub rowAtPut : List ℕ → List ℕ → ℕ → List ℕ
+rowAtPut bundle rows j = rowPut (take (getD rows (4 * j + 2) 0 - getD rows (4 * j + 1) 0) (drop (getD rows (4 * j + 1) 0) bundle)) (getD rows (4 * j + 3) 0)
+
+-- the rules of n rows in order, behind their count
+pub record RowsPut (bundle rows : List ℕ) (n : ℕ) (out : List ℕ) (at r : ℕ) (out′ : List ℕ) : Type 0 where
+  pub is : (rs : List Rule) → KeptIs bundle rows n rs → Put out out′ at r (countBytes n ++ keyBytes rulePut rs (keysOf rows n 0 []))

@@ -1,0 +1,238 @@
+// The lists in pack order: "for each language rules, approx, exact, then common approx, common exact".
+ghost use mathlib.Core.List.{_++_};
+ghost use Prim.Native.Nat.{_+_, _≤_};
+ghost use lib.ListN.{length};
+ghost use Rattle.name_parts.specs.Writing.{Put};
+ghost use Rattle.languages.specs.Names.{stringsOf};
+ghost use Rattle.pack_bytes.specs.Bytes.{listBytes};
+ghost use Rattle.held.specs.Tables.{bytesOf};
+ghost use Rattle.bundles.specs.Bundles.{filesOf};
+ghost use Rattle.rule_lists.specs.Lists.{listOf, listsOf, twoOf, threeOf, listFiles, commonPart};
+ghost use Rattle.rule_lists.specs.Walks.{Room};
+ghost use Rattle.rule_lists.specs.Outcomes.{Told};
+use crate::walk::Collected;
+use crate::writing::Written;
+use bundles::FileAt;
+use languages::Next;
+use name_parts::NameType;
+
+// Writes the list of a listed file.
+fn write_list(
+    bundle: &[u8],
+    names: &[u8],
+    wanted: &[u8],
+    lasts: &mut [u64],
+    rows: &mut [usize],
+    out: &mut [u8],
+    at: usize,
+) -> Written
+    requires { ⌜ Room (now lasts) (now rows) ⌝ }
+    ensures { λ r. ⌜ Told listBytes (listOf (now (names .entry)) (filesOf (now (bundle .entry))) (now (wanted .entry))) (now (out .entry)) (now (out .exit)) at r ⌝ }
+{
+    match bundles::find_file(bundle, wanted) {
+        FileAt::At { number, start, end } => {
+            match crate::walk::collect(bundle, names, number, start, end, lasts, rows) {
+                Collected::Rules { n } => {
+                    crate::tables::sort(rows, n, lasts);
+                    Written::Done {
+                        at: crate::writing::put_rows(bundle, rows, lasts, n, out, at),
+                    }
+                }
+                Collected::Refused { code, line, file } => Written::Refused { code, line, file },
+            }
+        }
+        FileAt::Missing => Written::Refused {
+            code: 11,
+            line: 0,
+            file: 0,
+        },
+    }
+}
+
+// Writes a name of three parts.
+fn put_name(prefix: &[u8], kind: &[u8], language: &[u8], out: &mut [u8]) -> usize
+    ensures { λ r. ⌜ Put (now (out .entry)) (now (out .exit)) 0 r (now (prefix .entry) ++ (now (kind .entry) ++ now (language .entry))) ⌝ }
+{
+    let a = name_parts::copy(prefix, out, 0);
+    let b = name_parts::copy(kind, out, a);
+    name_parts::copy(language, out, b)
+}
+
+// Writes the list of the file whose name is of these three parts.
+fn write_named(
+    bundle: &[u8],
+    names: &[u8],
+    prefix: &[u8],
+    kind: &[u8],
+    language: &[u8],
+    lasts: &mut [u64],
+    rows: &mut [usize],
+    out: &mut [u8],
+    at: usize,
+) -> Written
+    requires { ⌜ Room (now lasts) (now rows) ⌝ }
+    requires { ⌜ length (now prefix) + (length (now kind) + length (now language)) ≤ 320 ⌝ }
+    ensures { λ r. ⌜ Told listBytes (listOf (now (names .entry)) (filesOf (now (bundle .entry))) (now (prefix .entry) ++ (now (kind .entry) ++ now (language .entry)))) (now (out .entry)) (now (out .exit)) at r ⌝ }
+{
+    let mut wanted = [0u8; 320];
+    let n = put_name(prefix, kind, language, &mut wanted);
+    write_list(bundle, names, &wanted[0..n], lasts, rows, out, at)
+}
+
+// The approximate and the exact list of a language, or of `common`.
+fn write_two(
+    bundle: &[u8],
+    names: &[u8],
+    prefix: &[u8],
+    language: &[u8],
+    lasts: &mut [u64],
+    rows: &mut [usize],
+    out: &mut [u8],
+    at: usize,
+) -> Written
+    requires { ⌜ Room (now lasts) (now rows) ⌝ }
+    requires { ⌜ length (now prefix) + length (now language) ≤ 300 ⌝ }
+    ensures { λ r. ⌜ Told (bytesOf listBytes) (listsOf (now (names .entry)) (filesOf (now (bundle .entry))) (twoOf (now (prefix .entry)) (now (language .entry)))) (now (out .entry)) (now (out .exit)) at r ⌝ }
+{
+    match write_named(
+        bundle,
+        names,
+        prefix,
+        b"_approx_",
+        language,
+        lasts,
+        rows,
+        out,
+        at,
+    ) {
+        Written::Done { at: p } => {
+            write_named(
+                bundle,
+                names,
+                prefix,
+                b"_exact_",
+                language,
+                lasts,
+                rows,
+                out,
+                p,
+            )
+        }
+        Written::Refused { code, line, file } => Written::Refused { code, line, file },
+    }
+}
+
+// The three lists of a language.
+fn write_three(
+    bundle: &[u8],
+    names: &[u8],
+    prefix: &[u8],
+    language: &[u8],
+    lasts: &mut [u64],
+    rows: &mut [usize],
+    out: &mut [u8],
+    at: usize,
+) -> Written
+    requires { ⌜ Room (now lasts) (now rows) ⌝ }
+    requires { ⌜ length (now prefix) + length (now language) ≤ 300 ⌝ }
+    ensures { λ r. ⌜ Told (bytesOf listBytes) (listsOf (now (names .entry)) (filesOf (now (bundle .entry))) (threeOf (now (prefix .entry)) (now (language .entry)))) (now (out .entry)) (now (out .exit)) at r ⌝ }
+{
+    match write_named(
+        bundle,
+        names,
+        prefix,
+        b"_rules_",
+        language,
+        lasts,
+        rows,
+        out,
+        at,
+    ) {
+        Written::Done { at: p } => {
+            write_two(bundle, names, prefix, language, lasts, rows, out, p)
+        }
+        Written::Refused { code, line, file } => Written::Refused { code, line, file },
+    }
+}
+
+// The two common lists.
+fn write_common(
+    bundle: &[u8],
+    names: &[u8],
+    prefix: &[u8],
+    lasts: &mut [u64],
+    rows: &mut [usize],
+    out: &mut [u8],
+    at: usize,
+) -> Written
+    requires { ⌜ Room (now lasts) (now rows) ⌝ }
+    requires { ⌜ length (now prefix) ≤ 40 ⌝ }
+    ensures { λ r. ⌜ Told (bytesOf listBytes) (listsOf (now (names .entry)) (filesOf (now (bundle .entry))) (twoOf (now (prefix .entry)) commonPart)) (now (out .entry)) (now (out .exit)) at r ⌝ }
+{
+    write_two(bundle, names, prefix, b"common", lasts, rows, out, at)
+}
+
+// The lists of each language, and the common ones.
+fn write_all(
+    bundle: &[u8],
+    names: &[u8],
+    prefix: &[u8],
+    lasts: &mut [u64],
+    rows: &mut [usize],
+    out: &mut [u8],
+    at: usize,
+) -> Written
+    requires { ⌜ Room (now lasts) (now rows) ⌝ }
+    requires { ⌜ length (now prefix) ≤ 40 ⌝ }
+    ensures { λ r. ⌜ Told (bytesOf listBytes) (listsOf (now (names .entry)) (filesOf (now (bundle .entry))) (listFiles (now (prefix .entry)) (stringsOf (now (names .entry))))) (now (out .entry)) (now (out .exit)) at r ⌝ }
+{
+    let mut from: usize = 0;
+    let mut place = at;
+    loop {
+        match languages::string_at(names, from) {
+            Next::Whole { start, end } => {
+                match write_three(
+                    bundle,
+                    names,
+                    prefix,
+                    &names[start..end],
+                    lasts,
+                    rows,
+                    out,
+                    place,
+                ) {
+                    Written::Done { at: q } => {
+                        place = q;
+                        from = end;
+                    }
+                    Written::Refused { code, line, file } => {
+                        return Written::Refused { code, line, file };
+                    }
+                }
+            }
+            Next::Cut => {
+                return write_common(bundle, names, prefix, lasts, rows, out, place);
+            }
+        }
+    }
+}
+
+// Writes what fits of the lists of a type from a place on: the rule files in `bundle`, for the languages of `names`, strings behind
+// their length bytes. The end is told, or the first refusal.
+pub fn write_lists(
+    kind: NameType,
+    bundle: &[u8],
+    names: &[u8],
+    out: &mut [u8],
+    at: usize,
+) -> Written
+    ensures { λ r. ⌜ Told (bytesOf listBytes) (listsOf (now (names .entry)) (filesOf (now (bundle .entry))) (listFiles (Rattle.rule_lists.specs.Lists.prefixOf kind) (stringsOf (now (names .entry))))) (now (out .entry)) (now (out .exit)) at r ⌝ }
+{
+    let mut lasts = [0u64; 4096];
+    let mut rows = [0usize; 16384];
+    match kind {
+        NameType::Ashkenazi => write_all(bundle, names, b"ash", &mut lasts, &mut rows, out, at),
+        NameType::Generic => write_all(bundle, names, b"gen", &mut lasts, &mut rows, out, at),
+        NameType::Sephardic => write_all(bundle, names, b"sep", &mut lasts, &mut rows, out, at),
+    }
+}
