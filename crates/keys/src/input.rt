@@ -45,11 +45,11 @@ fn more(buf: &mut [u8], had: usize) -> usize
     requires { ⌜ had ≤ length (now buf) ⌝ }
     ensures { λ r. ⌜ (had ≤ r) × (r ≤ length (now (buf .exit))) ⌝ }
 {
-    let filled = program_io::fill(libc::STDIN_FILENO, buf, had);
+    let filled = program_io::fill(libc::STDIN_FILENO, &mut buf[had..]);
     if filled.failed {
         program_io::failed(b"keys: standard input");
     }
-    filled.have
+    had + filled.have
 }
 
 // Moves the bytes from `from` up to `to` to the start of buf.

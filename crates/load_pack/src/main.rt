@@ -5,7 +5,6 @@ mod words;
 ghost use mathlib.Core.Path.{_≡_};
 ghost use Prim.Native.Nat.{_≤_};
 ghost use lib.ListN.{length};
-ghost use Rattle.load_pack.specs.Fits.{Fits};
 use loader::Loaded;
 
 // Zeros for the bundle file, a byte more than it may have. The contract gives only the length, so that no caller's proof sees the
@@ -63,6 +62,7 @@ fn print_refusal(code: u32, place: usize, file: usize) {
     let mut line = [0u8; 64];
     let n = put_refusal(code, place, file, &mut line);
     print(&line[0..n]);
+    program_io::refused();
 }
 
 // Writes a pack to the file that argument 3 names, and says so.
@@ -80,17 +80,10 @@ fn write(pack: &[u8]) {
     }
 }
 
-// Loads a bundle. All that this program uses of the loader is this bound.
-fn load(name_type: u32, bundle: &[u8], out: &mut [u8]) -> Loaded
-    ensures { λ r. ⌜ Fits (length (now (out .exit))) r ⌝ }
-{
-    loader::load(name_type, bundle, out)
-}
-
 // Loads a bundle, and writes its pack or prints its refusal.
 fn answer(name_type: u32, bundle: &[u8]) {
     let mut pack = pack_room();
-    match load(name_type, bundle, &mut pack) {
+    match loader::load(name_type, bundle, &mut pack) {
         Loaded::Done { length } => write(&pack[0..length]),
         Loaded::Refused { code, place, file } => print_refusal(code, place, file),
     }

@@ -8,7 +8,7 @@ use Prim.Native.Nat.{ℕ, zero, suc, _+_, _≤_}
 use native.Mathlib.Omega.{arith}
 use lib.Dec.{leb, ltb}
 use lib.ListN.{length, take}
-use lib.Seq.{sets, sets-eq, take-at}
+use lib.Seq.{sets, sets-eq, length-sets, take-at}
 use borrow.Author.Tests.{leb-true, le-leb, lt-ltb, eq-eqb, eqb-true, eqb-false}
 use Rattle.base.specs.Pick.{pick, pick-true, pick-inv, and-yes}
 use Rattle.name_parts.proofs.Laws.{clash}
@@ -164,3 +164,17 @@ written-by ty s out out′ n (outcome.refused c l f) e a = clash (cc (a .result)
 -- THE LAW: what `load` leaves where it is done is an accepted pack, and it is the definition's
 pub load-accepted : (ty : ℕ) (s out out′ : List ℕ) (n : ℕ) → LoadIs ty s out (Done n) out′ → Written ty s n out′
 load-accepted ty s out out′ n a = written-by ty s out out′ n (loadOf ty s) refl a
+
+-- for a program that takes the pack out of its buffer
+within-by : (x : outcome.Outcome (List ℕ)) (out out′ : List ℕ) (n : ℕ) → AnswerIs x out (Done n) out′ → n ≤ length out′
+unfolding answer filled
+within-by (outcome.refused c l f) out out′ n a = clash (cc (a .result))
+within-by (outcome.fine b) out out′ n a = ⊎-elim (λ w. yes-so (w .0) (cc (w .1))) (λ w. clash (cc (w .1))) (pick-inv _ _ _ _ (sym (a .result)))
+  where
+    yes-so : leb (length b) (length out) ≡ true → length b ≡ n → n ≤ length out′
+    yes-so t e =
+        let size : length out′ ≡ length out = ap length (a .buffer ∙ pick-true _ _ _ t) ∙ length-sets out 0 b in
+        omega (arith, leb-true (length b) (length out) t)
+
+pub load-within : (ty : ℕ) (s out out′ : List ℕ) (n : ℕ) (r : Loaded) → LoadIs ty s out r out′ → r ≡ Done n → n ≤ length out′
+load-within ty s out out′ n r a e = within-by (written (loadOf ty s)) out out′ n (rw (← e) a)

@@ -8,12 +8,11 @@ pub struct Filled {
     pub failed: bool,
 }
 
-// Reads behind the `had` bytes of buf until it is full, the input ends or a read fails.
-pub fn fill(fd: i32, buf: &mut [u8], had: usize) -> Filled
-    requires { ⌜ had ≤ length (now buf) ⌝ }
-    ensures { λ r. ⌜ (had ≤ r .have) × (r .have ≤ length (now (buf .exit))) ⌝ }
+// Reads until buf is full, the input ends or a read fails.
+pub fn fill(fd: i32, buf: &mut [u8]) -> Filled
+    ensures { λ r. ⌜ r .have ≤ length (now (buf .exit)) ⌝ }
 {
-    let mut have = had;
+    let mut have: usize = 0;
     while have < buf.len() {
         let got = libc::read(fd, &mut buf[have..]);
         let more = io::count(got, &buf[have..]);
@@ -42,7 +41,7 @@ pub fn read_file(path: &[u8], buf: &mut [u8]) -> Filled
             failed: true,
         };
     }
-    let filled = fill(fd, buf, 0);
+    let filled = fill(fd, buf);
     if filled.failed {
         return filled;
     }

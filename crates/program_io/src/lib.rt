@@ -14,3 +14,4 @@ pub use words::append;
 pub use words::append_decimal;
 pub use words::failed;
 pub use words::mark;
+pub use words::refused;

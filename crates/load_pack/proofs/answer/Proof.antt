@@ -1,10 +1,10 @@
-use Rattle.load_pack.proofs.Laws.{done-fits}
+use Rattle.loader.proofs.Accepted.{load-within}
 use borrow.Author.Needs.{needs}
 use Rattle.load_pack.proofs.answer.Statement.{statement}
 use Rattle.load_pack.proofs.answer.Tie as tie
 use Rattle.load_pack.proofs.answer.Reads as reads
 use Rattle.load_pack.proofs.answer.Lts as lts
-use Rattle.load_pack.proofs.load.Reads as load-reads
+use Rattle.loader.proofs.load.Reads as load-reads
 use Rattle.load_pack.proofs.pack_room.Reads as pack-room-reads
 use Rattle.load_pack.proofs.print_refusal.Reads as print-refusal-reads
 use Rattle.load_pack.proofs.write.Reads as write-reads
@@ -28,7 +28,7 @@ part-write-start : tie.Need-part-write-start
 part-write-start c = search needs
 
 part-write-end : tie.Need-part-write-end
-part-write-end c = search (done-fits, needs)
+part-write-end c = search (load-within, needs)
 
 write-requires : tie.Need-write-requires
 write-requires c κs = search needs

@@ -10,10 +10,10 @@ use Rattle.io.proofs.count.Reads as count-reads
 use Rattle.libc.proofs.read.Reads as read-reads
 
 abbrev Inv-loop : tie.InvT-loop
-Inv-loop fd buf₀ had have₀ buf have = (had ≤ have) × (have ≤ length buf) × (length buf ≡ length buf₀)
+Inv-loop fd buf₀ have₀ buf have = (have ≤ length buf) × (length buf ≡ length buf₀)
 
 abbrev μ-loop : tie.MeasureT-loop
-μ-loop fd buf₀ had have₀ buf have = length buf - have
+μ-loop fd buf₀ have₀ buf have = length buf - have
 
 loop-holds : tie.Need-loop-holds Inv-loop μ-loop
 loop-holds c = search needs
