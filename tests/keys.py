@@ -469,12 +469,24 @@ def compare_bulk(rules, setting, names, tally):
         tally.key(rules, setting, name, answer, told.get(place))
 
 
+def loaded(folder):
+    """The packs of a folder's rule files, by the programs bundle and load."""
+    packs = []
+    for prefix in real.TYPES:
+        bundle, pack = os.path.join(folder, prefix + ".bundle"), os.path.join(folder, prefix + ".pack")
+        subprocess.run([os.path.join(ROOT, "bin", "bundle"), prefix, folder, bundle], check=True)
+        subprocess.run([os.path.join(ROOT, "bin", "load"), prefix, bundle, pack], check=True)
+        with open(pack, "rb") as file:
+            packs.append(file.read())
+    return packs
+
+
 def try_bulk(rng, count, tally):
-    """The real rules under every setting, guessed and with a given set, and random packs of as many names."""
+    """The real rules, loaded by the programs, under every setting, guessed and with a given set; and random packs of as many names."""
     with open(SURNAMES, encoding="utf-8") as file:
         surnames = file.read().split("\n")[:-1]
     with tempfile.TemporaryDirectory() as folder:
-        rules = real_rules(folder)._replace(part="bulk")
+        rules = real_rules(folder)._replace(part="bulk", packs=loaded(folder))
         for settings in settings_over(REAL_LIMITS):
             names = [cut(name) for name in surnames] + [mixed_name(rng, surnames) for _ in range(count)]
             compare_bulk(rules, Setting(settings, None), names, tally)

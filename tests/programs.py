@@ -110,7 +110,7 @@ class Trial:
             if answer[0] == 0:
                 self.demand(told == (0, "0 %d\n" % len(answer[1]), "") and made == answer[1], what, told, answer[0])
             else:
-                self.demand(told == (0, "%d %d %d\n" % answer, "") and made == OLD, what, told, answer)
+                self.demand(told == (1, "%d %d %d\n" % answer, "") and made == OLD, what, told, answer)
             return answer[0]
 
 
@@ -235,8 +235,8 @@ def calls(trial):
                      ("load", "gen", bundle, none + "/x"), ("load", "gen", "x" * 5000, old)):
             told = program(*call)
             trial.demand(told[:2] == (2, "") and told[2] != "" and open(old, "rb").read() == OLD, call, told)
-        trial.demand(program("load", "3", bundle, old) == (0, "4 0 0\n", ""), "an unknown type")
-        trial.demand(program("load", "2", bundle, old) == (0, "11 0 0\n", ""), "another type")
+        trial.demand(program("load", "3", bundle, old) == (1, "4 0 0\n", ""), "an unknown type")
+        trial.demand(program("load", "2", bundle, old) == (1, "11 0 0\n", ""), "another type")
         trial.demand(open(old, "rb").read() == OLD, "a pack that was not to be written")
 
 

@@ -1,4 +1,4 @@
-/* The static library libbeider_morse.a (`rt staticlib beider_morse`): keys of names, for C.
+/* The static library libbeider_morse.a (`rt staticlib beider_morse`): rule files loaded and keys of names, for C.
    Each call answers with its code (0 done, else the number of the refusal); `tail` takes its other numbers. Where `tail` has
    fewer elements than a call needs, the answer is 255 and nothing is written. A refused call leaves `out` as it was. Any
    bytes and any numbers may be given: no call has to be checked first. A pointer must not be null, and `out` and `tail`
@@ -8,6 +8,11 @@
 
 #include <stddef.h>
 #include <stdint.h>
+
+/* The pack of a bundle of rule files. name_type: 0 Ashkenazi, 1 Generic, 2 Sephardic. tail[0]: bytes written, or the refusal's line
+   (for 9 the length needed); tail[1]: the number of the file in the bundle. It takes about 170 KB of stack. */
+uint32_t bm_load(uint32_t name_type, const uint8_t *bundle, size_t bundle_length, uint8_t *out, size_t out_length, uint64_t *tail,
+                 size_t tail_length);
 
 /* Is this a pack? 0, or 5. tail[0]: the first byte of the section at fault. */
 uint32_t bm_check(const uint8_t *pack, size_t pack_length, uint64_t *tail, size_t tail_length);
