@@ -1,6 +1,6 @@
 -- Answers as numbers, for C. An answer's numbers are the paper's: `numbersOf` of crate engine.
 use mathlib.Core.Path.{_≡_}
-use Prim.Native.Nat.{ℕ, _≤_}
+use Prim.Native.Nat.{ℕ}
 use mathlib.Core.Bool.{Bool, true, false}
 use mathlib.Core.List.{List}
 use lib.Dec.{eqb, ltb}

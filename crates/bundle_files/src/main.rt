@@ -6,7 +6,6 @@ mod taken;
 mod words;
 
 ghost use mathlib.Core.Path.{_≡_};
-ghost use Prim.Native.Nat.{_≤_};
 ghost use lib.ListN.{length};
 
 // Zeros for the files, and for the bundle that is made of them. The contract gives only the length, so that no caller's proof sees

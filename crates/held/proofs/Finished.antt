@@ -10,7 +10,7 @@ use lib.ListN.{length, length-append}
 use borrow.Author.Tests.{eqb-true, ne-eqb, eq-eqb}
 use Rattle.base.specs.Pick.{pick, pick-true, pick-false, pick-all}
 use Rattle.held.specs.Met.{Met, end, rule, file, Map, empty, isNil, add, extend, held, brings, spread, codes, finished, entries}
-use Rattle.held.specs.Tables.{noted, kept, staysIn, All, Bounded, Apart, Each, Within}
+use Rattle.held.specs.Tables.{noted, kept, staysIn, All, Apart, Each, Within}
 use Rattle.held.proofs.Laws.{or-left, or-right, held-brings}
 use Rattle.held.proofs.Places.{noted-apart, noted-all}
 use Rattle.held.proofs.Kept.{under, under-append, kept-held}
@@ -221,7 +221,3 @@ module _ {R : Type 0} (first : R → ℕ) where
           (each-both (λ r. first r < codes) (λ r. isNil (held first empty t (first r)) ≡ false) _ t
           (λ r x y k l. let e : (512 * first r + k) / 512 ≡ first r = omega arith in rw e (x, y)) within
           (each-brings (λ c. isNil (held first empty t c) ≡ false) t (λ c b. held-brings first c t empty b))) tt)
-
-      pub bounded-noted : Bounded (512 * codes) (noted first 0 0 [] t)
-      unfolding All Bounded
-      bounded-noted = noted-all first _ t 0 0 [] (omega arith) (omega arith) (each-both _ _ _ t (λ r x y k l. omega arith) within within) tt

@@ -1,10 +1,10 @@
 -- What `load` writes is an accepted pack that holds what the definition says; and a promise of `load` allows one answer and one
 -- content of the buffer. Assumes nothing.
 use mathlib.Core.Path.{_≡_, refl, sym, ap, _∙_}
-use mathlib.Core.Bool.{Bool, true, false}
-use mathlib.Core.List.{List, [], _∷_, _++_}
-use mathlib.Core.Logic.{_⊎_, inl, inr, ⊎-elim}
-use Prim.Native.Nat.{ℕ, zero, suc, _+_, _≤_}
+use mathlib.Core.Bool.{true, false}
+use mathlib.Core.List.{List, [], _∷_}
+use mathlib.Core.Logic.{_⊎_, ⊎-elim}
+use Prim.Native.Nat.{ℕ, zero, suc, _≤_}
 use native.Mathlib.Omega.{arith}
 use lib.Dec.{leb, ltb}
 use lib.ListN.{length, take}
@@ -30,7 +30,7 @@ use Rattle.rule_lists.proofs.FileLaws.{list-good}
 use Rattle.loader.specs.Guesses.{guessesOf}
 use Rattle.loader.specs.Loading.{onType, onListed, namesOf, guessFile, listsIn, packIn, loadOf, written, answer, filled, AnswerIs, LoadIs}
 use Rattle.loader.specs.declared.loading.Loaded.{Loaded}
-use Rattle.loader.specs.declared.loading.Loaded.the-variants.{Done, Refused}
+use Rattle.loader.specs.declared.loading.Loaded.the-variants.{Done}
 use Rattle.loader.proofs.FileLaws.{fine-is, then-fine}
 use Rattle.loader.proofs.LanguageLaws.{strings-names}
 use Rattle.loader.proofs.GuessLaws.{guesses-good}

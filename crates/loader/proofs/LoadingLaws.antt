@@ -1,17 +1,16 @@
 -- A bundle loaded: names, guessing rules and lists one after the other, measured and then written. Assumes nothing.
 use mathlib.Core.Path.{_≡_, refl, sym, ap, _∙_}
-use mathlib.Core.Bool.{Bool, true, false}
+use mathlib.Core.Bool.{true, false}
 use mathlib.Core.List.{List, [], _∷_, _++_, append-assoc}
 use Prim.Native.Nat.{ℕ, zero, suc, _+_, _-_, _*_, _≤_, _<_, min}
 use native.Mathlib.Nat.{sub-zero}
 use native.Mathlib.Omega.{arith}
 use lib.Dec.{leb}
 use lib.ListN.{length, take, drop, length-take}
-use lib.Seq.{sets}
 use borrow.Author.Tests.{le-leb, lt-leb}
 use Rattle.base.specs.Pick.{pick, pick-true, pick-false}
 use Rattle.languages.specs.Names.{stringsOf}
-use Rattle.name_parts.specs.Writing.{Put, cap}
+use Rattle.name_parts.specs.Writing.{Put}
 use Rattle.name_parts.proofs.Laws.{put-then, clash}
 use Rattle.name_parts.specs.declared.prefixes.NameType.{NameType}
 use Rattle.pack.specs.Packs.{Guess, Rule, Pack, namesGood}

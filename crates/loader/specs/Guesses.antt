@@ -1,7 +1,7 @@
 -- The guessing file (01, Rule files and includes: "Guessing lines").
 use Prim.Native.Nat.{ℕ}
 use mathlib.Core.Bool.{Bool, true, false}
-use mathlib.Core.List.{List, [], _∷_}
+use mathlib.Core.List.{List}
 use lib.Dec.{leb, ltb}
 use lib.ListN.{length}
 use Rattle.base.specs.Pick.{pick}

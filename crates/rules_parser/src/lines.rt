@@ -1,8 +1,6 @@
 // What one line is, by the kind of its file.
 ghost use mathlib.Core.Path.{_≡_};
 ghost use Rattle.base.specs.Pick.{and};
-ghost use Rattle.rule.specs.Matching.{ruleText};
-ghost use Rattle.rules_parser.specs.Fields.{partOf};
 ghost use Rattle.rules_parser.specs.Lines.{textAt, ruleTold, guessTold, acceptTold, nameTold, lastTwo, fourAt, includeAt, ruleAt, guessEnd, guessAt, nameAt, toldAt, lineAt};
 use crate::fields::Field;
 use crate::fields::FieldKind;
