@@ -1,14 +1,14 @@
 -- What `load` writes is an accepted pack that holds what the definition says; and a promise of `load` allows one answer and one
 -- content of the buffer. Assumes nothing.
 use mathlib.Core.Path.{_≡_, refl, sym, ap, _∙_}
-use mathlib.Core.Bool.{true, false}
+use mathlib.Core.Bool.{true}
 use mathlib.Core.List.{List, [], _∷_}
 use mathlib.Core.Logic.{_⊎_, ⊎-elim}
 use Prim.Native.Nat.{ℕ, zero, suc, _≤_}
 use native.Mathlib.Omega.{arith}
 use lib.Dec.{leb, ltb}
 use lib.ListN.{length, take}
-use lib.Seq.{sets, sets-eq, length-sets, take-at}
+use lib.Seq.{sets-eq, length-sets, take-at}
 use borrow.Author.Tests.{leb-true, le-leb, lt-ltb, eq-eqb, eqb-true, eqb-false}
 use Rattle.base.specs.Pick.{pick, pick-true, pick-inv, and-yes}
 use Rattle.name_parts.proofs.Laws.{clash}

@@ -1,11 +1,14 @@
 -- What a language list or a guessing file says, item by item. Assumes nothing.
 use mathlib.Core.Path.{_≡_, refl, sym, ap, _∙_}
+use mathlib.Core.Bool.{Bool, true}
 use mathlib.Core.List.{List, [], _∷_}
 use Prim.Native.Nat.{ℕ, zero, suc, _+_, _-_, _≤_, _<_}
 use native.Mathlib.Decide.{decLe}
 use native.Mathlib.Omega.{arith}
 use lib.ListN.{length}
+use Rattle.base.specs.Pick.{and-yes}
 use Rattle.name_parts.proofs.Laws.{clash}
+use Rattle.pack.specs.Packs.{all}
 use Rattle.pack_bytes.specs.Bytes.{Each, none, more}
 use Rattle.rules_parser.specs.Files.{itemAt, itemsAt, itemsOf}
 use Rattle.rules_parser.proofs.Laws.{passed-goes, passed-in, tells-goes, tells-in, items-start, items-end, items-passed, items-tells, items-wrong}
@@ -89,3 +92,9 @@ module _ {A : Type 0} (meaning : Told → Kept A) (f : ℕ) (k : FileKind) (s : 
 
     pub each-told : (xs : List A) → toldIn meaning f 1 (itemsOf k s) ≡ fine xs → Each P xs
     each-told xs q = each-from (length s) 0 (omega arith) 1 xs (told-start ∙ q)
+
+-- a test that holds of each
+pub each-all : {A : Type 0} (f : A → Bool) {xs : List A} → Each (λ x. f x ≡ true) xs → all f xs ≡ true
+unfolding all
+each-all f none = refl
+each-all f (more x xs) = and-yes _ _ x (each-all f xs)

@@ -22,8 +22,8 @@ use Rattle.rule.specs.Expressions.{plus, onFirst, cutAt, withBits, namesMask}
 use Rattle.lang.specs.Patterns.{inForms}
 use Rattle.name_parts.specs.Writing.{Put, cap}
 use Rattle.name_parts.proofs.Laws.{clash, put-none, put-then, put-long, put-place}
-use Rattle.pack.specs.Packs.{Guess, guess, all, guessGood, guessesGood}
-use Rattle.pack_bytes.specs.Bytes.{textBytes, textPut, maskBytes, guessBytes, Each, none, more}
+use Rattle.pack.specs.Packs.{Guess, guess, guessGood, guessesGood}
+use Rattle.pack_bytes.specs.Bytes.{textBytes, textPut, maskBytes, guessBytes, none, more}
 use Rattle.held.specs.Tables.{bytesOf}
 use Rattle.rules_parser.specs.Fields.{partOf}
 use Rattle.rules_parser.specs.Files.{itemAt}
@@ -42,7 +42,7 @@ use Rattle.loader.specs.declared.guesses.Judged.{Judged}
 use Rattle.loader.specs.declared.guesses.Judged.the-variants.{Mask, Fault}
 use Rattle.loader.specs.declared.guesses.Guessed.{Guessed}
 use Rattle.loader.specs.declared.guesses.Guessed.the-variants.{Done, Refused}
-use Rattle.loader.proofs.FileLaws.{fine-is, then-fine, toldFrom, told-start, told-end, told-wrong, told-passed, told-fault, told-kept, each-told}
+use Rattle.loader.proofs.FileLaws.{fine-is, then-fine, toldFrom, told-start, told-end, told-wrong, told-passed, told-fault, told-kept, each-told, each-all}
 
 -- ---- a rule judged
 
@@ -320,11 +320,6 @@ kept-good names s p (told.Guess a b v) n g e k =
     let more = ap not (ne-eqb (i .0) 0 (λ z. omega arith)) in
     rw (← i .3) (and-yes _ _ (accept-good v) (and-yes _ _ more
     (and-yes _ _ (lt-ltb _ _ (mask-held names _ (i .0) (i .2))) (and-yes _ _ (guess-pattern s p a b v n e) (i .1)))))
-
-each-all : {A : Type 0} (f : A → Bool) {xs : List A} → Each (λ x. f x ≡ true) xs → all f xs ≡ true
-unfolding all
-each-all f none = refl
-each-all f (more x xs) = and-yes _ _ x (each-all f xs)
 
 counted-inv : (t : Bool) (gs hs : List Guess) → pick t (fine gs) (refused 18 0 0) ≡ fine hs → (t ≡ true) × (gs ≡ hs)
 unfolding pick
