@@ -25,7 +25,7 @@ fn past_blanks(line: &[u8], at: usize) -> usize
 }
 
 // The next field from `at` on.
-pub fn next(line: &[u8], at: usize) -> Field
+pub(crate) fn next(line: &[u8], at: usize) -> Field
     requires { ⌜ at ≤ length (now line) ⌝ }
     ensures { λ r. ⌜ (r .from ≤ r .to) × (r .to ≤ length (now (line .entry))) ⌝ }
 {
@@ -35,7 +35,7 @@ pub fn next(line: &[u8], at: usize) -> Field
 }
 
 // The next field from `at` on, where it is the last.
-pub fn last(line: &[u8], at: usize) -> Field
+pub(crate) fn last(line: &[u8], at: usize) -> Field
     requires { ⌜ at ≤ length (now line) ⌝ }
     ensures { λ r. ⌜ (r .from ≤ r .to) × (r .to ≤ length (now (line .entry))) ⌝ }
 {
@@ -302,7 +302,7 @@ pub struct Three {
 }
 
 // The numbers of the next three fields from `at` on.
-pub fn three_decimals(rest: &[u8], at: usize) -> Three
+pub(crate) fn three_decimals(rest: &[u8], at: usize) -> Three
     requires { ⌜ at ≤ length (now rest) ⌝ }
     ensures { λ r. ⌜ r .at ≤ length (now (rest .entry)) ⌝ }
 {

@@ -125,7 +125,7 @@ fn read_line(buf: &mut [u8], had: usize) -> Input
 }
 
 // The line after s.
-pub fn next(buf: &mut [u8], s: Input) -> Input
+pub(crate) fn next(buf: &mut [u8], s: Input) -> Input
     requires { ⌜ Stands s (length (now buf)) ⌝ }
     ensures { λ r. ⌜ Stands r (length (now (buf .exit))) ⌝ }
 {

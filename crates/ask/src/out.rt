@@ -9,14 +9,14 @@ fn write(src: &[u8]) {
 }
 
 // Writes out what waits.
-pub fn flush(out: &[u8], used: usize)
+pub(crate) fn flush(out: &[u8], used: usize)
     requires { ⌜ used ≤ length (now out) ⌝ }
 {
     write(&out[0..used]);
 }
 
 // Puts bytes behind those that wait, which are written out first where there is no room.
-pub fn put(out: &mut [u8], used: usize, src: &[u8]) -> usize
+pub(crate) fn put(out: &mut [u8], used: usize, src: &[u8]) -> usize
     requires { ⌜ used ≤ length (now out) ⌝ }
     ensures { λ r. ⌜ r ≤ length (now (out .exit)) ⌝ }
 {
@@ -34,7 +34,7 @@ pub fn put(out: &mut [u8], used: usize, src: &[u8]) -> usize
 }
 
 // Puts a decimal number.
-pub fn decimal(out: &mut [u8], used: usize, n: u64) -> usize
+pub(crate) fn decimal(out: &mut [u8], used: usize, n: u64) -> usize
     requires { ⌜ used ≤ length (now out) ⌝ }
     ensures { λ r. ⌜ r ≤ length (now (out .exit)) ⌝ }
 {
@@ -44,7 +44,7 @@ pub fn decimal(out: &mut [u8], used: usize, n: u64) -> usize
 }
 
 // Puts a line of a decimal number.
-pub fn decimal_line(out: &mut [u8], used: usize, n: u64) -> usize
+pub(crate) fn decimal_line(out: &mut [u8], used: usize, n: u64) -> usize
     requires { ⌜ used ≤ length (now out) ⌝ }
     ensures { λ r. ⌜ r ≤ length (now (out .exit)) ⌝ }
 {
@@ -82,7 +82,7 @@ fn pairs(out: &mut [u8], used: usize, src: &[u8]) -> usize
 }
 
 // Puts bytes in hex, and `-` for none.
-pub fn hex(out: &mut [u8], used: usize, src: &[u8]) -> usize
+pub(crate) fn hex(out: &mut [u8], used: usize, src: &[u8]) -> usize
     requires { ⌜ used ≤ length (now out) ⌝ }
     ensures { λ r. ⌜ r ≤ length (now (out .exit)) ⌝ }
 {
@@ -93,7 +93,7 @@ pub fn hex(out: &mut [u8], used: usize, src: &[u8]) -> usize
 }
 
 // Puts a line of bytes in hex.
-pub fn hex_line(out: &mut [u8], used: usize, src: &[u8]) -> usize
+pub(crate) fn hex_line(out: &mut [u8], used: usize, src: &[u8]) -> usize
     requires { ⌜ used ≤ length (now out) ⌝ }
     ensures { λ r. ⌜ r ≤ length (now (out .exit)) ⌝ }
 {

@@ -285,7 +285,7 @@ fn not_loaded_line(
 }
 
 // Puts the line of what is said.
-pub fn say(s: Said, given: &[u8], made: &[u8], out: &mut [u8], used: usize) -> usize
+pub(crate) fn say(s: Said, given: &[u8], made: &[u8], out: &mut [u8], used: usize) -> usize
     requires { ⌜ used ≤ length (now out) ⌝ }
     ensures { λ r. ⌜ r ≤ length (now (out .exit)) ⌝ }
 {

@@ -121,7 +121,7 @@ fn last(buf: &mut [u8], have: usize) -> Input
 }
 
 // The next block, of which no whole line waits yet: what waits, at the start of buf, and what can be read behind it.
-pub fn read_on(buf: &mut [u8], s: Input) -> Input
+pub(crate) fn read_on(buf: &mut [u8], s: Input) -> Input
     requires { ⌜ (128 ≤ length (now buf)) × Waits s (length (now buf)) ⌝ }
     ensures { λ r. ⌜ Waits r (length (now (buf .exit))) ⌝ }
 {
