@@ -1,9 +1,11 @@
 // Guessing patterns (01, Guessing lines): which are within the forms, and whether one matches a name.
 ghost use mathlib.Core.Path.{_≡_};
+ghost use mathlib.Core.Bool.{false};
 ghost use lib.ListN.{drop};
 ghost use Rattle.letters.specs.Reading.{codesOf};
 ghost use Rattle.letters.specs.Utf8.{decodeAt};
 ghost use Rattle.texts.specs.Parts.{has};
+ghost use Rattle.lang.specs.Shortcuts.{otherwise, signatureOf, hasBit, mayIn, mayMatch};
 ghost use Rattle.lang.specs.Patterns.{plain, boxPlain, withoutCaret, withoutDollar, middle, framed, insideOf, boxLength, boxOf, charPiece, charLength, pieceAt, lengthAt, piecesOf, listed, good, allGood, inForms, takes, fitsAt, fitsAnywhere, matchesOf};
 use letters::Step;
 
@@ -275,13 +277,40 @@ fn fits_at(t: &[u8], end: bool, name: &[u8], from: usize) -> bool
     }
 }
 
+// Whether t begins with a character that is not b, where b is one by itself.
+fn is_otherwise(t: &[u8], b: u8) -> bool
+    ensures { λ r. ⌜ r ≡ otherwise (now (t .entry)) b ⌝ }
+{
+    if t.len() < 1 {
+        false
+    } else if t[0] == b'[' {
+        false
+    } else if t[0] == b {
+        false
+    } else {
+        b <= 0x7F
+    }
+}
+
+// The same as `fits_at`, and most places are passed by their first byte.
+fn fits_from(t: &[u8], end: bool, name: &[u8], from: usize) -> bool
+    ensures { λ r. ⌜ r ≡ fitsAt (piecesOf (now (t .entry))) end (codesOf (drop from (now (name .entry)))) ⌝ }
+{
+    if from < name.len() {
+        if is_otherwise(t, name[from]) {
+            return false;
+        }
+    }
+    fits_at(t, end, name, from)
+}
+
 // Whether the pieces of t fit the name from some place on.
 fn fits_anywhere(t: &[u8], end: bool, name: &[u8]) -> bool
     ensures { λ r. ⌜ r ≡ fitsAnywhere (piecesOf (now (t .entry))) end (codesOf (now (name .entry))) ⌝ }
 {
     let mut at: usize = 0;
     loop {
-        if fits_at(t, end, name, at) {
+        if fits_from(t, end, name, at) {
             return true;
         }
         match letters::decode(name, at) {
@@ -309,4 +338,50 @@ pub fn matches(p: &[u8], name: &[u8]) -> bool
     } else {
         fits_anywhere(t, end, name)
     }
+}
+
+// The signature of a name: of each of its bytes one of 64 bits.
+pub fn signature(name: &[u8]) -> u64
+    ensures { λ r. ⌜ r ≡ signatureOf (now (name .entry)) ⌝ }
+{
+    let mut i: usize = 0;
+    let mut bits: u64 = 0;
+    while i < name.len() {
+        let bit: u64 = 1 << (name[i] % 64);
+        bits = bits | bit;
+        i += 1;
+    }
+    bits
+}
+
+// Whether the signature has the bit of b.
+fn has_bit(bits: u64, b: u8) -> bool
+    ensures { λ r. ⌜ r ≡ hasBit bits b ⌝ }
+{
+    let bit: u64 = 1 << (b % 64);
+    bits & bit != 0
+}
+
+// Whether each byte of t that is outside its boxes has its bit in the signature.
+fn may_be_in(t: &[u8], bits: u64) -> bool
+    ensures { λ r. ⌜ r ≡ mayIn bits false (now (t .entry)) ⌝ }
+{
+    let mut q: usize = 0;
+    while q < t.len() {
+        if t[q] == b'[' {
+            q += piece_len(&t[q..t.len()]);
+        } else if has_bit(bits, t[q]) {
+            q += 1;
+        } else {
+            return false;
+        }
+    }
+    true
+}
+
+// Whether a name of this signature may match the pattern: where not, `matches` is false (Shortcuts: `may-not`).
+pub fn may_match(p: &[u8], bits: u64) -> bool
+    ensures { λ r. ⌜ r ≡ mayMatch (now (p .entry)) bits ⌝ }
+{
+    may_be_in(middle_of(p), bits)
 }

@@ -11,8 +11,8 @@ use native.Mathlib.Omega.{arith}
 use lib.Dec.{leb, ltb, eqb}
 use lib.ListN.{length, getD, take, drop, List·getD-eq-default, take-append-drop, length-drop}
 use lib.Seq.{drop-drop, ext-getD, length-take-le, getD-take, getD-drop}
-use borrow.Author.Tests.{leb-true, ltb-true, ltb-false, eqb-false, lt-ltb, le-ltb}
-use Rattle.base.specs.Pick.{pick, and, pick-inv, pick-all, and-inv, pick-yes}
+use borrow.Author.Tests.{leb-true, ltb-true, ltb-false, eqb-false, lt-ltb, le-ltb, le-leb}
+use Rattle.base.specs.Pick.{pick, and, pick-inv, pick-all, and-inv, pick-yes, pick-no}
 use Rattle.letters.specs.Utf8.{within, lowSecond, highSecond, code2, code3, code4, decode2, decode3, decode4, decodeBytes, decodeAt, encode}
 use Rattle.letters.specs.declared.utf8.Step.{Step}
 use Rattle.letters.specs.declared.utf8.Step.the-variants.{Char, Ill, End}
@@ -30,6 +30,16 @@ pub decodeAt-in : (s : List ℕ) (p a b c d : ℕ) (r : Step) → p < length s �
     → r ≡ decodeBytes a b c d → r ≡ decodeAt s p
 unfolding decodeAt
 decodeAt-in s p a b c d r h ea eb ec ed e = rw (← ea, ← eb, ← ec, ← ed) (pick-yes _ _ _ _ (lt-ltb p (length s) h) e)
+
+pub decode-one : (s : List ℕ) (p : ℕ) → p < length s → getD s p 0 ≤ 0x7F → Char (getD s p 0) 1 ≡ decodeAt s p
+unfolding decodeBytes
+decode-one s p h l = decodeAt-in s p _ _ _ _ _ h refl refl refl refl (pick-yes _ _ _ _ (le-leb _ _ l) refl)
+
+pub decode-none : (s : List ℕ) (p : ℕ) → length s ≤ p → End ≡ decodeAt s p
+unfolding decodeAt
+decode-none s p h = pick-no _ _ _ _ (le-ltb _ _ h) refl
+
+pub ruleset decode-laws = (decode-one, decode-none)
 
 -- ---- the shapes
 

@@ -145,8 +145,8 @@ fn decode_bytes(a: u8, b: u8, c: u8, d: u8) -> Step
     }
 }
 
-// What stands at p of s.
-pub fn decode(s: &[u8], p: usize) -> Step
+// What stands at p of s, by its first byte and the three behind it.
+fn decode_long(s: &[u8], p: usize) -> Step
     ensures { λ r. ⌜ r ≡ decodeAt (now (s .entry)) p ⌝ }
 {
     if p < s.len() {
@@ -161,13 +161,32 @@ pub fn decode(s: &[u8], p: usize) -> Step
     }
 }
 
+// What stands at p of s. Most characters are one byte, which is told without looking at more.
+pub fn decode(s: &[u8], p: usize) -> Step
+    ensures { λ r. ⌜ r ≡ decodeAt (now (s .entry)) p ⌝ }
+{
+    if p < s.len() {
+        let a = s[p];
+        if a <= 0x7F {
+            Step::Char {
+                code: a as u32,
+                len: 1,
+            }
+        } else {
+            decode_long(s, p)
+        }
+    } else {
+        Step::End
+    }
+}
+
 // Where the first ill-formed sequence of s starts.
 pub fn first_ill(s: &[u8]) -> Found
     ensures { λ r. ⌜ r ≡ firstIll (now (s .entry)) ⌝ }
 {
     let mut p: usize = 0;
     loop {
-        match decode(s, p) {
+        match decode_long(s, p) {
             Step::Char { code: _, len } => {
                 p += len;
             }

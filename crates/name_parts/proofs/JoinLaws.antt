@@ -14,9 +14,9 @@ use Rattle.base.specs.Pick.{pick, pick-yes, pick-no, pick-true, pick-false, pic
 use Rattle.texts.specs.Parts.{has, placeOf}
 use Rattle.name_parts.specs.Writing.{Put, cap}
 use Rattle.name_parts.specs.Words.{wordsOf, wordAt, pastWord}
-use Rattle.name_parts.specs.Prefixes.{isPrefix}
+use Rattle.prefixes.specs.Prefixes.{isPrefix}
 use Rattle.name_parts.specs.Joining.{spaced, joinedName, afterApostrophe, keptOf, dropsOut, remaining, joinedBySpace, joinedWords}
-use Rattle.name_parts.specs.declared.prefixes.NameType.{NameType}
+use Rattle.prefixes.specs.declared.prefixes.NameType.{NameType}
 use Rattle.name_parts.proofs.Laws.{slice-room, put-none, put-then, put-long, put-place, words-none, words-next, word-later, past-within, clash}
 
 -- the part from r on, as the code takes it

@@ -16,12 +16,12 @@ use Rattle.texts.specs.Parts.{has, prefixOf}
 use Rattle.texts.proofs.Laws.{prefix-short, first-some-by}
 use Rattle.name_parts.specs.Writing.{Put, cap}
 use Rattle.name_parts.specs.Words.{goesOn, led, wordsOf, firstOf, wordAt, spaces, letters, wordStart, wordEnd, pastWord, oneWord}
-use Rattle.name_parts.specs.Prefixes.{generic, prefixesOf, fits, firstFit, splitOf}
+use Rattle.prefixes.specs.Prefixes.{generic, prefixesOf, fits, firstFit, splitOf}
 use Rattle.name_parts.specs.Joining.{spaced, joinedName, afterApostrophe, keptOf, dropsOut, remaining, joinedBySpace, joinedWords}
-use Rattle.name_parts.specs.declared.prefixes.NameType.{NameType}
-use Rattle.name_parts.specs.declared.prefixes.NameType.the-variants.{Ashkenazi, Generic, Sephardic}
-use Rattle.name_parts.specs.declared.prefixes.Prefix.{Prefix}
-use Rattle.name_parts.specs.declared.prefixes.Prefix.the-variants.{Parted}
+use Rattle.prefixes.specs.declared.prefixes.NameType.{NameType}
+use Rattle.prefixes.specs.declared.prefixes.NameType.the-variants.{Ashkenazi, Generic, Sephardic}
+use Rattle.prefixes.specs.declared.prefixes.Prefix.{Prefix}
+use Rattle.prefixes.specs.declared.prefixes.Prefix.the-variants.{Parted}
 
 pub clash : {A : Type 0} → _≡_ {A = ℕ} 0 1 → A
 clash e = absurd (omega arith)

@@ -1,5 +1,4 @@
 pub mod Laws
 pub mod WordLaws
 pub mod WritingLaws
-pub mod PrefixLaws
 pub mod JoinLaws

@@ -7,9 +7,9 @@ use lib.ListN.{take, drop}
 use Rattle.base.specs.Pick.{pick}
 use Rattle.texts.specs.Parts.{has}
 use Rattle.name_parts.specs.Words.{wordsOf}
-use Rattle.name_parts.specs.Prefixes.{isPrefix}
-use Rattle.name_parts.specs.declared.prefixes.NameType.{NameType}
-use Rattle.name_parts.specs.declared.prefixes.NameType.the-variants.{Ashkenazi, Generic, Sephardic}
+use Rattle.prefixes.specs.Prefixes.{isPrefix}
+use Rattle.prefixes.specs.declared.prefixes.NameType.{NameType}
+use Rattle.prefixes.specs.declared.prefixes.NameType.the-variants.{Ashkenazi, Generic, Sephardic}
 
 -- "Hyphens become spaces."
 unfoldable pub spaced : List ℕ → List ℕ

@@ -8,12 +8,12 @@ ghost use Rattle.base.specs.Pick.{pick};
 ghost use Rattle.name_parts.specs.Writing.{Put, cap};
 ghost use Rattle.name_parts.specs.Words.{wordsOf};
 ghost use Rattle.name_parts.specs.Joining.{spaced, joinedName, afterApostrophe, keptOf, dropsOut, remaining, joinedBySpace, joinedWords};
-use crate::prefixes::NameType;
-use crate::prefixes::is_prefix;
 use crate::words::next_word;
 use crate::words::past_word;
 use crate::writing::copy;
 use crate::writing::push;
+use prefixes::NameType;
+use prefixes::is_prefix;
 
 // A hyphen as a space.
 fn parted(b: u8) -> u8

@@ -1,16 +1,11 @@
-// A name cut up and put together (engine.rs): its words, its prefix, and the texts that are spelled in its place.
+// A name cut up and put together (engine.rs): its words, and the texts that are spelled in its place.
 pub mod joining;
-pub mod prefixes;
 pub mod words;
 pub mod writing;
 
 pub use joining::join_prefix;
 pub use joining::join_words;
 pub use joining::part_hyphens;
-pub use prefixes::NameType;
-pub use prefixes::Prefix;
-pub use prefixes::is_prefix;
-pub use prefixes::prefix_of;
 pub use words::next_word;
 pub use words::one_word;
 pub use words::past_word;

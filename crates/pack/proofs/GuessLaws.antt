@@ -17,7 +17,9 @@ use Rattle.languages.specs.declared.names.Next.{Next}
 use Rattle.languages.specs.declared.names.Next.the-variants as next
 use Rattle.languages.specs.declared.sets.LanguageSet.{LanguageSet}
 use Rattle.rule.specs.Matching.{ruleText}
-use Rattle.lang.specs.Patterns.{inForms}
+use Rattle.lang.specs.Patterns.{inForms, matchesOf}
+use Rattle.lang.specs.Shortcuts.{signatureOf, mayMatch}
+use Rattle.lang.proofs.Shortcuts.{may-not}
 use Rattle.pack.specs.Reading.{Read, cut, got, andThen, readByte, readNumber, readText, readMany}
 use Rattle.pack.specs.Packs.{Guess, guess, readGuess, readGuesses, all, guessGood, guessesGood, placeIn}
 use Rattle.pack.specs.Guessing.{narrowedBy, narrowedByAll, leftOver, allListed, guessed, behind, readSome, guessesAt, guessedAt}
@@ -305,6 +307,10 @@ some-cut : {A : Type 0} (f : List ℕ → Read A) (n : ℕ) (l : List ℕ) → f
 unfolding readSome behind
 some-cut f zero l e = refl
 some-cut f (suc n) l e = rw e refl
+
+-- a pattern that the name's signature rules out
+pub ruled-out : (p name : List ℕ) (bits : ℕ) (t : Bool) → bits ≡ signatureOf name → t ≡ mayMatch p bits → t ≡ false → false ≡ matchesOf p name
+ruled-out p name bits t e f q = sym (may-not p name (ap (mayMatch p) (sym e) ∙ sym f ∙ q))
 
 module _ {s name : List ℕ} {start count whole at left mask : ℕ} (w : Narrowing s name start count whole at left mask) where
   module _ (x : GuessAt) (g : x ≡ guessAt s at) where

@@ -24,9 +24,9 @@ use Rattle.letters.specs.Reading.{firstIll}
 use Rattle.letters.specs.declared.utf8.Found.the-variants.{Nothing}
 use Rattle.rule.specs.Matching.{ruleText}
 use Rattle.rule.proofs.Formed.{text-formed}
-use Rattle.rule.specs.Expressions.{checkedOf}
-use Rattle.rule.specs.declared.answers.Expression.{Expression}
-use Rattle.rule.specs.declared.answers.Expression.the-variants.{Good, Malformed, Stranger}
+use Rattle.phonemes.specs.Expressions.{checkedOf}
+use Rattle.phonemes.specs.declared.answers.Expression.{Expression}
+use Rattle.phonemes.specs.declared.answers.Expression.the-variants.{Good, Malformed, Stranger}
 use Rattle.lang.specs.Patterns.{matchesOf}
 use Rattle.pack.specs.Reading.{Read, cut, got, andThen, readByte, readNumber, readText, readMany}
 use Rattle.pack.specs.Packs.{Guess, Rule, Pack, Verdict, accepted, refused, readNames, readGuess, readGuesses, readRule, readList, all, isForm, isGood, ruleGood, listGood, namesGood, guessesGood, section, placeIn, namesIn, listCount, listSections, isNil, endSection, packOf}

@@ -4,23 +4,29 @@ use mathlib.Core.Bool.{Bool, true, false}
 use mathlib.Core.List.{List, [], _∷_}
 use Prim.Native.Nat.{ℕ, _+_, _-_, _≤_, _<_, zero-le}
 use native.Mathlib.Omega.{arith}
-use lib.Dec.{leb, ltb}
+use lib.Dec.{eqb, leb}
 use lib.ListN.{length, take, drop, length-take, length-drop}
-use borrow.Author.Tests.{le-leb, lt-leb, lt-ltb, le-ltb}
-use Rattle.base.specs.Pick.{pick, and, pick-true, pick-false, and-yes, and-first, and-second}
-use Rattle.regex_optim.specs.Contexts.{leftForm, rightForm, kindOf}
+use borrow.Author.Tests.{le-leb, lt-leb}
+use Rattle.base.specs.Pick.{pick, and, pick-true, pick-false, pick-all, and-yes, and-first, and-second}
+use Rattle.regex_optim.specs.Contexts.{Form, opening, withoutCaret, withoutDollar, kindOf}
+use Rattle.regex_optim.specs.Steps.{literalKind}
 use Rattle.regex_optim.specs.declared.OptimizedRegex.{OptimizedRegex}
-use Rattle.rule.specs.Matching.{firstCode}
-use Rattle.rule.specs.Expressions.{checkedOf}
-use Rattle.rule.specs.declared.answers.Expression.{Expression}
-use Rattle.rule.specs.declared.answers.Expression.the-variants.{Good, Malformed, Stranger}
+use Rattle.regex_optim.specs.declared.OptimizedRegex.the-variants.{AllStringsMatcher, IsEmpty, Equals, StartsWith, EndsWith}
+use Rattle.regex_optim.proofs.Laws.{kind-by-literal, left-is, right-is}
+use Rattle.rule.specs.Matching.{ruleText, bare, firstCode}
+use Rattle.phonemes.specs.Expressions.{round, unround, checkedOf}
+use Rattle.rule.proofs.Bare.{Clear, bare-text, bare-clear, clear-has, clear-tail, clear-front}
+use Rattle.phonemes.proofs.Bare.{clear-good, clear-malformed}
+use Rattle.texts.specs.Parts.{firstIs, lastIs, has}
+use Rattle.phonemes.specs.declared.answers.Expression.{Expression}
+use Rattle.phonemes.specs.declared.answers.Expression.the-variants.{Good, Malformed, Stranger}
 use Rattle.languages.specs.Names.{stringAt}
 use Rattle.languages.specs.declared.names.Next.{Next}
 use Rattle.languages.specs.declared.names.Next.the-variants as next
 use Rattle.pack.specs.Reading.{Read, cut, got, andThen, readText, readMany}
 use Rattle.pack.specs.Packs.{Rule, rule, readRule, readList, all, isForm, isGood, ruleGood, ordered, listGood, placeIn}
 use Rattle.pack.specs.Places.{placedFrom, placedRule, ruleAt, countIn, ruleCount}
-use Rattle.pack.specs.Walks.{numberAt, judge, endIn, run, textsGood, ruleFits, rulesFrom, ruledAs, ruledIn}
+use Rattle.pack.specs.Walks.{numberAt, judge, endIn, run, patternGood, leftGood, rightGood, expressionGood, ruleFits, rulesFrom, ruledAs, ruledIn}
 use Rattle.pack.specs.declared.reading.Number.{Number}
 use Rattle.pack.specs.declared.reading.Number.the-variants as number
 use Rattle.pack.specs.declared.reading.Section.{Section}
@@ -216,17 +222,54 @@ form-no x y p e = sym (ap isForm e ∙ p)
 
 pub ruleset form-laws = (form-yes, form-no)
 
-module _ (l r : List ℕ) (x : OptimizedRegex) (t : Bool) (p : x ≡ kindOf (leftForm l)) (q : t ≡ isForm x) where
-  left-by : t ≡ isForm (kindOf (leftForm l))
-  left-by = q ∙ ap isForm p
+pub form-told : (x y : OptimizedRegex) (u : Bool) → x ≡ y → u ≡ isForm x → u ≡ isForm y
+form-told x y u e f = f ∙ ap isForm e
 
-  pub contexts-left : t ≡ false → false ≡ and (isForm (kindOf (leftForm l))) (isForm (kindOf (rightForm r)))
-  contexts-left f = sym (and-first _ _ (sym left-by ∙ f))
+-- without `[` a context is a literal, which is always in the forms
+Formed : OptimizedRegex → Type 0
+Formed x = isForm x ≡ true
 
-  pub contexts-both : (y : OptimizedRegex) (u : Bool) → t ≡ true → y ≡ kindOf (rightForm r) → u ≡ isForm y
-      → u ≡ and (isForm (kindOf (leftForm l))) (isForm (kindOf (rightForm r)))
-  unfolding and
-  contexts-both y u f g h = rw (sym left-by ∙ f) (h ∙ ap isForm g)
+literal-left : (n : ℕ) (s : Bool) → Formed (literalKind n s true)
+unfolding Formed literalKind isForm pick
+literal-left n true = pick-all Formed (eqb n 0) IsEmpty Equals refl refl
+literal-left n false = pick-all Formed (eqb n 0) AllStringsMatcher EndsWith refl refl
+
+literal-right : (n : ℕ) (e : Bool) → Formed (literalKind n true e)
+unfolding Formed literalKind isForm pick
+literal-right n true = pick-all Formed (eqb n 0) IsEmpty Equals refl refl
+literal-right n false = pick-all Formed (eqb n 0) AllStringsMatcher StartsWith refl refl
+
+module _ (c : List ℕ) (t : Bool) (p : t ≡ bare c) (q : t ≡ true) where
+  clear : Clear c
+  clear = bare-clear c (sym p ∙ q)
+
+  text : ruleText c ≡ true
+  text = bare-text c (sym p ∙ q)
+
+  pub left-bare : true ≡ leftGood c
+  unfolding leftGood Formed withoutCaret
+  left-bare =
+      let none : has opening (withoutCaret c) ≡ false = clear-has (pick-all Clear _ _ _ (clear-tail clear) clear) in
+      sym (and-yes _ _ text (ap (λ (x : Form). isForm (kindOf x)) (left-is c) ∙ ap isForm (sym (kind-by-literal _ _ _ _ (sym none) _ refl refl)) ∙ literal-left _ _))
+
+  pub right-bare : true ≡ rightGood c
+  unfolding rightGood Formed withoutDollar
+  right-bare =
+      let none : has opening (withoutDollar c) ≡ false = clear-has (pick-all Clear _ _ _ (clear-front clear) clear) in
+      sym (and-yes _ _ text (ap (λ (x : Form). isForm (kindOf x)) (right-is c) ∙ ap isForm (sym (kind-by-literal _ _ _ _ (sym none) _ refl refl)) ∙ literal-right _ _))
+
+  -- of an expression only the round brackets matter
+  bare-good : (names : List ℕ) (b : Bool) → pick (firstIs round c) (lastIs unround c) true ≡ b → b ≡ expressionGood names c
+  unfolding expressionGood isGood
+  bare-good names true e = sym (and-yes _ _ text (ap isGood (clear-good names c clear e)))
+  bare-good names false e = sym (and-second _ _ text (ap isGood (clear-malformed names c clear e)))
+
+  module _ (names : List ℕ) (f : Bool) (g : f ≡ firstIs round c) where
+    pub bare-round : (u : Bool) → f ≡ true → u ≡ lastIs unround c → u ≡ expressionGood names c
+    bare-round u v h = bare-good names u (pick-true _ _ _ (sym g ∙ v) ∙ sym h)
+
+    pub bare-plain : f ≡ false → true ≡ expressionGood names c
+    bare-plain v = bare-good names true (pick-false _ _ _ (sym g ∙ v))
 
 module _ (names e : List ℕ) (x : Expression) (p : x ≡ checkedOf names e) where
   pub expression-good : (n : ℕ) → x ≡ Good n → true ≡ isGood (checkedOf names e)
@@ -241,34 +284,47 @@ module _ (names e : List ℕ) (x : Expression) (p : x ≡ checkedOf names e) whe
   unfolding isGood
   expression-stranger q = sym (ap isGood (sym p ∙ q))
 
-and-assoc : (a b c : Bool) → and (and a b) c ≡ and a (and b c)
+-- the tests string by string, a, b, c and d of the texts
+and-false : (a : Bool) → and a false ≡ false
 unfolding and
-and-assoc true b c = refl
-and-assoc false b c = refl
+and-false true = refl
+and-false false = refl
 
-rule-good-is : (names : List ℕ) (r : Rule) → ruleGood names r
-    ≡ and (textsGood r) (and (ltb 0 (length (r .pattern)))
-    (and (and (isForm (kindOf (leftForm (r .left)))) (isForm (kindOf (rightForm (r .right))))) (isGood (checkedOf names (r .expression)))))
-unfolding ruleGood textsGood
-rule-good-is names r =
-    ap (λ (x : Bool). and (textsGood r) (and (ltb 0 (length (r .pattern))) x)) (sym (and-assoc (isForm (kindOf (leftForm (r .left)))) (isForm (kindOf (rightForm (r .right)))) (isGood (checkedOf names (r .expression)))))
+by-string : (a n b f c g d h : Bool) → and (and a (and b (and c d))) (and n (and f (and g h))) ≡ and (and n a) (and (and b f) (and (and c g) (and d h)))
+unfolding and
+by-string false true b f c g d h = refl
+by-string false false b f c g d h = refl
+by-string true false b f c g d h = and-false (and b (and c d))
+by-string true true false f c g d h = refl
+by-string true true true false c g d h = and-false (and c d)
+by-string true true true true false g d h = refl
+by-string true true true true true false d h = and-false d
+by-string true true true true true true false h = refl
+by-string true true true true true true true h = refl
 
-module _ (names p l r e : List ℕ) (t : Bool) (g : t ≡ textsGood (rule p l r e)) where
-  pub rule-texts : t ≡ false → false ≡ ruleGood names (rule p l r e)
-  rule-texts q = sym (rule-good-is names (rule p l r e) ∙ and-first _ _ (sym g ∙ q))
+good-is : (names : List ℕ) (r : Rule) → ruleGood names r ≡ and (patternGood (r .pattern)) (and (leftGood (r .left)) (and (rightGood (r .right)) (expressionGood names (r .expression))))
+unfolding ruleGood patternGood leftGood rightGood expressionGood
+good-is names r = by-string _ _ _ _ _ _ _ _
 
-  pub rule-empty : t ≡ true → length p ≤ 0 → false ≡ ruleGood names (rule p l r e)
-  rule-empty q h = sym (rule-good-is names (rule p l r e) ∙ and-second _ _ (sym g ∙ q) (and-first _ _ (le-ltb _ _ h)))
+module _ (names p l r e : List ℕ) (t : Bool) (g : t ≡ patternGood p) where
+  pub rule-pattern : t ≡ false → false ≡ ruleGood names (rule p l r e)
+  rule-pattern q = sym (good-is names (rule p l r e) ∙ and-first _ _ (sym g ∙ q))
 
-  module _ (u : Bool) (k : u ≡ and (isForm (kindOf (leftForm l))) (isForm (kindOf (rightForm r)))) where
-    pub rule-contexts : t ≡ true → 0 < length p → u ≡ false → false ≡ ruleGood names (rule p l r e)
-    rule-contexts q h v = sym (rule-good-is names (rule p l r e) ∙ and-second _ _ (sym g ∙ q) (and-second _ _ (lt-ltb _ _ h) (and-first _ _ (sym k ∙ v))))
+  module _ (u : Bool) (k : u ≡ leftGood l) (q : t ≡ true) where
+    pub rule-left : u ≡ false → false ≡ ruleGood names (rule p l r e)
+    rule-left o = sym (good-is names (rule p l r e) ∙ and-second _ _ (sym g ∙ q) (and-first _ _ (sym k ∙ o)))
 
-    pub rule-all : (x : Bool) → t ≡ true → 0 < length p → u ≡ true → x ≡ isGood (checkedOf names e) → x ≡ ruleGood names (rule p l r e)
-    unfolding and
-    rule-all x q h v y = y ∙ sym (rule-good-is names (rule p l r e) ∙ rw (sym g ∙ q, lt-ltb 0 (length p) h, sym k ∙ v) refl)
+    module _ (v : Bool) (m : v ≡ rightGood r) (o : u ≡ true) where
+      pub rule-right : v ≡ false → false ≡ ruleGood names (rule p l r e)
+      rule-right w = sym (good-is names (rule p l r e) ∙ and-second _ _ (sym g ∙ q) (and-second _ _ (sym k ∙ o) (and-first _ _ (sym m ∙ w))))
 
-pub ruleset rule-test-laws = (contexts-left, contexts-both, expression-good, expression-malformed, expression-stranger, rule-texts, rule-empty, rule-contexts, rule-all)
+      pub rule-all : (x : Bool) → v ≡ true → x ≡ expressionGood names e → x ≡ ruleGood names (rule p l r e)
+      unfolding and
+      rule-all x w y = y ∙ sym (good-is names (rule p l r e) ∙ rw (sym g ∙ q, sym k ∙ o, sym m ∙ w) refl)
+
+pub ruleset rule-laws = (rule-pattern, rule-left, rule-right, rule-all)
+
+pub ruleset rule-test-laws = (form-told, left-bare, right-bare, expression-good, expression-malformed, expression-stranger, bare-round, bare-plain)
 
 -- ---- a rule behind another
 

@@ -13,9 +13,9 @@ use Rattle.regex_optim.specs.Contexts.{leftForm, rightForm, kindOf}
 use Rattle.regex_optim.specs.declared.OptimizedRegex.{OptimizedRegex}
 use Rattle.regex_optim.specs.declared.OptimizedRegex.the-variants.{AllStringsMatcher, IsEmpty, Equals, StartsWith, EndsWith, EqualsChar, StartsWithChar, EndsWithChar, Outside}
 use Rattle.rule.specs.Matching.{ruleText, firstCode}
-use Rattle.rule.specs.Expressions.{checkedOf}
-use Rattle.rule.specs.declared.answers.Expression.{Expression}
-use Rattle.rule.specs.declared.answers.Expression.the-variants.{Good, Malformed, Stranger}
+use Rattle.phonemes.specs.Expressions.{checkedOf}
+use Rattle.phonemes.specs.declared.answers.Expression.{Expression}
+use Rattle.phonemes.specs.declared.answers.Expression.the-variants.{Good, Malformed, Stranger}
 use Rattle.lang.specs.Patterns.{inForms}
 use Rattle.pack.specs.Reading.{Read, cut, got, andThen, readByte, readNumber, readText, readMany}
 use Rattle.pack.specs.declared.sections.Checked.{Checked}

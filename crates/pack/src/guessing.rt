@@ -2,6 +2,8 @@
 ghost use mathlib.Core.Path.{_≡_};
 ghost use Prim.Native.Nat.{_≤_, min};
 ghost use lib.ListN.{length, drop};
+ghost use Rattle.lang.specs.Patterns.{matchesOf};
+ghost use Rattle.lang.specs.Shortcuts.{signatureOf};
 ghost use Rattle.pack.specs.Reading.{readMany};
 ghost use Rattle.pack.specs.Packs.{guess, readGuess, readGuesses, guessGood, guessesGood};
 ghost use Rattle.pack.specs.Guessing.{allListed, narrowedBy, narrowedByAll, leftOver, readSome, guessedAt};
@@ -136,11 +138,24 @@ pub(crate) fn guess_section(pack: &[u8], at: usize, languages: usize) -> Section
     }
 }
 
+// Whether the pattern matches a name of this signature.
+fn is_match(pattern: &[u8], name: &[u8], bits: u64) -> bool
+    requires { ⌜ bits ≡ signatureOf (now name) ⌝ }
+    ensures { λ r. ⌜ r ≡ matchesOf (now (pattern .entry)) (now (name .entry)) ⌝ }
+{
+    if lang::may_match(pattern, bits) {
+        lang::matches(pattern, name)
+    } else {
+        false
+    }
+}
+
 // The languages of `left` narrowed by a guessing rule, where its pattern matches.
-fn narrow(left: u32, accept: u32, mask: u32, pattern: &[u8], name: &[u8]) -> u32
+fn narrow(left: u32, accept: u32, mask: u32, pattern: &[u8], name: &[u8], bits: u64) -> u32
+    requires { ⌜ bits ≡ signatureOf (now name) ⌝ }
     ensures { λ r. ⌜ r ≡ narrowedBy (now (name .entry)) (guess accept mask (now (pattern .entry))) left ⌝ }
 {
-    if lang::matches(pattern, name) {
+    if is_match(pattern, name, bits) {
         if accept == 0 {
             languages::subtract(left, mask)
         } else {
@@ -158,6 +173,7 @@ fn narrow_all(pack: &[u8], start: usize, count: u32, all: u32, name: &[u8]) -> u
     let mut at = start;
     let mut left = count;
     let mut mask = all;
+    let signature = lang::signature(name);
     while 0 < left {
         match guess_at(pack, at) {
             GuessAt::At {
@@ -166,7 +182,7 @@ fn narrow_all(pack: &[u8], start: usize, count: u32, all: u32, name: &[u8]) -> u
                 start: from,
                 end,
             } => {
-                mask = narrow(mask, accept, bits, &pack[from..end], name);
+                mask = narrow(mask, accept, bits, &pack[from..end], name, signature);
                 at = end;
                 left -= 1;
             }

@@ -2,18 +2,16 @@
 ghost use mathlib.Core.Path.{_≡_};
 ghost use Prim.Native.Nat.{_≤_};
 ghost use lib.ListN.{length, drop};
-ghost use Rattle.base.specs.Pick.{and};
-ghost use Rattle.regex_optim.specs.Contexts.{leftForm, rightForm, kindOf};
-ghost use Rattle.rule.specs.Expressions.{checkedOf};
+ghost use Rattle.phonemes.specs.Expressions.{checkedOf};
 ghost use Rattle.pack.specs.Reading.{readMany};
 ghost use Rattle.pack.specs.Packs.{rule, readRule, readList, isForm, isGood, ruleGood, listGood};
 ghost use Rattle.pack.specs.Places.{ruleAt, ruleCount};
-ghost use Rattle.pack.specs.Walks.{endIn, textsGood, ruledAs, ruledIn, rulesFrom};
+ghost use Rattle.pack.specs.Walks.{endIn, patternGood, leftGood, rightGood, expressionGood, ruledAs, ruledIn, rulesFrom};
 use crate::reading::Number;
 use crate::reading::Section;
 use languages::Next;
+use phonemes::Expression;
 use regex_optim::OptimizedRegex;
-use rule::Expression;
 
 // A rule by its places: the pattern stands from `pattern` to `pattern_end`, and so the others; the next rule stands at `end`.
 pub enum RuleAt {
@@ -86,20 +84,12 @@ pub fn rule_count(pack: &[u8], place: usize) -> usize
     }
 }
 
-// Whether all four strings are texts that a rule may hold.
-fn texts_good(pattern: &[u8], left: &[u8], right: &[u8], expression: &[u8]) -> bool
-    ensures { λ r. ⌜ r ≡ textsGood (rule (now (pattern .entry)) (now (left .entry)) (now (right .entry)) (now (expression .entry))) ⌝ }
+// Whether a pattern is a text that a rule may hold, and not empty.
+fn pattern_good(pattern: &[u8]) -> bool
+    ensures { λ r. ⌜ r ≡ patternGood (now (pattern .entry)) ⌝ }
 {
-    if rule::is_rule_text(pattern) {
-        if rule::is_rule_text(left) {
-            if rule::is_rule_text(right) {
-                rule::is_rule_text(expression)
-            } else {
-                false
-            }
-        } else {
-            false
-        }
+    if 0 < pattern.len() {
+        rule::is_rule_text(pattern)
     } else {
         false
     }
@@ -122,11 +112,26 @@ fn is_form(form: OptimizedRegex) -> bool
     }
 }
 
-// Whether both contexts are in the forms.
-fn contexts_good(left: &[u8], right: &[u8]) -> bool
-    ensures { λ r. ⌜ r ≡ and (isForm (kindOf (leftForm (now (left .entry))))) (isForm (kindOf (rightForm (now (right .entry))))) ⌝ }
+// Whether a left context is a text in one of the forms; a bare one is.
+fn left_good(left: &[u8]) -> bool
+    ensures { λ r. ⌜ r ≡ leftGood (now (left .entry)) ⌝ }
 {
-    if is_form(regex_optim::left_form(left)) {
+    if rule::is_bare(left) {
+        true
+    } else if rule::is_rule_text(left) {
+        is_form(regex_optim::left_form(left))
+    } else {
+        false
+    }
+}
+
+// Whether a right context is.
+fn right_good(right: &[u8]) -> bool
+    ensures { λ r. ⌜ r ≡ rightGood (now (right .entry)) ⌝ }
+{
+    if rule::is_bare(right) {
+        true
+    } else if rule::is_rule_text(right) {
         is_form(regex_optim::right_form(right))
     } else {
         false
@@ -134,13 +139,30 @@ fn contexts_good(left: &[u8], right: &[u8]) -> bool
 }
 
 // Whether an expression is well formed and its names are listed.
-fn expression_good(names: &[u8], expression: &[u8]) -> bool
+fn expression_listed(names: &[u8], expression: &[u8]) -> bool
     ensures { λ r. ⌜ r ≡ isGood (checkedOf (now (names .entry)) (now (expression .entry))) ⌝ }
 {
-    match rule::check_expression(expression, names) {
+    match phonemes::check_expression(expression, names) {
         Expression::Good(_) => true,
         Expression::Malformed => false,
         Expression::Stranger => false,
+    }
+}
+
+// Whether an expression is a text as well; of a bare one only the round brackets matter.
+fn expression_good(names: &[u8], expression: &[u8]) -> bool
+    ensures { λ r. ⌜ r ≡ expressionGood (now (names .entry)) (now (expression .entry)) ⌝ }
+{
+    if rule::is_bare(expression) {
+        if texts::first_is(expression, b'(') {
+            texts::last_is(expression, b')')
+        } else {
+            true
+        }
+    } else if rule::is_rule_text(expression) {
+        expression_listed(names, expression)
+    } else {
+        false
     }
 }
 
@@ -148,9 +170,9 @@ fn expression_good(names: &[u8], expression: &[u8]) -> bool
 fn rule_good(names: &[u8], pattern: &[u8], left: &[u8], right: &[u8], expression: &[u8]) -> bool
     ensures { λ r. ⌜ r ≡ ruleGood (now (names .entry)) (rule (now (pattern .entry)) (now (left .entry)) (now (right .entry)) (now (expression .entry))) ⌝ }
 {
-    if texts_good(pattern, left, right, expression) {
-        if 0 < pattern.len() {
-            if contexts_good(left, right) {
+    if pattern_good(pattern) {
+        if left_good(left) {
+            if right_good(right) {
                 expression_good(names, expression)
             } else {
                 false

@@ -1,3 +1,1 @@
 pub mod Matching
-pub mod Expressions
-pub mod Walks

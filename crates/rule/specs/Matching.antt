@@ -2,7 +2,7 @@
 use Prim.Native.Nat.{ℕ, _+_}
 use mathlib.Core.Bool.{Bool, true, false, not}
 use mathlib.Core.List.{List, [], _∷_}
-use lib.Dec.{eqb, ltb}
+use lib.Dec.{eqb, leb, ltb}
 use lib.ListN.{length, take, drop}
 use Rattle.base.specs.Pick.{pick, and}
 use Rattle.letters.specs.Utf8.{decodeAt}
@@ -10,7 +10,7 @@ use Rattle.letters.specs.Reading.{Piece, letter, stray, piecesOf}
 use Rattle.letters.specs.declared.utf8.Step.{Step}
 use Rattle.letters.specs.declared.utf8.Step.the-variants.{Char, Ill, End}
 use Rattle.texts.specs.Parts.{prefixOf}
-use Rattle.regex_optim.specs.Contexts.{leftForm, rightForm, fits}
+use Rattle.regex_optim.specs.Contexts.{opening, leftForm, rightForm, fits}
 
 -- "any UTF-8 without U+0000 to U+001F, U+007F or the double quote"
 unfoldable pub plainCode : ℕ → Bool
@@ -23,6 +23,17 @@ plainIn (stray p b ∷ l) = false
 
 unfoldable pub ruleText : List ℕ → Bool
 ruleText s = plainIn (piecesOf s)
+
+-- quick tests: each byte is a character from `#` to `~` other than one; and, that one being `[`, a text with nothing to be read closer
+unfoldable pub visible : ℕ → ℕ → Bool
+visible but b = pick (ltb b 0x23) false (pick (eqb b but) false (leb b 0x7E))
+
+unfoldable pub allVisible : ℕ → List ℕ → Bool
+allVisible but [] = true
+allVisible but (x ∷ l) = and (visible but x) (allVisible but l)
+
+unfoldable pub bare : List ℕ → Bool
+bare s = allVisible opening s
 
 -- "Rules stand by first character of the pattern"
 unfoldable pub codeIn : Step → ℕ

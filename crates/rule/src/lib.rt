@@ -1,13 +1,7 @@
-// The leaves of rule.rs: phoneme expressions, and whether a rule matches at a place.
-mod answers;
+// The leaves of rule.rs: what a rule may hold, and whether it matches at a place.
 mod matching;
-mod phonemes;
 
-pub use answers::Alternative;
-pub use answers::Expression;
 pub use matching::first_code;
+pub use matching::is_bare;
 pub use matching::is_rule_text;
 pub use matching::rule_matches;
-pub use phonemes::alternative;
-pub use phonemes::check_expression;
-pub use phonemes::names_mask;

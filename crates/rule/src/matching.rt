@@ -1,6 +1,6 @@
 // What a rule's string may hold, and whether a rule matches at a place of a text.
 ghost use mathlib.Core.Path.{_≡_};
-ghost use Rattle.rule.specs.Matching.{plainCode, ruleText, firstCode, ruleMatches};
+ghost use Rattle.rule.specs.Matching.{plainCode, ruleText, visible, allVisible, bare, firstCode, ruleMatches};
 use letters::Step;
 
 // Whether a rule's string may hold the code point: no control, no double quote.
@@ -16,8 +16,35 @@ fn is_plain(code: u32) -> bool
     }
 }
 
-// Whether s is a text that a rule or guessing line may hold (12 otherwise).
-pub fn is_rule_text(s: &[u8]) -> bool
+// Whether b is a character from `#` to `~` other than `but`.
+fn is_visible(b: u8, but: u8) -> bool
+    ensures { λ r. ⌜ r ≡ visible but b ⌝ }
+{
+    if b < 0x23 {
+        false
+    } else if b == but {
+        false
+    } else {
+        b <= 0x7E
+    }
+}
+
+fn all_visible(s: &[u8], but: u8) -> bool
+    ensures { λ r. ⌜ r ≡ allVisible but (now (s .entry)) ⌝ }
+{
+    let mut i: usize = 0;
+    while i < s.len() {
+        if is_visible(s[i], but) {
+            i += 1;
+        } else {
+            return false;
+        }
+    }
+    true
+}
+
+// Whether s is a text that a rule or guessing line may hold, read character by character.
+fn reads_as_text(s: &[u8]) -> bool
     ensures { λ r. ⌜ r ≡ ruleText (now (s .entry)) ⌝ }
 {
     let mut p: usize = 0;
@@ -38,6 +65,24 @@ pub fn is_rule_text(s: &[u8]) -> bool
             }
         }
     }
+}
+
+// Whether s is a text that a rule or guessing line may hold (12 otherwise). Most are known by their bytes.
+pub fn is_rule_text(s: &[u8]) -> bool
+    ensures { λ r. ⌜ r ≡ ruleText (now (s .entry)) ⌝ }
+{
+    if all_visible(s, 0) {
+        true
+    } else {
+        reads_as_text(s)
+    }
+}
+
+// Whether s holds only characters from `#` to `~` and no `[`: then it is a rule text with nothing to be read closer.
+pub fn is_bare(s: &[u8]) -> bool
+    ensures { λ r. ⌜ r ≡ bare (now (s .entry)) ⌝ }
+{
+    all_visible(s, b'[')
 }
 
 // The first character of a pattern, and 0 where there is none.

@@ -8,7 +8,7 @@ use Rattle.lang.proofs.fits_anywhere.Statement.{statement}
 use Rattle.lang.proofs.fits_anywhere.Tie as tie
 use Rattle.lang.proofs.fits_anywhere.Reads as reads
 use Rattle.lang.proofs.fits_anywhere.Lts as lts
-use Rattle.lang.proofs.fits_at.Reads as fits-at-reads
+use Rattle.lang.proofs.fits_from.Reads as fits-from-reads
 use Rattle.letters.proofs.decode.Reads as decode-reads
 
 abbrev Inv-loop : tie.InvT-loop
@@ -20,8 +20,8 @@ abbrev μ-loop : tie.MeasureT-loop
 loop-holds : tie.Need-loop-holds Inv-loop μ-loop
 loop-holds c = search (trying-laws, needs)
 
-fits-at-requires : tie.Need-fits-at-requires Inv-loop μ-loop
-fits-at-requires c κs = search (trying-laws, needs)
+fits-from-requires : tie.Need-fits-from-requires Inv-loop μ-loop
+fits-from-requires c κs = search (trying-laws, needs)
 
 returns : tie.Need-returns Inv-loop μ-loop
 returns c = search (trying-laws, needs)
@@ -66,7 +66,7 @@ fits-anywhere-spec =
     Inv-loop
     μ-loop
     loop-holds
-    fits-at-requires
+    fits-from-requires
     returns
     decode-requires
     enum-known-len

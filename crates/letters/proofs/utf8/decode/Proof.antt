@@ -1,56 +1,30 @@
-use Rattle.letters.proofs.Utf8Laws.{second-by, decodeAt-in}
-use Rattle.letters.specs.Utf8.{decodeAt}
-use Rattle.base.specs.Pick.{cases}
 use borrow.Author.Needs.{needs}
+use Rattle.letters.proofs.Utf8Laws.{decode-laws}
 use Rattle.letters.proofs.utf8.decode.Statement.{statement}
 use Rattle.letters.proofs.utf8.decode.Tie as tie
 use Rattle.letters.proofs.utf8.decode.Reads as reads
 use Rattle.letters.proofs.utf8.decode.Lts as lts
-use Rattle.letters.proofs.utf8.byte_at.Reads as byte-at-reads
-use Rattle.letters.proofs.utf8.decode_bytes.Reads as decode-bytes-reads
+use Rattle.letters.proofs.utf8.decode_long.Reads as decode-long-reads
 
-byte-at-requires : tie.Need-byte-at-requires
-byte-at-requires c κs = search needs
+shared-slice-read-a : tie.Need-shared-slice-read-a
+shared-slice-read-a c = search (decode-laws, needs)
 
-add-byte-at : tie.Need-add-byte-at
-add-byte-at c = search needs
+cast-t11 : tie.Need-cast-t11
+cast-t11 c = search (decode-laws, needs)
 
-byte-at-requires-2 : tie.Need-byte-at-requires-2
-byte-at-requires-2 c κs = search needs
-
-add-byte-at-2 : tie.Need-add-byte-at-2
-add-byte-at-2 c = search needs
-
-byte-at-requires-3 : tie.Need-byte-at-requires-3
-byte-at-requires-3 c κs = search needs
-
-add-byte-at-3 : tie.Need-add-byte-at-3
-add-byte-at-3 c = search needs
-
-byte-at-requires-4 : tie.Need-byte-at-requires-4
-byte-at-requires-4 c κs = search needs
-
-decode-bytes-requires : tie.Need-decode-bytes-requires
-decode-bytes-requires c κs = search needs
+decode-long-requires : tie.Need-decode-long-requires
+decode-long-requires c κs = search (decode-laws, needs)
 
 returns : tie.Need-returns
-returns c = search decodeAt-in
+returns c = search (decode-laws, needs)
 
 returns-2 : tie.Need-returns-2
-unfolding decodeAt
-returns-2 c = search cases
+returns-2 c = search (decode-laws, needs)
+
+returns-3 : tie.Need-returns-3
+returns-3 c = search (decode-laws, needs)
 
 pub decode-spec : {M : Type 1} → statement M
 decode-spec =
     tie.close
-    (tie.spec
-    byte-at-requires
-    add-byte-at
-    byte-at-requires-2
-    add-byte-at-2
-    byte-at-requires-3
-    add-byte-at-3
-    byte-at-requires-4
-    decode-bytes-requires
-    returns
-    returns-2)
+    (tie.spec shared-slice-read-a cast-t11 decode-long-requires returns returns-2 returns-3)

@@ -9,7 +9,7 @@ use Rattle.letters.proofs.utf8.first_ill.Statement.{statement}
 use Rattle.letters.proofs.utf8.first_ill.Tie as tie
 use Rattle.letters.proofs.utf8.first_ill.Reads as reads
 use Rattle.letters.proofs.utf8.first_ill.Lts as lts
-use Rattle.letters.proofs.utf8.decode.Reads as decode-reads
+use Rattle.letters.proofs.utf8.decode_long.Reads as decode-long-reads
 
 abbrev Inv-loop : tie.InvT-loop
 Inv-loop s p₀ p = Walk Found illIn s p
@@ -20,14 +20,14 @@ abbrev μ-loop : tie.MeasureT-loop
 loop-holds : tie.Need-loop-holds Inv-loop μ-loop
 loop-holds c = search (ill-laws, needs)
 
-decode-requires : tie.Need-decode-requires Inv-loop μ-loop
-decode-requires c κs = search (ill-laws, needs)
+decode-long-requires : tie.Need-decode-long-requires Inv-loop μ-loop
+decode-long-requires c κs = search (ill-laws, needs)
 
 enum-known-len : tie.Need-enum-known-len Inv-loop μ-loop
 enum-known-len c = search (ill-laws, needs)
 
 add-p : tie.Need-add-p Inv-loop μ-loop
-add-p c = omega (arith, step-end _ _ _ _ _ (c .before .before .before .decode .ensures) (c .before .len .given .1))
+add-p c = omega (arith, step-end _ _ _ _ _ (c .before .before .before .decode-long .ensures) (c .before .len .given .1))
 
 loop-less : tie.Need-loop-less Inv-loop μ-loop
 loop-less c = search (ill-laws, needs)
@@ -54,7 +54,7 @@ first-ill-spec =
     Inv-loop
     μ-loop
     loop-holds
-    decode-requires
+    decode-long-requires
     enum-known-len
     add-p
     loop-less

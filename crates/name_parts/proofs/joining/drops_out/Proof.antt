@@ -5,7 +5,7 @@ use Rattle.name_parts.proofs.joining.drops_out.Statement.{statement}
 use Rattle.name_parts.proofs.joining.drops_out.Tie as tie
 use Rattle.name_parts.proofs.joining.drops_out.Reads as reads
 use Rattle.name_parts.proofs.joining.drops_out.Lts as lts
-use Rattle.name_parts.proofs.prefixes.is_prefix.Reads as is-prefix-reads
+use Rattle.prefixes.proofs.is_prefix.Reads as is-prefix-reads
 
 enum-told : tie.Need-enum-told
 enum-told c = search (join-laws, needs)

@@ -6,12 +6,16 @@ use Rattle.pack.proofs.guessing.narrow_all.Reads as reads
 use Rattle.pack.proofs.guessing.narrow_all.Lts as lts
 use Rattle.pack.proofs.guessing.guess_at.Reads as guess-at-reads
 use Rattle.pack.proofs.guessing.narrow.Reads as narrow-reads
+use Rattle.lang.proofs.signature.Reads as signature-reads
 
 abbrev Inv-loop : tie.InvT-loop
-Inv-loop pack start count all name at₀ left₀ mask₀ at left mask = Narrowing pack name start count all at left mask
+Inv-loop pack start count all name at₀ left₀ mask₀ signature at left mask = Narrowing pack name start count all at left mask
 
 abbrev μ-loop : tie.MeasureT-loop
-μ-loop pack start count all name at₀ left₀ mask₀ at left mask = left
+μ-loop pack start count all name at₀ left₀ mask₀ signature at left mask = left
+
+signature-requires : tie.Need-signature-requires Inv-loop μ-loop
+signature-requires c κs = search needs
 
 loop-holds : tie.Need-loop-holds Inv-loop μ-loop
 loop-holds c = search (narrowing-laws, needs)
@@ -58,6 +62,7 @@ narrow-all-spec =
     (tie.spec
     Inv-loop
     μ-loop
+    signature-requires
     loop-holds
     guess-at-requires
     enum-known-accept

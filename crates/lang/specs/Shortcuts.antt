@@ -1,0 +1,34 @@
+-- Tests by which a place of a name, or a whole pattern, is passed over without trying its pieces. `proofs/Shortcuts` shows that
+-- nothing is lost: what they pass over does not match.
+use Prim.Native.Nat.{ℕ, _%_, _^_}
+use mathlib.Core.Bool.{Bool, true, false, not}
+use mathlib.Core.List.{List, [], _∷_}
+use lib.Bits.{bitAnd, bitOr}
+use lib.Dec.{eqb, leb, ltb}
+use lib.ListN.{length, getD}
+use Rattle.base.specs.Pick.{pick, and}
+use Rattle.lang.specs.Patterns.{opening, closing, middle}
+
+-- t begins with a character that is not b, and b is a character by itself (below U+0080)
+unfoldable pub otherwise : List ℕ → ℕ → Bool
+otherwise t b = pick (ltb (length t) 1) false (pick (eqb (getD t 0 0) opening) false (pick (eqb (getD t 0 0) b) false (leb b 0x7F)))
+
+-- of each byte one of 64 bits
+abbrev pub bitOf : ℕ → ℕ
+bitOf b = 2 ^ (b % 64)
+
+unfoldable pub signatureOf : List ℕ → ℕ
+signatureOf [] = 0
+signatureOf (x ∷ l) = bitOr (bitOf x) (signatureOf l)
+
+unfoldable pub hasBit : ℕ → ℕ → Bool
+hasBit bits b = not (eqb (bitAnd bits (bitOf b)) 0)
+
+-- each byte outside the boxes has its bit; within a box none is looked at, up to its `]`
+unfoldable pub mayIn : ℕ → Bool → List ℕ → Bool
+mayIn bits inside [] = true
+mayIn bits inside (x ∷ l) =
+    pick inside (mayIn bits (not (eqb x closing)) l) (pick (eqb x opening) (mayIn bits true l) (and (hasBit bits x) (mayIn bits false l)))
+
+unfoldable pub mayMatch : List ℕ → ℕ → Bool
+mayMatch p bits = mayIn bits false (middle p)

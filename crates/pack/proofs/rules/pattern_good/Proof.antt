@@ -1,0 +1,22 @@
+use borrow.Author.Needs.{needs}
+use Rattle.base.specs.Pick.{cases}
+use Rattle.pack.specs.Walks.{patternGood}
+use Rattle.pack.proofs.rules.pattern_good.Statement.{statement}
+use Rattle.pack.proofs.rules.pattern_good.Tie as tie
+use Rattle.pack.proofs.rules.pattern_good.Reads as reads
+use Rattle.pack.proofs.rules.pattern_good.Lts as lts
+use Rattle.rule.proofs.is_rule_text.Reads as is-rule-text-reads
+
+is-rule-text-requires : tie.Need-is-rule-text-requires
+is-rule-text-requires c κs = search (cases, needs)
+
+returns : tie.Need-returns
+unfolding patternGood
+returns c = search (cases, needs)
+
+returns-2 : tie.Need-returns-2
+unfolding patternGood
+returns-2 c = search (cases, needs)
+
+pub pattern-good-spec : {M : Type 1} → statement M
+pattern-good-spec = tie.close (tie.spec is-rule-text-requires returns returns-2)

@@ -1,0 +1,5 @@
+pub mod Bare
+pub mod CutLaws
+pub mod ExprLaws
+pub mod AltLaws
+pub mod Laws

@@ -1,0 +1,41 @@
+-- What the private functions of the code give, step by step; `proofs/` shows how the expressions' definitions are made of these.
+use Prim.Native.Nat.{ℕ, zero, suc, _+_}
+use mathlib.Core.Bool.{Bool, true}
+use mathlib.Core.List.{List, [], _∷_}
+use lib.ListN.{length, drop}
+use Rattle.base.specs.Pick.{pick, and}
+use Rattle.texts.specs.Parts.{firstIs, lastIs, placeOf}
+use Rattle.phonemes.specs.Expressions.{bar, formedPiece, pieceMask, isListed, textOf, setOf}
+use Rattle.phonemes.specs.declared.answers.Expression.{Expression}
+use Rattle.phonemes.specs.declared.answers.Expression.the-variants.{Good, Malformed, Stranger}
+use Rattle.phonemes.specs.declared.answers.Alternative.{Alternative}
+use Rattle.phonemes.specs.declared.answers.Alternative.the-variants.{At}
+use Rattle.phonemes.specs.declared.phonemes.Part.{Part}
+use Rattle.phonemes.specs.declared.phonemes.Part.the-variants.{From, Past}
+
+-- where the part that starts at a place ends
+unfoldable pub cutEnd : ℕ → List ℕ → ℕ → ℕ
+cutEnd b t from = from + placeOf b (drop from t)
+
+unfoldable pub hasExtra : List ℕ → Bool
+hasExtra t = pick (firstIs bar t) true (lastIs bar t)
+
+unfoldable pub listedPiece : List ℕ → List ℕ → Bool
+listedPiece names a = isListed (pieceMask names a)
+
+unfoldable pub told : ℕ → Bool → Expression
+told n known = pick known (Good n) Stranger
+
+-- the pieces one after the other, n counted before them and all names so far known
+unfoldable pub judged : List ℕ → ℕ → Bool → List (List ℕ) → Expression
+judged names n known [] = told n known
+judged names n known (a ∷ ps) = pick (formedPiece a) (judged names (n + 1) (and known (listedPiece names a)) ps) Malformed
+
+-- the i-th piece, the first of them starting at a place, or how many more were asked for than there are
+unfoldable pub nthCut : ℕ → ℕ → List (List ℕ) → Part
+nthCut from i [] = Past i
+nthCut from zero (a ∷ ps) = From from (from + length a)
+nthCut from (suc i) (a ∷ ps) = nthCut (from + length a + 1) i ps
+
+unfoldable pub pieceFrom : List ℕ → List ℕ → ℕ → Alternative
+pieceFrom names a start = At start (start + length (textOf a)) (setOf names a)

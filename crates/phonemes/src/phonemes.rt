@@ -1,0 +1,259 @@
+// Phoneme expressions: whether one is well formed, and its alternatives.
+ghost use mathlib.Core.Path.{_≡_};
+ghost use mathlib.Core.Bool.{true};
+ghost use mathlib.Core.List.{[], _∷_};
+ghost use Prim.Native.Nat.{_+_, _^_, _≤_, _<_};
+ghost use lib.ListN.{length};
+ghost use Rattle.phonemes.specs.Expressions.{bar, opening, plus, cutAt, inside, formedPiece, boxOf, namesMask, pieceMask, setOf, checkedOf, alternativeOf};
+ghost use Rattle.base.specs.Pick.{and};
+ghost use Rattle.texts.specs.Parts.{placeOf};
+ghost use Rattle.phonemes.specs.Walks.{cutEnd, hasExtra, listedPiece, judged, told, nthCut, pieceFrom};
+use crate::answers::Alternative;
+use crate::answers::Expression;
+use languages::LanguageSet;
+use languages::Listed;
+
+// A part of what is cut at each bar, or how many more parts were asked for than there are.
+enum Part {
+    From { start: usize, end: usize },
+    Past(usize),
+}
+
+// What is between the round brackets.
+fn between(e: &[u8]) -> &[u8]
+    ensures { λ r. ⌜ now r ≡ inside (now (e .entry)) ⌝ }
+{
+    let n = e.len();
+    if n < 2 { &e[0..0] } else { &e[1..n - 1] }
+}
+
+// Where the part that starts at `from` ends: at the next b, or with t.
+fn cut_end(t: &[u8], b: u8, from: usize) -> usize
+    requires { ⌜ from ≤ length (now t) ⌝ }
+    ensures { λ r. ⌜ r ≡ cutEnd b (now (t .entry)) from ⌝ }
+{
+    from + texts::find_byte(&t[from..t.len()], b)
+}
+
+// Whether the first `[` of an alternative is closed at its very end.
+fn piece_formed(a: &[u8]) -> bool
+    ensures { λ r. ⌜ r ≡ formedPiece (now (a .entry)) ⌝ }
+{
+    if texts::find_byte(a, b'[') < a.len() {
+        texts::last_is(a, b']')
+    } else {
+        true
+    }
+}
+
+// What is between the first `[` of an alternative, at p, and its last byte.
+fn names_part(a: &[u8], p: usize) -> &[u8]
+    requires { ⌜ (p ≡ placeOf opening (now a)) × (p < length (now a)) ⌝ }
+    ensures { λ r. ⌜ now r ≡ boxOf (now (a .entry)) ⌝ }
+{
+    let n = a.len();
+    if n <= p + 1 {
+        &a[0..0]
+    } else {
+        &a[p + 1..n - 1]
+    }
+}
+
+// The bits of names joined by `+`, or that one of them is not listed.
+pub fn names_mask(names: &[u8], joined: &[u8]) -> Listed
+    ensures { λ r. ⌜ r ≡ namesMask (now (names .entry)) (cutAt plus (now (joined .entry))) ⌝ }
+{
+    let n = joined.len();
+    let mut from: usize = 0;
+    let mut mask: u32 = 0;
+    loop {
+        let to = cut_end(joined, b'+', from);
+        match languages::find_language(names, &joined[from..to]) {
+            Listed::Bit(b) => {
+                mask = mask | b;
+                if n <= to {
+                    return Listed::Bit(mask);
+                }
+                from = to + 1;
+            }
+            Listed::Unlisted => {
+                return Listed::Unlisted;
+            }
+        }
+    }
+}
+
+// The bits of an alternative's names; none where it has no `[`.
+fn piece_mask(names: &[u8], a: &[u8]) -> Listed
+    ensures { λ r. ⌜ r ≡ pieceMask (now (names .entry)) (now (a .entry)) ⌝ }
+{
+    let p = texts::find_byte(a, b'[');
+    if p < a.len() {
+        names_mask(names, names_part(a, p))
+    } else {
+        Listed::Bit(0)
+    }
+}
+
+fn piece_listed(names: &[u8], a: &[u8]) -> bool
+    ensures { λ r. ⌜ r ≡ listedPiece (now (names .entry)) (now (a .entry)) ⌝ }
+{
+    match piece_mask(names, a) {
+        Listed::Bit(_) => true,
+        Listed::Unlisted => false,
+    }
+}
+
+// The set of an alternative.
+fn piece_set(names: &[u8], a: &[u8]) -> LanguageSet
+    ensures { λ r. ⌜ r ≡ setOf (now (names .entry)) (now (a .entry)) ⌝ }
+{
+    if texts::find_byte(a, b'[') < a.len() {
+        match piece_mask(names, a) {
+            Listed::Bit(m) => LanguageSet::SomeLanguages(m),
+            Listed::Unlisted => LanguageSet::SomeLanguages(0),
+        }
+    } else {
+        LanguageSet::Any
+    }
+}
+
+// Whether one more empty alternative is added at the end.
+fn has_extra(t: &[u8]) -> bool
+    ensures { λ r. ⌜ r ≡ hasExtra (now (t .entry)) ⌝ }
+{
+    if texts::first_is(t, b'|') {
+        true
+    } else {
+        texts::last_is(t, b'|')
+    }
+}
+
+fn told_of(count: usize, known: bool) -> Expression
+    ensures { λ r. ⌜ r ≡ told count known ⌝ }
+{
+    if known {
+        Expression::Good(count)
+    } else {
+        Expression::Stranger
+    }
+}
+
+fn both(a: bool, b: bool) -> bool
+    ensures { λ r. ⌜ r ≡ and a b ⌝ }
+{
+    if a { b } else { false }
+}
+
+// The parts of t between the bars, with `more` alternatives behind them.
+fn judge(names: &[u8], t: &[u8], more: usize) -> Expression
+    requires { ⌜ more ≤ 1 ⌝ }
+    ensures { λ r. ⌜ r ≡ judged (now (names .entry)) more true (cutAt bar (now (t .entry))) ⌝ }
+{
+    let n = t.len();
+    let mut from: usize = 0;
+    let mut count = more;
+    let mut known = true;
+    loop {
+        let to = cut_end(t, b'|', from);
+        if piece_formed(&t[from..to]) {
+            known = both(known, piece_listed(names, &t[from..to]));
+            count += 1;
+            if n <= to {
+                return told_of(count, known);
+            }
+            from = to + 1;
+        } else {
+            return Expression::Malformed;
+        }
+    }
+}
+
+fn check_single(names: &[u8], e: &[u8]) -> Expression
+    ensures { λ r. ⌜ r ≡ judged (now (names .entry)) 0 true (now (e .entry) ∷ []) ⌝ }
+{
+    if piece_formed(e) {
+        told_of(1, piece_listed(names, e))
+    } else {
+        Expression::Malformed
+    }
+}
+
+// Whether e is a well-formed expression whose names are all in `names`, strings behind their length bytes.
+pub fn check_expression(e: &[u8], names: &[u8]) -> Expression
+    ensures { λ r. ⌜ r ≡ checkedOf (now (names .entry)) (now (e .entry)) ⌝ }
+{
+    if texts::first_is(e, b'(') {
+        if texts::last_is(e, b')') {
+            let t = between(e);
+            if has_extra(t) {
+                judge(names, t, 1)
+            } else {
+                judge(names, t, 0)
+            }
+        } else {
+            Expression::Malformed
+        }
+    } else {
+        check_single(names, e)
+    }
+}
+
+// The i-th part of t between its bars.
+fn nth_part(t: &[u8], i: usize) -> Part
+    ensures { λ r. ⌜ r ≡ nthCut 0 i (cutAt bar (now (t .entry))) ⌝ }
+{
+    let n = t.len();
+    let mut from: usize = 0;
+    let mut left = i;
+    loop {
+        let to = cut_end(t, b'|', from);
+        if left == 0 {
+            return Part::From {
+                start: from,
+                end: to,
+            };
+        }
+        left -= 1;
+        if n <= to {
+            return Part::Past(left);
+        }
+        from = to + 1;
+    }
+}
+
+// The alternative whose bytes are a, of an expression in which it starts at `start`.
+fn piece_from(names: &[u8], a: &[u8], start: usize) -> Alternative
+    requires { ⌜ start + length (now a) < 2 ^ 64 ⌝ }
+    ensures { λ r. ⌜ r ≡ pieceFrom (now (names .entry)) (now (a .entry)) start ⌝ }
+{
+    Alternative::At {
+        start,
+        end: start + texts::find_byte(a, b'['),
+        set: piece_set(names, a),
+    }
+}
+
+// The alternative of number i, counted from 0.
+pub fn alternative(e: &[u8], names: &[u8], i: usize) -> Alternative
+    ensures { λ r. ⌜ r ≡ alternativeOf (now (names .entry)) (now (e .entry)) i ⌝ }
+{
+    if texts::first_is(e, b'(') {
+        let t = between(e);
+        match nth_part(t, i) {
+            Part::From { start, end } => piece_from(names, &t[start..end], start + 1),
+            Part::Past(left) => {
+                if left == 0 {
+                    if has_extra(t) {
+                        return piece_from(names, &t[0..0], t.len() + 2);
+                    }
+                }
+                Alternative::Nothing
+            }
+        }
+    } else if i == 0 {
+        piece_from(names, e, 0)
+    } else {
+        Alternative::Nothing
+    }
+}

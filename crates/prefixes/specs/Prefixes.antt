@@ -1,0 +1,51 @@
+-- Prefixes (01, Spelling a name, step 3, and "Prefixes").
+use Prim.Native.Nat.{ℕ, suc}
+use mathlib.Core.Bool.{Bool, true, false}
+use mathlib.Core.List.{List, [], _∷_}
+use lib.ListN.{length, drop}
+use Rattle.base.specs.Pick.{pick, and}
+use Rattle.letters.specs.Order.{sameText}
+use Rattle.texts.specs.Parts.{prefixOf, firstIs}
+use Rattle.prefixes.specs.declared.prefixes.NameType.{NameType}
+use Rattle.prefixes.specs.declared.prefixes.NameType.the-variants.{Ashkenazi, Generic, Sephardic}
+use Rattle.prefixes.specs.declared.prefixes.Prefix.{Prefix}
+use Rattle.prefixes.specs.declared.prefixes.Prefix.the-variants.{Parted, Whole}
+
+-- bar ben da de van von
+abbrev pub ashkenazi : List (List ℕ)
+ashkenazi = (98 ∷ 97 ∷ 114 ∷ []) ∷ (98 ∷ 101 ∷ 110 ∷ []) ∷ (100 ∷ 97 ∷ []) ∷ (100 ∷ 101 ∷ []) ∷ (118 ∷ 97 ∷ 110 ∷ []) ∷ (118 ∷ 111 ∷ 110 ∷ []) ∷ []
+
+-- da dal de `de la` del dela della des di do dos du van von
+abbrev pub generic : List (List ℕ)
+generic = (100 ∷ 97 ∷ []) ∷ (100 ∷ 97 ∷ 108 ∷ []) ∷ (100 ∷ 101 ∷ []) ∷ (100 ∷ 101 ∷ 32 ∷ 108 ∷ 97 ∷ []) ∷ (100 ∷ 101 ∷ 108 ∷ []) ∷ (100 ∷ 101 ∷ 108 ∷ 97 ∷ []) ∷ (100 ∷ 101 ∷ 108 ∷ 108 ∷ 97 ∷ []) ∷ (100 ∷ 101 ∷ 115 ∷ []) ∷ (100 ∷ 105 ∷ []) ∷ (100 ∷ 111 ∷ []) ∷ (100 ∷ 111 ∷ 115 ∷ []) ∷ (100 ∷ 117 ∷ []) ∷ (118 ∷ 97 ∷ 110 ∷ []) ∷ (118 ∷ 111 ∷ 110 ∷ []) ∷ []
+
+-- al el and Generic's
+abbrev pub sephardic : List (List ℕ)
+sephardic = (97 ∷ 108 ∷ []) ∷ (101 ∷ 108 ∷ []) ∷ generic
+
+-- in the order in which they are tried
+unfoldable pub prefixesOf : NameType → List (List ℕ)
+prefixesOf Ashkenazi = ashkenazi
+prefixesOf Generic = generic
+prefixesOf Sephardic = sephardic
+
+-- s starts with p and a space
+unfoldable pub fits : List ℕ → List ℕ → Bool
+fits p s = and (prefixOf p s) (firstIs 32 (drop (length p) s))
+
+-- the first that fits: its bytes are kept, and the space behind it is passed too
+unfoldable pub firstFit : List (List ℕ) → List ℕ → Prefix
+firstFit [] s = Whole
+firstFit (p ∷ ps) s = pick (fits p s) (Parted (length p) (suc (length p))) (firstFit ps s)
+
+-- "if it starts with `d'`, or else with a prefix and a space (prefixes in the order below)"
+unfoldable pub splitOf : List ℕ → Prefix
+splitOf s = pick (prefixOf (100 ∷ 39 ∷ []) s) (Parted 1 2) (firstFit (prefixesOf Generic) s)
+
+unfoldable pub among : List (List ℕ) → List ℕ → Bool
+among [] w = false
+among (p ∷ ps) w = pick (sameText p w) true (among ps w)
+
+-- "words that equal a prefix"
+unfoldable pub isPrefix : NameType → List ℕ → Bool
+isPrefix kind w = among (prefixesOf kind) w

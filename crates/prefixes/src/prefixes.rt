@@ -1,0 +1,99 @@
+// Prefixes of names (01, Spelling a name): small tables of bytes, walked in the stated order.
+ghost use mathlib.Core.Path.{_≡_};
+ghost use Rattle.prefixes.specs.Prefixes.{fits, firstFit, among, prefixesOf, splitOf, isPrefix};
+ghost use Rattle.languages.specs.Names.{stringsOf};
+use languages::Next;
+
+pub enum NameType {
+    Ashkenazi,
+    Generic,
+    Sephardic,
+}
+
+// Where a name is parted: the prefix's bytes are kept, and the bytes up to the remainder passed.
+pub enum Prefix {
+    Parted { keep: usize, skip: usize },
+    Whole,
+}
+
+// Each prefix behind its length byte.
+const ASHKENAZI: [u8; 22] = *b"\x03bar\x03ben\x02da\x02de\x03van\x03von";
+
+const GENERIC: [u8; 56] =
+    *b"\x02da\x03dal\x02de\x05de la\x03del\x04dela\x05della\x03des\x02di\x02do\x03dos\x02du\x03van\x03von";
+
+const SEPHARDIC: [u8; 62] =
+    *b"\x02al\x02el\x02da\x03dal\x02de\x05de la\x03del\x04dela\x05della\x03des\x02di\x02do\x03dos\x02du\x03van\x03von";
+
+// Whether s starts with p and a space.
+fn fits_with_space(s: &[u8], p: &[u8]) -> bool
+    ensures { λ r. ⌜ r ≡ fits (now (p .entry)) (now (s .entry)) ⌝ }
+{
+    if texts::starts_with(s, p) {
+        let n = p.len();
+        if n < s.len() { s[n] == b' ' } else { false }
+    } else {
+        false
+    }
+}
+
+// The first prefix of the table that stands before a space at the front of s.
+fn first_fit(t: &[u8], s: &[u8]) -> Prefix
+    ensures { λ r. ⌜ r ≡ firstFit (stringsOf (now (t .entry))) (now (s .entry)) ⌝ }
+{
+    let mut at: usize = 0;
+    loop {
+        match languages::string_at(t, at) {
+            Next::Whole { start, end } => {
+                if fits_with_space(s, &t[start..end]) {
+                    // The space behind the prefix is passed in place of the length byte before it.
+                    return Prefix::Parted {
+                        keep: end - start,
+                        skip: end - at,
+                    };
+                }
+                at = end;
+            }
+            Next::Cut => return Prefix::Whole,
+        }
+    }
+}
+
+// Whether w is a prefix of the table.
+fn is_among(t: &[u8], w: &[u8]) -> bool
+    ensures { λ r. ⌜ r ≡ among (stringsOf (now (t .entry))) (now (w .entry)) ⌝ }
+{
+    let mut at: usize = 0;
+    loop {
+        match languages::string_at(t, at) {
+            Next::Whole { start, end } => {
+                if letters::same(&t[start..end], w) {
+                    return true;
+                }
+                at = end;
+            }
+            Next::Cut => return false,
+        }
+    }
+}
+
+// Where a Generic name is parted: `d'`, or else a prefix and a space.
+pub fn prefix_of(s: &[u8]) -> Prefix
+    ensures { λ r. ⌜ r ≡ splitOf (now (s .entry)) ⌝ }
+{
+    if texts::starts_with(s, b"d'") {
+        return Prefix::Parted { keep: 1, skip: 2 };
+    }
+    first_fit(&GENERIC, s)
+}
+
+// Whether a word is one of the type's prefixes.
+pub fn is_prefix(kind: NameType, w: &[u8]) -> bool
+    ensures { λ r. ⌜ r ≡ isPrefix kind (now (w .entry)) ⌝ }
+{
+    match kind {
+        NameType::Ashkenazi => is_among(&ASHKENAZI, w),
+        NameType::Generic => is_among(&GENERIC, w),
+        NameType::Sephardic => is_among(&SEPHARDIC, w),
+    }
+}

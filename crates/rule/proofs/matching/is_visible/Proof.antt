@@ -1,0 +1,22 @@
+use borrow.Author.Needs.{needs}
+use Rattle.rule.specs.Matching.{visible}
+use Rattle.base.specs.Pick.{cases}
+use Rattle.rule.proofs.matching.is_visible.Statement.{statement}
+use Rattle.rule.proofs.matching.is_visible.Tie as tie
+use Rattle.rule.proofs.matching.is_visible.Reads as reads
+use Rattle.rule.proofs.matching.is_visible.Lts as lts
+
+returns : tie.Need-returns
+unfolding visible
+returns c = search (cases, needs)
+
+returns-2 : tie.Need-returns-2
+unfolding visible
+returns-2 c = search (cases, needs)
+
+returns-3 : tie.Need-returns-3
+unfolding visible
+returns-3 c = search (cases, needs)
+
+pub is-visible-spec : {M : Type 1} → statement M
+is-visible-spec = tie.close (tie.spec returns returns-2 returns-3)
