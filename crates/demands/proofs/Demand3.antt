@@ -12,7 +12,7 @@ use Rattle.choices.specs.Texts.{Text}
 use Rattle.choices.specs.Apply.{Places, Entry, Outcome, refused, held, andThen, apply, pass, flagAfter, flag, start, mainPass, mainFlag}
 use Rattle.choices.proofs.Demand3.{demand-3}
 use Rattle.choices.proofs.Limits.{flag-fewer, fewer-flag}
-use Rattle.phoneme_builder.specs.Passes.{Turn, rule, letter, turnsOf, Ran, tooLong, ran, flagged, applied, after, unmatched, run}
+use Rattle.phoneme_builder.specs.Passes.{Turn, rule, letter, firstMatch, turnsOf, Ran, tooLong, ran, flagged, applied, after, unmatched, run}
 use Rattle.demands.specs.Demands.{placesOf, rulesOf, Demand3OfWord}
 
 -- what a pass and its flag are as a run
@@ -65,6 +65,6 @@ of-turns limit g turns l up e =
 -- for any accepted pack, any of its lists as main rules, any word, start languages and limit, where nothing is refused
 pub demand-3-of-a-word : (s : List ℕ) (p : Pack) → packOf s ≡ accepted p
     → (k : ℕ) (names : List ℕ) (word : Text) (g : LanguageSet) (limit : ℕ) (l : List Entry) (flag : Bool)
-    → run false limit (turnsOf names (rulesOf p k) word) (start g) ≡ ran l flag
-    → Demand3OfWord limit g (placesOf (turnsOf names (rulesOf p k) word)) l flag
-demand-3-of-a-word s p good k names word g limit l flag e = of-turns limit g (turnsOf names (rulesOf p k) word) l flag e
+    → run false limit (turnsOf names (firstMatch (rulesOf p k)) word) (start g) ≡ ran l flag
+    → Demand3OfWord limit g (placesOf (turnsOf names (firstMatch (rulesOf p k)) word)) l flag
+demand-3-of-a-word s p good k names word g limit l flag e = of-turns limit g (turnsOf names (firstMatch (rulesOf p k)) word) l flag e

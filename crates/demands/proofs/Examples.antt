@@ -13,7 +13,7 @@ use Rattle.languages.specs.Names.{isLetter, allLetters, languageName, strings, 
 use Rattle.languages.specs.declared.sets.LanguageSet.{LanguageSet}
 use Rattle.languages.specs.declared.sets.LanguageSet.the-variants.{Any, SomeLanguages}
 use Rattle.regex_optim.specs.Contexts.{literalForm, withoutCaret, withoutDollar, formIn, formOf, leftForm, rightForm, kindOf, fits}
-use Rattle.rule.specs.Expressions.{onFirst, cutAt, inside, extra, piecesIn, allOf, formedPiece, formed, boxOf, withBits, namesMask, pieceMask, isListed, textOf, maskSet, setOf, checkedOf}
+use Rattle.phonemes.specs.Expressions.{onFirst, cutAt, inside, extra, piecesIn, allOf, formedPiece, formed, boxOf, withBits, namesMask, pieceMask, isListed, textOf, maskSet, setOf, checkedOf}
 use Rattle.rule.specs.Matching.{plainCode, plainIn, ruleText, codeIn, firstCode, ruleMatches}
 use Rattle.pack.specs.Reading.{andThen, readByte, readMore, readNumber, readText, readMany}
 use Rattle.pack.specs.Packs.{Rule, Pack, rule, readNames, readGuesses, readRule, readList, all, isLess, increasing, holds, namesGood, guessesGood, isForm, isGood, ruleGood, ordered, listGood, accepted, section, placeIn, namesIn, listCount, listSections, isNil, endSection, packOf}
@@ -99,10 +99,10 @@ entry t g = record { text = t; langs = g }
 
 -- the places of a word and its main pass
 abbrev placesIn : Text → Places
-placesIn word = placesOf (turnsOf names (rulesOf pack 0) word)
+placesIn word = placesOf (turnsOf names (firstMatch (rulesOf pack 0)) word)
 
 abbrev ranOn : ℕ → Text → Ran
-ranOn limit word = run false limit (turnsOf names (rulesOf pack 0) word) (start Any)
+ranOn limit word = run false limit (turnsOf names (firstMatch (rulesOf pack 0)) word) (start Any)
 
 told : (limit : ℕ) (word : Text) (l : List Entry) (flag : Bool) → ranOn limit word ≡ ran l flag → Demand3OfWord limit Any (placesIn word) l flag
 told limit word = demand-3-of-a-word bytes pack good-pack 0 names word Any limit

@@ -5,22 +5,22 @@ use mathlib.Core.List.{List, [], _∷_, map}
 use Prim.Native.Nat.{ℕ, zero, suc, _-_, _*_, _≤_, _<_, min}
 use native.Mathlib.Nat.{zero-add}
 use native.Mathlib.Omega.{arith}
-use lib.Dec.{eqb, leb}
-use lib.ListN.{length, take, drop, length-take, length-map}
+use lib.Dec.{eqb, leb, ltb}
+use lib.ListN.{length, getD, take, drop, replicate, length-take, length-map, length-replicate, getD-replicate, List·getD-eq-default}
 use lib.Seq.{sets, take-at, sets-eq, length-sets}
-use borrow.Author.Tests.{eq-eqb, ne-eqb, le-leb, lt-leb, leb-true, leb-false}
+use borrow.Author.Tests.{eq-eqb, ne-eqb, le-leb, lt-leb, leb-true, leb-false, ltb-true, ltb-false}
 use Rattle.base.specs.Pick.{pick, pick-yes, pick-no, pick-true, pick-false, pick-all, and-inv}
 use Rattle.base.proofs.One.{one}
-use Rattle.letters.specs.Lower.{lowerText, loweredAnswer, loweredBuffer, LoweredInto}
-use Rattle.letters.specs.declared.lower_case.Lowered.{Lowered}
-use Rattle.letters.specs.declared.lower_case.Lowered.the-variants as lowered
-use Rattle.letters.proofs.LowerLaws.{lower-text-length}
-use Rattle.name_parts.specs.Writing.{cap}
+use Rattle.lower_case.specs.Lower.{lowerText, loweredAnswer, loweredBuffer, LoweredInto}
+use Rattle.lower_case.specs.declared.lower_case.Lowered.{Lowered}
+use Rattle.lower_case.specs.declared.lower_case.Lowered.the-variants as lowered
+use Rattle.lower_case.proofs.LowerLaws.{lower-text-length}
+use Rattle.name_parts.specs.Writing.{cap, Put}
 use Rattle.name_parts.specs.Words.{oneWord}
 use Rattle.name_parts.specs.Joining.{spaced}
-use Rattle.name_parts.specs.declared.prefixes.NameType.{NameType}
-use Rattle.name_parts.specs.declared.prefixes.Prefix.{Prefix}
-use Rattle.name_parts.specs.declared.prefixes.Prefix.the-variants.{Parted, Whole}
+use Rattle.prefixes.specs.declared.prefixes.NameType.{NameType}
+use Rattle.prefixes.specs.declared.prefixes.Prefix.{Prefix}
+use Rattle.prefixes.specs.declared.prefixes.Prefix.the-variants.{Parted, Whole}
 use Rattle.name_parts.proofs.Laws.{clash, slice-room}
 use Rattle.pack.specs.Packs.{refused, packOf}
 use Rattle.pack.specs.Guessing.{guessed, guessedAt}
@@ -28,7 +28,7 @@ use Rattle.pack.proofs.Laws.{languages-few, guess-told, guess-below}
 use Rattle.choices.specs.Texts.{Text}
 use Rattle.engine.specs.Spelling.{Spelt, bad, good, onePart, partedAs, spelledName}
 use Rattle.engine.specs.Calls.{settingsKnown, kindKnown, haveLanguages, stepsBy, stepsOf, spelledBy, Outcome, refusedBy, key, outcomeOf, onPack, checkedThen, callOf, toldOf, filledBy, SpellIs}
-use Rattle.engine.specs.Walks.{packIn, AtDesk, DeskIs, Ready, Scratch, callFor, FoundIs, FineName, stepsAt, startAt, codeOf, ToldBy, Told, wholeBy, ToldWhole, answeredBy, wholeAnd, MeasuredBy, Measured}
+use Rattle.engine.specs.Walks.{packIn, Blank, AtDesk, DeskIs, Ready, Scratch, callFor, FoundIs, FineName, stepsAt, startAt, codeOf, ToldBy, Told, wholeBy, ToldWhole, answeredBy, wholeAnd}
 use Rattle.engine.specs.declared.call.Call.{Call}
 use Rattle.engine.specs.declared.encode.Ends.{Ends}
 use Rattle.engine.specs.declared.spelling.Spelled.{Spelled}
@@ -61,17 +61,9 @@ single-inv Whole u e = (refl, e)
 
 -- ---- how long it is, and whether it fits
 
-measured-by : (x : Spelt) {o o′ : List ℕ} {r : Ends} → Told x o o′ 0 r → Measured x r
-unfolding codeOf ToldBy MeasuredBy
-measured-by (bad k) q = record { code = q .code; is = q .is }
-measured-by (good t f) q = record { code = q .code; is = (rw (zero-add (length t)) at (q .is .0 .ends), q .is .1) }
-
-pub measured : {x : Spelt} {o o′ : List ℕ} {r : Ends} → Told x o o′ 0 r → Measured x r
-measured {x} q = measured-by x q
-
-module _ {a : Ends} {room : ℕ} (h : room < cap) where
-  answered-by : (x : Spelt) → Measured x a → answeredBy a room ≡ toldOf (outcomeOf x) room
-  unfolding codeOf MeasuredBy answeredBy outcomeOf toldOf
+module _ {a : Ends} {room : ℕ} {o o′ : List ℕ} (h : room < cap) where
+  answered-by : (x : Spelt) → Told x o o′ 0 a → answeredBy a room ≡ toldOf (outcomeOf x) room
+  unfolding codeOf ToldBy answeredBy outcomeOf toldOf
   answered-by (bad k) q =
       pick-false _ _ _ (ne-eqb _ _ (λ (z : a .code ≡ 0). let no-way : ⊥ = omega (arith, q .code, q .is, z) in absurd no-way)) ∙ ap (λ (c : ℕ). Refused c 0) (q .code)
   answered-by (good t f) q = pick-true _ _ _ (eq-eqb _ _ (q .code)) ∙ fits-by _ refl
@@ -80,18 +72,19 @@ module _ {a : Ends} {room : ℕ} (h : room < cap) where
           → pick (leb (a .at) room) (Done (a .at) (a .flag)) (Refused 9 (min (a .at) 4294967295)) ≡ pick (leb (length t) room) (Done (length t) f) (Refused 9 (min (length t) 4294967295))
       fits-by true e =
           let k : a .at ≤ room = leb-true _ _ e in
-          let same : a .at ≡ length t = omega (arith, q .is .0) in
+          let same : a .at ≡ length t = omega (arith, q .is .0 .ends) in
           pick-true _ _ _ e ∙ ap₂ Done same (q .is .1) ∙ sym (pick-true _ _ _ (le-leb (length t) room (omega arith)))
       fits-by false e =
           let k : room < a .at = leb-false _ _ e in
-          let same : min (a .at) 4294967295 ≡ min (length t) 4294967295 = omega (arith, q .is .0) in
-          pick-false _ _ _ e ∙ ap (Refused 9) same ∙ sym (pick-false _ _ _ (lt-leb (length t) room (omega (arith, q .is .0))))
+          let same : min (a .at) 4294967295 ≡ min (length t) 4294967295 = omega (arith, q .is .0 .ends) in
+          pick-false _ _ _ e ∙ ap (Refused 9) same ∙ sym (pick-false _ _ _ (lt-leb (length t) room (omega (arith, q .is .0 .ends))))
 
 -- ---- what is written
 
-done-by : (t : Text) (f : Bool) (room w : ℕ) (flag b : Bool) → leb (length t) room ≡ b → pick b (Done (length t) f) (Refused 9 (min (length t) 4294967295)) ≡ Done w flag → length t ≤ room
+done-by : (t : Text) (f : Bool) (room w : ℕ) (flag b : Bool) → leb (length t) room ≡ b → pick b (Done (length t) f) (Refused 9 (min (length t) 4294967295)) ≡ Done w flag
+    → (length t ≤ room) × (length t ≡ w)
 unfolding pick
-done-by t f room w flag true e q = leb-true _ _ e
+done-by t f room w flag true e q = (leb-true _ _ e, cc)
 done-by t f room w flag false e q = clash (cc)
 
 refused-by : (t : Text) (f : Bool) (room c p : ℕ) (b : Bool) → leb (length t) room ≡ b → pick b (Done (length t) f) (Refused 9 (min (length t) 4294967295)) ≡ Refused c p → leb (length t) room ≡ false
@@ -103,8 +96,20 @@ filled-done : (x : Spelt) {o o′ : List ℕ} {w : ℕ} {flag : Bool} {r : Ends}
 unfolding outcomeOf toldOf filledBy ToldBy
 filled-done (bad k) e q = clash (cc)
 filled-done (good t f) {o = o} e q =
-    let k = done-by t f (length o) _ _ _ refl e in
+    let k = done-by t f (length o) _ _ _ refl e .0 in
     pick-yes _ _ _ _ (le-leb _ _ k) (q .is .0 .wrote (omega arith))
+
+-- what was held apart, whole, and is copied
+filled-copy : (x : Spelt) {o o′ u u′ : List ℕ} {w p : ℕ} {flag : Bool} {r : Ends} → toldOf (outcomeOf x) (length o) ≡ Done w flag → Told x u u′ 0 r → w ≤ length u
+    → Put o o′ 0 p (take (w - 0) (drop 0 u′)) → o′ ≡ filledBy (outcomeOf x) o
+unfolding outcomeOf toldOf filledBy ToldBy
+filled-copy (bad k) e q h z = clash (cc)
+filled-copy (good t f) {o = o} {u = u} {u′ = u′} {w = w} e q h z =
+    let k = done-by t f (length o) w _ _ refl e in
+    let n : w - 0 ≡ length t = omega (arith, k .1) in
+    let whole : take (w - 0) u′ ≡ t =
+    ap₂ take n (q .is .0 .wrote (omega (arith, k .1))) ∙ rw (sets-eq t u 0 (omega (arith, k .1))) (take-at t _ (length t) refl) in
+    pick-yes _ _ _ _ (le-leb _ _ (k .0)) (z .wrote ∙ ap (sets o 0) whole)
 
 filled-refused : (x : Outcome) {o : List ℕ} {c p : ℕ} → toldOf x (length o) ≡ Refused c p → o ≡ filledBy x o
 unfolding toldOf filledBy
@@ -121,12 +126,17 @@ unfolding wholeBy
 whole-long (bad k) o = refl
 whole-long (good t f) o = pick-all (λ (l : List ℕ). length l ≡ length o) _ _ _ (length-sets o 0 t) refl
 
-module _ {x : Spelt} {a : Ends} {ans : Spelled} (o : List ℕ) (h : length o * 1 < cap) (m : Measured x a) (e : ans ≡ answeredBy a (length o)) where
+-- a name spelled apart, into u, and what is said of it
+module _ {x : Spelt} {u u′ : List ℕ} {a : Ends} {ans : Spelled} (o : List ℕ) (h : length o * 1 < cap) (m : Told x u u′ 0 a) (e : ans ≡ answeredBy a (length o)) where
   told-ans : ans ≡ toldOf (outcomeOf x) (length o)
   told-ans = e ∙ answered-by (slice-room o h) x m
 
-  pub parts-done : {o′ : List ℕ} {w : ℕ} {flag : Bool} {r : Ends} → ans ≡ Done w flag → Told x o o′ 0 r → SpellIs (outcomeOf x) o (Done w flag) o′
-  parts-done q t = record { result = sym q ∙ told-ans; buffer = filled-done x (sym told-ans ∙ q) t }
+  module _ {w : ℕ} {flag : Bool} (q : ans ≡ Done w flag) {o′ : List ℕ} where
+    pub parts-copied : {n p : ℕ} → length u ≡ n → w ≤ n → Put o o′ 0 p (take (w - 0) (drop 0 u′)) → SpellIs (outcomeOf x) o (Done w flag) o′
+    parts-copied k l z = record { result = sym q ∙ told-ans; buffer = filled-copy x (sym told-ans ∙ q) m (omega arith) z }
+
+    pub parts-again : {r : Ends} → Told x o o′ 0 r → SpellIs (outcomeOf x) o (Done w flag) o′
+    parts-again t = record { result = sym q ∙ told-ans; buffer = filled-done x (sym told-ans ∙ q) t }
 
   pub parts-refused : {c p : ℕ} → ans ≡ Refused c p → SpellIs (outcomeOf x) o (Refused c p) o
   parts-refused q = record { result = sym q ∙ told-ans; buffer = filled-refused (outcomeOf x) (sym told-ans ∙ q) }
@@ -146,7 +156,7 @@ module _ (s : List ℕ) (call : Call) (name : Text) (t : Bool) (et : t ≡ whole
       let here : spelledName (stepsAt s call) (startAt s call name) name ≡ onePart (stepsAt s call) (startAt s call name) name = plain-here (whole .0) (whole .1) in
       let same : length o′ ≡ length o = ap length (w .whole) ∙ whole-long _ o in
       rw here (record {
-        result = e ∙ ap (answeredBy _) same ∙ answered-by (slice-room o h) _ (measured (w .told));
+        result = e ∙ ap (answeredBy _) same ∙ answered-by (slice-room o h) _ (w .told);
         buffer = w .whole ∙ whole-filled _ o;
       })
 
@@ -286,3 +296,10 @@ spell-one a b = (one (a .result) (b .result), one (a .buffer) (b .buffer))
 
 pub scratch-new : Scratch 131584 1028 1028 1024
 scratch-new = record { store-is = refl; lens-is = refl; langs-is = refl; ord-is = refl }
+
+pub blank-new : (n : ℕ) → n ≡ 12642 → Blank (replicate n 0)
+blank-new n e = record { long = length-replicate n 0 ∙ e; clear = λ j. zero-by j _ refl }
+  where
+    zero-by : (j : ℕ) (b : Bool) → ltb j n ≡ b → _≡_ {A = ℕ} (getD (replicate n 0) j 0) 0
+    zero-by j true h = getD-replicate n j 0 0 (ltb-true _ _ h)
+    zero-by j false h = let k : n ≤ j = ltb-false _ _ h in List·getD-eq-default (replicate n 0) 0 (omega (arith, length-replicate {A = ℕ} n 0))

@@ -2,7 +2,7 @@
 -- Assumes nothing.
 use mathlib.Core.Path.{_≡_, refl, sym, ap, ap₂, _∙_}
 use mathlib.Core.Bool.{Bool, true, false, false≢true}
-use mathlib.Core.List.{List, [], _∷_}
+use mathlib.Core.List.{List, [], _∷_, _++_}
 use Prim.Native.Nat.{ℕ, zero, suc, _+_, _-_, _*_, _%_, _^_, _≤_, _<_, zero-le, suc-le-suc, min}
 use native.Mathlib.Nat.{le-antisymm, lt-of-lt-of-le, lt-of-not-le, not-le-of-lt, le-of-suc-le-suc}
 use native.Mathlib.Omega.{arith}
@@ -10,7 +10,9 @@ use lib.Count.{trailingZeros, trailing-le}
 use lib.Pow.{pow-lt, pow-mono, shl-exact}
 use lib.Dec.{eqb, ltb}
 use lib.ListN.{length, getD, take, drop, List·getD-append}
-use lib.Seq.{sets, sets-eq, length-sets}
+use lib.Seq.{sets, sets-eq, length-sets, getD-append-add, getD-drop}
+use mir.Syntax.{w64}
+use mir.Val.{Fits}
 use borrow.Author.Tests.{lt-ltb, le-ltb, leb-true, ltb-true, ltb-false}
 use Rattle.base.specs.Pick.{pick, pick-true, pick-false, and-inv, cases}
 use Rattle.base.proofs.Bits.{single-is, ones-pow}
@@ -32,7 +34,7 @@ use Rattle.pack.proofs.Laws.{is-pack, languages-few, guesses-within, names-stri
 use Rattle.choices.specs.Texts.{Text}
 use Rattle.choices.proofs.TextLaws.{clash}
 use Rattle.engine.specs.Calls.{kindKnown, settingsKnown, haveLanguages, startSet, Outcome, refusedBy, key, unless, onPack, lettersThen, checkedThen, callOf}
-use Rattle.engine.specs.Walks.{packBy, packIn, DeskIs, foundBy, FoundIs}
+use Rattle.engine.specs.Walks.{packBy, packIn, ByTable, Blank, Placed, DeskIs, foundBy, FoundIs}
 use Rattle.engine.specs.declared.call.Settings.{Settings}
 use Rattle.engine.specs.declared.call.Start.{Start}
 use Rattle.engine.specs.declared.call.Start.the-variants.{Guessed, Given}
@@ -133,8 +135,17 @@ pack-in : (s : List ℕ) (p : Pack) → packOf s ≡ accepted p → packIn s ≡
 unfolding packIn packBy
 pack-in s p e = ap packBy e
 
-front-held : (t vs : List ℕ) (k : ℕ) → length vs ≤ length t → k < length vs → getD (sets t 0 vs) k 0 ≡ getD vs k 0
-front-held t vs k h l = ap (λ (x : List ℕ). getD x k 0) (sets-eq vs t 0 (omega arith)) ∙ List·getD-append vs _ 0 k l
+module _ (t vs : List ℕ) (h : length vs ≤ length t) (k : ℕ) where
+  front-is : getD (sets t 0 vs) k 0 ≡ getD (vs ++ drop (0 + length vs) t) k 0
+  front-is = ap (λ (x : List ℕ). getD x k 0) (sets-eq vs t 0 (omega arith))
+
+  front-held : k < length vs → getD (sets t 0 vs) k 0 ≡ getD vs k 0
+  front-held l = front-is ∙ List·getD-append vs _ 0 k l
+
+  front-past : length vs ≤ k → ((j : ℕ) → getD t j 0 ≡ 0) → getD (sets t 0 vs) k 0 ≡ 0
+  front-past l z =
+      let e : k ≡ length vs + (k - length vs) = omega arith in
+      front-is ∙ ap (λ (j : ℕ). getD (vs ++ drop (0 + length vs) t) j 0) e ∙ getD-append-add vs _ (k - length vs) 0 ∙ getD-drop (0 + length vs) t (k - length vs) 0 ∙ z _
 
 shut-by : (s t : List ℕ) (place : ℕ) (v : Verdict) → packOf s ≡ v → surveyedOf v ≡ surveyed.Refused place → DeskIs s t (Shut place)
 unfolding surveyedOf DeskIs
@@ -165,26 +176,51 @@ module _ (s t t′ : List ℕ) (r : Surveyed) (w : SurveyIs s t r t′) where
     pub any-there : namePlace any (stringsOf (take (g - 1) (drop 1 s))) < min 32 (length (stringsOf (take (g - 1) (drop 1 s))))
     any-there = rw strings (omega (arith, few, found .languages, any-held s (found .pack) (found .is)))
 
-    pub desk-open : (other : ℕ) → length t ≡ 98 → other ≡ namePlace any (stringsOf (take (g - 1) (drop 1 s))) → DeskIs s t′ (Open n g other)
-    unfolding DeskIs listCount
-    desk-open other h o =
-        let p = found .pack in
-        let same : p ≡ packIn s = sym (pack-in s p (found .is)) in
-        let is-any : other ≡ namePlace any (p .names) = o ∙ ap (namePlace any) strings in
-        let size : length t′ ≡ 98 = ap length (w .buffer) ∙ length-sets t 0 (placesOf s) ∙ h in
-        let places : length (placesOf s) ≡ 3 * n + 2 =
-        places-counted s p g (found .is) (found .guesses) ∙ ap listCount (sym (found .languages)) in
+    same : found .pack ≡ packIn s
+    same = sym (pack-in s (found .pack) (found .is))
+
+    languages : n ≡ length (packIn s .names)
+    languages = found .languages ∙ ap (λ (x : Pack). length (x .names)) same
+
+    places-many : length (placesOf s) ≡ 3 * n + 2
+    unfolding listCount
+    places-many = places-counted s (found .pack) g (found .is) (found .guesses) ∙ ap listCount (sym (found .languages))
+
+    pub lists-many : 3 * n + 2 ≡ listCount (length (packIn s .names))
+    unfolding listCount
+    lists-many = ap listCount languages
+
+    pub thrice-fits : Fits w64 (3 * n)
+    thrice-fits = record { fits = omega (arith, few) }
+
+    pub lists-fit : Fits w64 (3 * n + 2)
+    lists-fit = record { fits = omega (arith, few) }
+
+    -- the table with the lists' places, and nothing else
+    pub desk-placed : Blank t → Placed s t′ 0
+    desk-placed h =
+        let room : length (placesOf s) ≤ length t = omega (arith, h .long, places-many, few) in
         record {
           is = found .is ∙ ap accepted same;
-          languages-are = found .languages ∙ ap (λ (x : Pack). length (x .names)) same;
-          guesses-are = found .guesses ∙ ap (λ (x : Pack). 1 + textBytes (x .names)) same;
-          any-is = is-any ∙ ap (λ (x : Pack). namePlace any (x .names)) same;
-          any-below = omega (arith, is-any, found .languages, any-held s p (found .is));
-          room = omega (arith, size, few);
-          places-are = λ k l. ap (λ (x : List ℕ). getD x k 0) (w .buffer) ∙ front-held t (placesOf s) k (omega (arith, h, places, few)) (omega (arith, places));
+          long = ap length (w .buffer) ∙ length-sets t 0 (placesOf s) ∙ h .long;
+          places = λ k l. ap (λ (x : List ℕ). getD x k 0) (w .buffer) ∙ front-held t (placesOf s) room k (omega (arith, places-many, lists-many));
+          clear = λ k l. ap (λ (x : List ℕ). getD x k 0) (w .buffer) ∙ front-past t (placesOf s) room k (omega (arith, places-many, few)) (h .clear);
         }
 
-pub ruleset desk-laws = (desk-shut, names-start, names-end, any-there, desk-open)
+    pub desk-open : (other : ℕ) (t₂ : List ℕ) → ByTable s t₂ (3 * n + 2) → other ≡ namePlace any (stringsOf (take (g - 1) (drop 1 s))) → DeskIs s t₂ (Open n g other)
+    unfolding DeskIs listCount
+    desk-open other t₂ v o =
+        let is-any : other ≡ namePlace any (found .pack .names) = o ∙ ap (namePlace any) strings in
+        record {
+          is = found .is ∙ ap accepted same;
+          languages-are = languages;
+          guesses-are = found .guesses ∙ ap (λ (x : Pack). 1 + textBytes (x .names)) same;
+          any-is = is-any ∙ ap (λ (x : Pack). namePlace any (x .names)) same;
+          any-below = omega (arith, is-any, found .languages, any-held s (found .pack) (found .is));
+          table = v;
+        }
+
+pub ruleset desk-laws = (desk-shut, names-start, names-end, any-there, lists-many, thrice-fits, lists-fit, desk-placed, desk-open)
 
 -- ---- the refusals before the pack
 

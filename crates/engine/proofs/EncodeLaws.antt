@@ -5,9 +5,9 @@ use mathlib.Core.List.{List, [], _∷_}
 use Prim.Native.Nat.{ℕ, _+_, _-_, _*_, _≤_, _<_, min}
 use native.Mathlib.Omega.{arith}
 use lib.Dec.{leb}
-use lib.ListN.{length, getD, take, drop, length-drop}
+use lib.ListN.{length, take, drop, length-drop}
 use lib.Seq.{take-all, length-sets}
-use borrow.Author.Tests.{eq-eqb, ne-eqb, le-leb}
+use borrow.Author.Tests.{eq-eqb, ne-eqb, le-leb, lt-ltb}
 use Rattle.base.specs.Pick.{pick, and, pick-true, pick-false, pick-all, and-yes}
 use Rattle.languages.specs.Sets.{singleOf, BitsBelow}
 use Rattle.languages.specs.declared.sets.LanguageSet.{LanguageSet}
@@ -16,26 +16,27 @@ use Rattle.languages.specs.declared.sets.Single.the-variants.{Language, NotSing
 use Rattle.languages.proofs.Laws.{single-below}
 use Rattle.name_parts.specs.Writing.{cap, Put}
 use Rattle.name_parts.specs.Words.{wordAt, wordsOf, oneWord}
-use Rattle.name_parts.specs.Prefixes.{splitOf}
+use Rattle.prefixes.specs.Prefixes.{splitOf}
 use Rattle.name_parts.specs.Joining.{joinedName, joinedWords}
-use Rattle.name_parts.specs.declared.prefixes.NameType.{NameType}
-use Rattle.name_parts.specs.declared.prefixes.NameType.the-variants.{Ashkenazi, Generic, Sephardic}
-use Rattle.name_parts.specs.declared.prefixes.Prefix.{Prefix}
-use Rattle.name_parts.specs.declared.prefixes.Prefix.the-variants.{Parted, Whole}
+use Rattle.prefixes.specs.declared.prefixes.NameType.{NameType}
+use Rattle.prefixes.specs.declared.prefixes.NameType.the-variants.{Ashkenazi, Generic, Sephardic}
+use Rattle.prefixes.specs.declared.prefixes.Prefix.{Prefix}
+use Rattle.prefixes.specs.declared.prefixes.Prefix.the-variants.{Parted, Whole}
 use Rattle.name_parts.proofs.Laws.{clash, split-within, rest-shorter, joined-shorter, joined-short, put-fits, put-long, slice-room}
 use Rattle.pack.specs.Packs.{listCount}
-use Rattle.pack.specs.Places.{textBytes, listAt}
+use Rattle.pack.specs.Places.{textBytes}
 use Rattle.pack.specs.Guessing.{guessed, guessedAt}
-use Rattle.pack.proofs.Laws.{languages-few, guesses-within, guess-told, guessed-below, list-told, list-fits}
+use Rattle.pack.proofs.Laws.{languages-few, guesses-within, guess-told, guessed-below}
 use Rattle.choices.specs.Texts.{Text}
 use Rattle.phoneme_builder.specs.Sets.{Spelling, refusal, texts}
 use Rattle.phoneme_builder.specs.Passes.{wordOf, joined}
-use Rattle.phoneme_builder.specs.Walks.{WordIs, placed, placedAs, areBuffers, areTables, arePlaces, spellings, answerOf, answered}
+use Rattle.phoneme_builder.specs.Tables.{matcher, areLists}
+use Rattle.phoneme_builder.specs.Walks.{WordIs, placed, placedAs, areBuffers, spellings, answerOf, answered}
 use Rattle.phoneme_builder.specs.declared.words.Worded.{Worded}
 use Rattle.phoneme_builder.specs.declared.words.Worded.the-variants.{Done, TooLong, TooMany, Unfit}
 use Rattle.engine.specs.Spelling.{bad, good, or, onePart, eachWord, partedAs, spelledName, afreshBy}
-use Rattle.engine.specs.Calls.{languageBy, languageOf, listOf, speltBy, wordBy, stepsBy}
-use Rattle.engine.specs.Walks.{packIn, Ready, Scratch, afreshOf, stepsAt, startAt, listsAt, codeOf, ToldBy, Told, wholeBy, ToldWhole, EndedIs, bothOf, HyphenAt}
+use Rattle.engine.specs.Calls.{languageBy, languageOf, speltBy, wordBy, stepsBy}
+use Rattle.engine.specs.Walks.{packIn, Ready, Scratch, afreshOf, stepsAt, startAt, listsOf, codeOf, ToldBy, Told, wholeBy, ToldWhole, EndedIs, bothOf, HyphenAt}
 use Rattle.engine.proofs.SpellingLaws.{not-or, parted-split, name-parted, name-plain, name-words}
 use Rattle.engine.proofs.ToldLaws.{both-told}
 use Rattle.engine.specs.declared.call.Call.{Call}
@@ -83,7 +84,7 @@ module _ {o o′ : List ℕ} {at : ℕ} {r : Ends} (room : length o < cap) where
 
 -- ---- a call that is ready
 
-pub count-is : (n : ℕ) → listCount n ≡ 3 * n + 2
+count-is : (n : ℕ) → listCount n ≡ 3 * n + 2
 unfolding listCount
 count-is n = refl
 
@@ -95,6 +96,9 @@ language-by n g NotSingle other e h k o = o
 module _ (s places : List ℕ) (call : Call) (w : Ready s places call) where
   few : call .languages ≤ 32
   few = omega (arith, w .desk .languages-are, languages-few s (packIn s) (call .guesses) (w .desk .is) (w .desk .guesses-are))
+
+  few-lists : {k : ℕ} → k < listCount (call .languages) → k < 98
+  few-lists h = omega (arith, few, count-is (call .languages))
 
   pub names-within : call .guesses ≤ length s
   names-within = guesses-within s (packIn s) (call .guesses) (w .desk .is) (w .desk .guesses-are)
@@ -123,24 +127,12 @@ module _ (s places : List ℕ) (call : Call) (w : Ready s places call) where
     pub language-below : l < call .languages
     language-below = rw el (language-by (call .languages) set (singleOf set) (call .any) refl few below (w .desk .any-below))
 
-    pub lists-ready : (l < call .languages) × (call .languages ≤ 32) × (call .rules < 2) × (listCount (call .languages) ≤ length places)
-    lists-ready = (language-below, few, w .known, w .desk .room)
+    pub lists-ready : (l < call .languages) × (call .languages ≤ 32) × (call .rules < 2)
+    lists-ready = (language-below, few, w .known)
 
     language-is : languageOf (packIn s) set ≡ l
     unfolding languageOf
     language-is = ap (languageBy (singleOf set)) (sym (w .desk .any-is)) ∙ sym el
-
-    -- a list of the table is that list of the pack
-    module _ (k : ℕ) (h : k < listCount (call .languages)) where
-      in-pack : k < listCount (length (packIn s .names))
-      in-pack = rw (w .desk .languages-are) at h
-
-      list-is : listAt s (getD places k 0) ≡ listOf (packIn s) k
-      unfolding listOf
-      list-is = ap (listAt s) (w .desk .places-are k h) ∙ list-told s (packIn s) (call .guesses) (w .desk .is) (w .desk .guesses-are) k in-pack
-
-      list-in : getD places k 0 ≤ length s
-      list-in = omega (arith, w .desk .places-are k h, list-fits s (packIn s) (call .guesses) (w .desk .is) (w .desk .guesses-are) k in-pack)
 
     main-in : 3 * l < listCount (call .languages)
     main-in = omega (arith, language-below, count-is (call .languages))
@@ -153,32 +145,36 @@ module _ (s places : List ℕ) (call : Call) (w : Ready s places call) where
 
     module _ (word : Text) where
       abbrev spelled-word : Lists → Spelling
-      spelled-word x = wordOf (call .limit) (take (call .guesses - 1) (drop 1 s)) (listAt s (x .main)) (listAt s (x .common)) (listAt s (x .own)) set word
+      spelled-word x = wordOf (call .limit) (take (call .guesses - 1) (drop 1 s)) (matcher s places (x .main)) (matcher s places (x .common)) (matcher s places (x .own)) set word
 
       abbrev fitting : Lists → ℕ → ℕ → ℕ → ℕ → Bool
-      fitting x a b c d = and (leb (call .limit) 256) (and (areBuffers a b c d) (and (areTables 256 256 256) (arePlaces (length s) (x .main) (x .common) (x .own))))
+      fitting x a b c d = and (leb (call .limit) 256) (and (areBuffers a b c d 256) (areLists (length places) (x .main) (x .common) (x .own)))
 
-      word-is : stepsAt s call .word set word ≡ speltBy (spelled-word (listsAt places call l))
-      unfolding stepsAt stepsBy wordBy listsAt
+      word-is : stepsAt s call .word set word ≡ speltBy (spelled-word (listsOf call l))
+      unfolding stepsAt stepsBy wordBy listsOf
       word-is =
           let names : call .guesses - 1 ≡ textBytes (packIn s .names) = omega (arith, w .desk .guesses-are) in
-          rw (language-is, names, list-is (3 * l) main-in, list-is _ common-in, list-is _ own-in, w .desk .languages-are)
+          let found = w .desk .table .found in
+          rw (language-is, names, found (3 * l) main-in, found _ common-in, found _ own-in, w .desk .languages-are)
 
-      fits : (a b c d : ℕ) → Scratch a b c d → fitting (listsAt places call l) a b c d ≡ true
-      unfolding areBuffers areTables arePlaces listsAt and
+      fits : (a b c d : ℕ) → Scratch a b c d → fitting (listsOf call l) a b c d ≡ true
+      unfolding areBuffers areLists listsOf
       fits a b c d x =
           and-yes _ _ (le-leb _ _ (w .few))
-          (and-yes _ _ (and-yes _ _ (eq-eqb _ _ (x .store-is)) (and-yes _ _ (eq-eqb _ _ (x .lens-is)) (and-yes _ _ (eq-eqb _ _ (x .langs-is)) (eq-eqb _ _ (x .ord-is)))))
-          (and-yes _ _ refl (and-yes _ _ (le-leb _ _ (list-in _ main-in)) (and-yes _ _ (le-leb _ _ (list-in _ common-in)) (le-leb _ _ (list-in _ own-in))))))
+          (and-yes _ _
+          (and-yes _ _ (eq-eqb _ _ (x .store-is)) (and-yes _ _ (eq-eqb _ _ (x .lens-is)) (and-yes _ _ (eq-eqb _ _ (x .langs-is)) (and-yes _ _ (eq-eqb _ _ (x .ord-is)) refl))))
+          (and-yes _ _ (eq-eqb _ _ (w .desk .table .long))
+          (and-yes _ _ (lt-ltb _ _ (few-lists main-in)) (and-yes _ _ (lt-ltb _ _ (few-lists common-in)) (lt-ltb _ _ (few-lists own-in))))))
 
-      pub one-told : {o o′ : List ℕ} {at : ℕ} {r : Ends} {answer : Worded} (lists : Lists) (a b c d : ℕ) → lists ≡ listsAt places call l → Scratch a b c d → length o * 1 < cap
-          → WordIs (and (leb (call .limit) 256) (and (areBuffers a b c d) (and (areTables 256 256 256) (arePlaces (length s) (lists .main) (lists .common) (lists .own)))))
-          (wordOf (call .limit) (take (call .guesses - 1) (drop 1 s)) (listAt s (lists .main)) (listAt s (lists .common)) (listAt s (lists .own)) set word) o o′ at answer
+      pub one-told : {o o′ : List ℕ} {at : ℕ} {r : Ends} {answer : Worded} (lists : Lists) (a b c d : ℕ) → lists ≡ listsOf call l → Scratch a b c d → length o * 1 < cap
+          → WordIs (and (leb (call .limit) 256) (and (areBuffers a b c d 256) (areLists (length places) (lists .main) (lists .common) (lists .own))))
+          (wordOf (call .limit) (take (call .guesses - 1) (drop 1 s)) (matcher s places (lists .main)) (matcher s places (lists .common)) (matcher s places (lists .own)) set word)
+          o o′ at answer
           → EndedIs answer at r → ToldWhole (stepsAt s call .word set word) o o′ at r
       one-told {o = o} lists a b c d e x room q ended =
           let fit = fits a b c d x in
-          let v : WordIs (fitting (listsAt places call l) a b c d) (spelled-word (listsAt places call l)) _ _ _ _ = rw e at q in
-          rw word-is (word-told (slice-room o room) (spelled-word (listsAt places call l)) _ (v .result ∙ pick-true _ _ _ fit) (v .buffer ∙ pick-true _ _ _ fit) ended)
+          let v : WordIs (fitting (listsOf call l) a b c d) (spelled-word (listsOf call l)) _ _ _ _ = rw e at q in
+          rw word-is (word-told (slice-room o room) (spelled-word (listsOf call l)) _ (v .result ∙ pick-true _ _ _ fit) (v .buffer ∙ pick-true _ _ _ fit) ended)
 
 -- ---- a name by its parts
 

@@ -1,5 +1,6 @@
 pub mod SpellingLaws
 pub mod ToldLaws
+pub mod IndexLaws
 pub mod EncodeLaws
 pub mod NameLaws
 pub mod CallLaws

@@ -20,13 +20,13 @@ use Rattle.letters.specs.declared.utf8.Found.the-variants.{At, Nothing}
 use Rattle.languages.specs.declared.sets.LanguageSet.{LanguageSet}
 use Rattle.name_parts.specs.Writing.{Put}
 use Rattle.name_parts.proofs.Laws.{clash, slice-room, put-then, put-long}
-use Rattle.name_parts.specs.declared.prefixes.Prefix.{Prefix}
-use Rattle.name_parts.specs.declared.prefixes.Prefix.the-variants.{Parted, Whole}
-use Rattle.pack.specs.Packs.{Verdict, accepted, refused, Rule}
+use Rattle.prefixes.specs.declared.prefixes.Prefix.{Prefix}
+use Rattle.prefixes.specs.declared.prefixes.Prefix.the-variants.{Parted, Whole}
+use Rattle.pack.specs.Packs.{Verdict, accepted, refused}
 use Rattle.choices.specs.Texts.{Text}
 use Rattle.choices.specs.Apply.{Entry}
 use Rattle.phoneme_builder.specs.Sets.{Spelling, refusal, texts, united}
-use Rattle.phoneme_builder.specs.Passes.{Ran, tooLong, ran, raised, onRan, finalText, finalFrom, finalPass, then, mainOf, wordOf}
+use Rattle.phoneme_builder.specs.Passes.{Matcher, Ran, tooLong, ran, raised, onRan, finalText, finalFrom, finalPass, then, mainOf, wordOf}
 use Rattle.engine.specs.Spelling.{Spelt, bad, good, Steps, both, hyphened, andWords, eachWord, onePart, byWords, byPrefix, nameBy, nameFrom, spelledName}
 use Rattle.engine.specs.Calls.{speltBy, wordBy, stepsBy, stepsOf, spelledBy, Outcome, refusedBy, key, outcomeOf, unless, onPack, lettersThen, checkedThen, callOf, toldOf, filledBy, SpellIs, numbersOf}
 use Rattle.engine.specs.Lines.{decimalBy, decimal, flagDigit, answerLine, refusalLine, lineBy, most, room, textOf, lineOf, lineFor, linesFrom, wholeLines, Taken, andTaken, noneTaken, takeLines, taken, LinesIs, LineAt, headOf, DoneIs, partFilled, PartIs, waitsFor, RefusedIs}
@@ -264,7 +264,7 @@ unfolding WordBelow onRan
 ran-below g tooLong l rest h = omega arith
 ran-below g (ran new flag) l rest h = raised-below flag _ (united-below g new l rest h)
 
-final-below : (limit : ℕ) (names : List ℕ) (rules : List Rule) (old l : List Entry) → WordBelow (finalFrom limit names rules old l)
+final-below : (limit : ℕ) (names : List ℕ) (rules : Matcher) (old l : List Entry) → WordBelow (finalFrom limit names rules old l)
 unfolding WordBelow finalFrom finalText
 final-below limit names rules [] l = tt
 final-below limit names rules (e ∷ old) l = ran-below _ _ l _ (final-below limit names rules old)

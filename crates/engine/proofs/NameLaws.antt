@@ -10,9 +10,9 @@ use Rattle.choices.specs.Texts.{Text}
 use Rattle.name_parts.specs.Writing.{cap, Put}
 use Rattle.name_parts.specs.Words.{wordsOf, wordAt, pastWord, oneWord}
 use Rattle.name_parts.specs.Joining.{joinedName}
-use Rattle.name_parts.specs.declared.prefixes.NameType.{NameType}
-use Rattle.name_parts.specs.declared.prefixes.Prefix.{Prefix}
-use Rattle.name_parts.specs.declared.prefixes.Prefix.the-variants.{Parted}
+use Rattle.prefixes.specs.declared.prefixes.NameType.{NameType}
+use Rattle.prefixes.specs.declared.prefixes.Prefix.{Prefix}
+use Rattle.prefixes.specs.declared.prefixes.Prefix.the-variants.{Parted}
 use Rattle.name_parts.proofs.Laws.{slice-room, word-later, past-within, word-shorter}
 use Rattle.engine.specs.Spelling.{Spelt, partedAs, spelledName, eachWord, afreshBy}
 use Rattle.engine.specs.Walks.{Scratch, afreshOf, stepsAt, startAt, Told, bothOf, HyphenAt}

@@ -12,12 +12,12 @@ use Rattle.base.specs.Pick.{pick, pick-true, pick-false, pick-cong}
 use Rattle.choices.specs.Texts.{Text}
 use Rattle.languages.specs.declared.sets.LanguageSet.{LanguageSet}
 use Rattle.name_parts.specs.Words.{wordsOf, wordAt, pastWord, oneWord}
-use Rattle.name_parts.specs.Prefixes.{splitOf}
+use Rattle.prefixes.specs.Prefixes.{splitOf}
 use Rattle.name_parts.specs.Joining.{joinedName}
-use Rattle.name_parts.specs.declared.prefixes.NameType.{NameType}
-use Rattle.name_parts.specs.declared.prefixes.NameType.the-variants.{Ashkenazi, Generic, Sephardic}
-use Rattle.name_parts.specs.declared.prefixes.Prefix.{Prefix}
-use Rattle.name_parts.specs.declared.prefixes.Prefix.the-variants.{Parted, Whole}
+use Rattle.prefixes.specs.declared.prefixes.NameType.{NameType}
+use Rattle.prefixes.specs.declared.prefixes.NameType.the-variants.{Ashkenazi, Generic, Sephardic}
+use Rattle.prefixes.specs.declared.prefixes.Prefix.{Prefix}
+use Rattle.prefixes.specs.declared.prefixes.Prefix.the-variants.{Parted, Whole}
 use Rattle.name_parts.proofs.Laws.{clash, words-none, words-next, word-later, past-within, word-shorter, rest-shorter, joined-shorter}
 use Rattle.engine.specs.Spelling.{Spelt, Steps, both, hyphened, andWords, eachWord, onePart, byWords, partedAs, byPrefix, nameBy, nameFrom, spelledName, afreshBy}
 

@@ -8,7 +8,7 @@ use lib.ListN.{length, getD, take, drop}
 use lib.Seq.{sets}
 use Rattle.base.specs.Pick.{pick, and}
 use Rattle.letters.specs.Reading.{firstIll, firstOutside}
-use Rattle.letters.specs.Lower.{lowerText}
+use Rattle.lower_case.specs.Lower.{lowerText}
 use Rattle.letters.specs.declared.utf8.Found.{Found}
 use Rattle.letters.specs.declared.utf8.Found.the-variants.{At, Nothing}
 use Rattle.languages.specs.Sets.{singleOf}
@@ -18,15 +18,15 @@ use Rattle.languages.specs.declared.sets.LanguageSet.the-variants.{Any, NoLangu
 use Rattle.languages.specs.declared.sets.Single.{Single}
 use Rattle.languages.specs.declared.sets.Single.the-variants.{Language, NotSingle}
 use Rattle.name_parts.specs.Joining.{spaced}
-use Rattle.name_parts.specs.declared.prefixes.NameType.{NameType}
-use Rattle.name_parts.specs.declared.prefixes.NameType.the-variants.{Ashkenazi, Generic, Sephardic}
+use Rattle.prefixes.specs.declared.prefixes.NameType.{NameType}
+use Rattle.prefixes.specs.declared.prefixes.NameType.the-variants.{Ashkenazi, Generic, Sephardic}
 use Rattle.pack.specs.Packs.{Pack, Rule, Verdict, accepted, refused, packOf, any}
 use Rattle.pack.specs.Places.{textBytes}
 use Rattle.pack.specs.Guessing.{guessed}
 use Rattle.choices.specs.Texts.{Text}
 use Rattle.choices.specs.Apply.{Entry}
 use Rattle.phoneme_builder.specs.Sets.{Spelling, refusal, texts}
-use Rattle.phoneme_builder.specs.Passes.{wordOf, joined}
+use Rattle.phoneme_builder.specs.Passes.{firstMatch, wordOf, joined}
 use Rattle.engine.specs.Spelling.{Spelt, bad, good, Steps, spelledName}
 use Rattle.engine.specs.declared.call.Settings.{Settings}
 use Rattle.engine.specs.declared.call.Start.{Start}
@@ -74,7 +74,8 @@ speltBy (texts l flag) = good (joined (map (λ (e : Entry). e .text) l)) flag
 -- a word by the lists of a language, of the pack's n; the names' bytes stand in s behind the count
 unfoldable pub wordBy : List ℕ → Pack → ℕ → ℕ → ℕ → LanguageSet → Text → Spelt
 wordBy s p rules limit l g w =
-    speltBy (wordOf limit (take (textBytes (p .names)) (drop 1 s)) (listOf p (3 * l)) (listOf p (3 * length (p .names) + rules)) (listOf p (3 * l + 1 + rules)) g w)
+    speltBy (wordOf limit (take (textBytes (p .names)) (drop 1 s)) (firstMatch (listOf p (3 * l))) (firstMatch (listOf p (3 * length (p .names) + rules)))
+    (firstMatch (listOf p (3 * l + 1 + rules))) g w)
 
 -- the steps below a name
 unfoldable pub stepsBy : List ℕ → Pack → NameType → ℕ → Bool → ℕ → Steps

@@ -1,10 +1,10 @@
 -- What the functions of a call tell of the pack's bytes and of the lent buffers.
 use mathlib.Core.Path.{_≡_}
-use Prim.Native.Nat.{ℕ, _+_, _*_, _≤_, _<_, min}
+use Prim.Native.Nat.{ℕ, _+_, _-_, _*_, _/_, _≤_, _<_, min}
 use mathlib.Core.Bool.{Bool, true, false}
 use mathlib.Core.List.{List, [], _∷_}
 use lib.Dec.{eqb, leb}
-use lib.ListN.{length, getD}
+use lib.ListN.{length, getD, set}
 use lib.Seq.{sets}
 use Rattle.base.specs.Pick.{pick}
 use Rattle.languages.specs.Sets.{BitsBelow}
@@ -13,15 +13,17 @@ use Rattle.languages.specs.declared.sets.LanguageSet.{LanguageSet}
 use Rattle.letters.specs.Reading.{firstIll, firstOutside}
 use Rattle.letters.specs.declared.utf8.Found.the-variants.{Nothing}
 use Rattle.name_parts.specs.Writing.{cap, Put}
-use Rattle.name_parts.specs.declared.prefixes.Prefix.{Prefix}
-use Rattle.name_parts.specs.declared.prefixes.Prefix.the-variants as prefix
+use Rattle.prefixes.specs.declared.prefixes.Prefix.{Prefix}
+use Rattle.prefixes.specs.declared.prefixes.Prefix.the-variants as prefix
 use Rattle.pack.specs.Packs.{Pack, Verdict, accepted, refused, packOf, listCount, any}
 use Rattle.pack.specs.Places.{textBytes, placesOf}
 use Rattle.choices.specs.Texts.{Text}
+use Rattle.phoneme_builder.specs.Passes.{firstMatch}
+use Rattle.phoneme_builder.specs.Tables.{matcher}
 use Rattle.phoneme_builder.specs.declared.words.Worded.{Worded}
 use Rattle.phoneme_builder.specs.declared.words.Worded.the-variants.{Done, TooLong, TooMany, Unfit}
 use Rattle.engine.specs.Spelling.{Spelt, bad, good, Steps, or}
-use Rattle.engine.specs.Calls.{stepsBy, startSet, typeOf, settingsKnown, haveLanguages, Outcome, refusedBy}
+use Rattle.engine.specs.Calls.{listOf, stepsBy, startSet, typeOf, settingsKnown, haveLanguages, Outcome, refusedBy}
 use Rattle.engine.specs.declared.spelling.Spelled.{Spelled}
 use Rattle.engine.specs.declared.spelling.Spelled.the-variants as spelled
 use Rattle.engine.specs.declared.call.Settings.{Settings}
@@ -44,15 +46,19 @@ packBy (refused place) = record { names = []; guesses = []; lists = [] }
 unfoldable pub packIn : List ℕ → Pack
 packIn s = packBy (packOf s)
 
--- the numbers of an accepted pack, and a table with its lists' places
+-- by a table of lists the rules of a pack's first n lists are found
+pub record ByTable (s table : List ℕ) (n : ℕ) : Type 0 where
+  pub long : length table ≡ 12642
+  pub found : (k : ℕ) → k < n → matcher s table k ≡ firstMatch (listOf (packIn s) k)
+
+-- the numbers of an accepted pack, and a table by which its rules are found
 pub record AtDesk (s places : List ℕ) (languages guesses other : ℕ) : Type 0 where
   pub is : packOf s ≡ accepted (packIn s)
   pub languages-are : languages ≡ length (packIn s .names)
   pub guesses-are : guesses ≡ 1 + textBytes (packIn s .names)
   pub any-is : other ≡ namePlace any (packIn s .names)
   pub any-below : other < languages
-  pub room : listCount languages ≤ length places
-  pub places-are : (k : ℕ) → k < listCount languages → getD places k 0 ≡ getD (placesOf s) k 0
+  pub table : ByTable s places (listCount languages)
 
 unfoldable pub DeskIs : List ℕ → List ℕ → Desk → Type 0
 DeskIs s places (Open languages guesses other) = AtDesk s places languages guesses other
@@ -106,10 +112,45 @@ pub record Scratch (store lens langs ord : ℕ) : Type 0 where
   pub langs-is : langs ≡ 1028
   pub ord-is : ord ≡ 1024
 
--- the places of a language's lists
-unfoldable pub listsAt : List ℕ → Call → ℕ → Lists
-listsAt places c l =
-    record { main = getD places (3 * l) 0; common = getD places (3 * (c .languages) + c .rules) 0; own = getD places (3 * l + 1 + c .rules) 0 }
+-- the numbers of a language's lists
+unfoldable pub listsOf : Call → ℕ → Lists
+listsOf c l = record { main = 3 * l; common = 3 * (c .languages) + c .rules; own = 3 * l + 1 + c .rules }
+
+-- ---- the table that rules are found by
+
+-- where the row of list k starts
+abbrev pub rowOf : ℕ → ℕ
+rowOf k = 98 + k * 128
+
+-- a table with nothing in it
+pub record Blank (table : List ℕ) : Type 0 where
+  pub long : length table ≡ 12642
+  pub clear : (j : ℕ) → getD table j 0 ≡ 0
+
+-- the lists of an accepted pack by their places, and no rule in the rows from the k-th on
+pub record Placed (s table : List ℕ) (k : ℕ) : Type 0 where
+  pub is : packOf s ≡ accepted (packIn s)
+  pub long : length table ≡ 12642
+  pub places : (j : ℕ) → j < listCount (length (packIn s .names)) → getD table j 0 ≡ getD (placesOf s) j 0
+  pub clear : (j : ℕ) → rowOf k ≤ j → getD table j 0 ≡ 0
+
+-- the entry at b can take rule i
+pub record CanNote (table : List ℕ) (b i : ℕ) : Type 0 where
+  pub within : b + 64 < length table
+  pub few : i < 4096
+  pub later : getD table (b + 64) 0 / 65536 ≤ i
+
+-- rule i, which stands at a place, noted in the entry at b: the first of its rules, or the last so far
+unfoldable pub notedIn : List ℕ → ℕ → ℕ → ℕ → List ℕ
+notedIn table b at i =
+    let e = getD table (b + 64) 0 in
+    pick (eqb e 0) (set (set table b at) (b + 64) (i * 65536 + 1)) (set table (b + 64) (e / 65536 * 65536 + (i + 1 - e / 65536)))
+
+-- the rules of list k are found, and nothing else of the table changed
+pub record Indexed (s table table′ : List ℕ) (k : ℕ) : Type 0 where
+  pub long : length table′ ≡ 12642
+  pub others : (j : ℕ) → (rowOf k ≤ j → rowOf k + 128 ≤ j) → getD table′ j 0 ≡ getD table j 0
+  pub found : matcher s table′ k ≡ firstMatch (listOf (packIn s) k)
 
 -- ---- an answer in a buffer
 
@@ -184,12 +225,3 @@ answeredBy a room =
 unfoldable pub wholeAnd : Prefix → Bool → Bool
 wholeAnd (prefix.Parted keep skip) t = false
 wholeAnd prefix.Whole t = t
-
-unfoldable pub MeasuredBy : Spelt → Ends → Type 0
-MeasuredBy (bad k) r = 0 < k
-MeasuredBy (good t f) r = (r .at ≡ min (length t) cap) × (r .flag ≡ f)
-
--- how long an answer is
-pub record Measured (x : Spelt) (r : Ends) : Type 0 where
-  pub code : r .code ≡ codeOf x
-  pub is : MeasuredBy x r

@@ -7,11 +7,12 @@ ghost use Rattle.languages.specs.Names.{namePlace, stringsOf};
 ghost use Rattle.pack.specs.Packs.{any};
 ghost use Rattle.pack.specs.Guessing.{guessedAt};
 ghost use Rattle.engine.specs.Calls.{settingsKnown, kindKnown, haveLanguages, typeOf, startSet};
-ghost use Rattle.engine.specs.Walks.{DeskIs, callFor, afreshOf};
+ghost use Rattle.engine.specs.Walks.{Blank, DeskIs, callFor, afreshOf};
+use crate::index::index_lists;
 use languages::LanguageSet;
 use languages::Listed;
-use name_parts::NameType;
 use pack::Surveyed;
+use prefixes::NameType;
 
 // The settings in the paper's numbers: Ashkenazi 0, Generic 1, Sephardic 2; approx 0, exact 1; concat 0 or 1; the limit.
 pub struct Settings {
@@ -53,17 +54,20 @@ pub struct Call {
     pub set: LanguageSet,
 }
 
-// The pack's numbers, and its lists' places in the table.
+// The pack's numbers, and the table that its rules are found by.
 pub(crate) fn open(pack: &[u8], places: &mut [usize]) -> Desk
-    requires { ⌜ length (now places) ≡ 98 ⌝ }
+    requires { ⌜ Blank (now places) ⌝ }
     ensures { λ r. ⌜ DeskIs (now (pack .entry)) (now (places .exit)) r ⌝ }
 {
     match pack::survey(pack, places) {
-        Surveyed::Accepted { languages, guesses } => Desk::Open {
-            languages,
-            guesses,
-            any: any_of(&pack[1..guesses]),
-        },
+        Surveyed::Accepted { languages, guesses } => {
+            index_lists(pack, places, 3 * languages + 2);
+            Desk::Open {
+                languages,
+                guesses,
+                any: any_of(&pack[1..guesses]),
+            }
+        }
         Surveyed::Refused(place) => Desk::Shut { place },
     }
 }

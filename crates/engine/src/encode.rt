@@ -8,18 +8,17 @@ ghost use Rattle.base.specs.Pick.{pick};
 ghost use Rattle.languages.specs.Sets.{singleOf, BitsBelow};
 ghost use Rattle.name_parts.specs.Words.{oneWord, wordsOf};
 ghost use Rattle.name_parts.specs.Writing.{cap, Put};
-ghost use Rattle.pack.specs.Packs.{listCount};
 ghost use Rattle.pack.specs.Guessing.{guessedAt};
 ghost use Rattle.engine.specs.Spelling.{partedAs, or, spelledName, onePart, eachWord, afreshBy};
 ghost use Rattle.engine.specs.Calls.{languageBy, languageOf, wordBy};
-ghost use Rattle.engine.specs.Walks.{packIn, Ready, Scratch, stepsAt, startAt, listsAt, EndedIs, Told, ToldWhole, bothOf, HyphenAt};
+ghost use Rattle.engine.specs.Walks.{packIn, Ready, Scratch, stepsAt, startAt, listsOf, EndedIs, Told, ToldWhole, bothOf, HyphenAt};
 use crate::call::Call;
 use crate::call::afresh;
 use languages::LanguageSet;
 use languages::Single;
-use name_parts::NameType;
-use name_parts::Prefix;
 use phoneme_builder::Worded;
+use prefixes::NameType;
+use prefixes::Prefix;
 
 // No slice has more bytes; a place stays at most this.
 const CAP: usize = 0x8000_0000_0000_0000;
@@ -31,7 +30,7 @@ pub struct Ends {
     pub code: u8,
 }
 
-// The places of the three lists that a word is spelled by.
+// The numbers of the three lists that a word is spelled by.
 pub struct Lists {
     pub main: usize,
     pub common: usize,
@@ -48,16 +47,16 @@ fn language_of(set: LanguageSet, any: usize) -> usize
     }
 }
 
-fn lists_of(places: &[usize], call: Call, l: usize) -> Lists
-    requires { ⌜ (l < call .languages) × (call .languages ≤ 32) × (call .rules < 2) × (listCount (call .languages) ≤ length (now places)) ⌝ }
-    ensures { λ r. ⌜ r ≡ listsAt (now (places .entry)) call l ⌝ }
+fn lists_of(call: Call, l: usize) -> Lists
+    requires { ⌜ (l < call .languages) × (call .languages ≤ 32) × (call .rules < 2) ⌝ }
+    ensures { λ r. ⌜ r ≡ listsOf call l ⌝ }
 {
     let n = call.languages;
     let k = call.rules;
     Lists {
-        main: places[3 * l],
-        common: places[3 * n + k],
-        own: places[3 * l + 1 + k],
+        main: 3 * l,
+        common: 3 * n + k,
+        own: 3 * l + 1 + k,
     }
 }
 
@@ -122,20 +121,17 @@ fn spell_one(
 {
     let guesses = call.guesses;
     let l = language_of(set, call.any);
-    let lists = lists_of(places, call, l);
-    let mut starts = [0usize; 256];
-    let mut ends = [0usize; 256];
-    let mut sets = [0u64; 256];
+    let lists = lists_of(call, l);
+    let mut alts = [0u64; 256];
     let answer = phoneme_builder::word(
         store,
         lens,
         langs,
         ord,
-        &mut starts,
-        &mut ends,
-        &mut sets,
+        &mut alts,
         pack,
         &pack[1..guesses],
+        places,
         lists.main,
         lists.common,
         lists.own,
@@ -218,7 +214,7 @@ pub(crate) fn part_of(kind: NameType, name: &[u8]) -> Prefix
 {
     match kind {
         NameType::Ashkenazi => Prefix::Whole,
-        NameType::Generic => name_parts::prefix_of(name),
+        NameType::Generic => prefixes::prefix_of(name),
         NameType::Sephardic => Prefix::Whole,
     }
 }

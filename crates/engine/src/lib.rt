@@ -1,6 +1,7 @@
 // Spelling a name (engine.rs): every check, the name's parts, and its answer; one name, or a block of lines.
 mod call;
 mod encode;
+mod index;
 mod lines;
 mod spelling;
 

@@ -259,7 +259,7 @@ pub fn spell_lines(
 ) -> Lines
     ensures { λ r. ⌜ LinesIs (lineFor settings start (now (pack .entry)) (length (now (out .entry)))) (now (block .entry)) (now (out .entry)) r (now (out .exit)) ⌝ }
 {
-    let mut places = [0usize; 98];
+    let mut places = [0usize; 12642];
     let desk = open(pack, &mut places);
     let mut store = [0u8; 131584];
     let mut lens = [0u8; 1028];

@@ -4,12 +4,12 @@ ghost use mathlib.Core.Bool.{true};
 ghost use Prim.Native.Nat.{_≤_};
 ghost use lib.ListN.{length};
 ghost use Rattle.base.specs.Pick.{pick};
-ghost use Rattle.letters.specs.Lower.{lowerText};
+ghost use Rattle.lower_case.specs.Lower.{lowerText};
 ghost use Rattle.letters.specs.Reading.{firstIll, firstOutside};
 ghost use Rattle.name_parts.specs.Words.{oneWord};
 ghost use Rattle.engine.specs.Spelling.{spelledName, partedAs};
 ghost use Rattle.engine.specs.Calls.{settingsKnown, haveLanguages, stepsOf, spelledBy, outcomeOf, lettersThen, checkedThen, callOf, SpellIs};
-ghost use Rattle.engine.specs.Walks.{packIn, AtDesk, DeskIs, Ready, Scratch, stepsAt, startAt, FoundIs, answeredBy, wholeAnd, Measured, FineName};
+ghost use Rattle.engine.specs.Walks.{packIn, AtDesk, DeskIs, Ready, Scratch, stepsAt, startAt, FoundIs, answeredBy, wholeAnd, FineName};
 use crate::call::Call;
 use crate::call::Desk;
 use crate::call::Settings;
@@ -24,8 +24,8 @@ use crate::encode::part_of;
 use crate::encode::spell_name;
 use crate::encode::spell_plain;
 use letters::Found;
-use letters::Lowered;
-use name_parts::Prefix;
+use lower_case::Lowered;
+use prefixes::Prefix;
 
 // How many bytes were written, and the flag; or the number of a refusal and its place (01, What the desk gets).
 pub enum Spelled {
@@ -106,38 +106,7 @@ fn is_single(call: Call, name: &[u8]) -> bool
     }
 }
 
-// How long the answer of a name is, with its flag; or its refusal.
-fn measure(
-    store: &mut [u8],
-    lens: &mut [u8],
-    langs: &mut [u64],
-    ord: &mut [u8],
-    pack: &[u8],
-    places: &[usize],
-    call: Call,
-    name: &[u8],
-) -> Ends
-    requires { ⌜ Scratch (length (now store)) (length (now lens)) (length (now langs)) (length (now ord)) ⌝ }
-    requires { ⌜ Ready (now pack) (now places) call ⌝ }
-    requires { ⌜ length (now name) ≤ 96 ⌝ }
-    ensures { λ r. ⌜ Measured (spelledName (stepsAt (now (pack .entry)) call) (startAt (now (pack .entry)) call (now (name .entry))) (now (name .entry))) r ⌝ }
-{
-    let mut none = [0u8; 1];
-    spell_name(
-        store,
-        lens,
-        langs,
-        ord,
-        pack,
-        places,
-        call,
-        name,
-        &mut none,
-        0,
-    )
-}
-
-// A name of several parts: measured, and then written where it fits.
+// A name of several parts: spelled apart, and then written where it fits; what is too long to be held apart is spelled again.
 fn spell_parts(
     store: &mut [u8],
     lens: &mut [u8],
@@ -154,11 +123,28 @@ fn spell_parts(
     requires { ⌜ length (now name) ≤ 96 ⌝ }
     ensures { λ r. ⌜ SpellIs (outcomeOf (spelledName (stepsAt (now (pack .entry)) call) (startAt (now (pack .entry)) call (now (name .entry))) (now (name .entry)))) (now (out .entry)) r (now (out .exit)) ⌝ }
 {
-    let a = measure(store, lens, langs, ord, pack, places, call, name);
+    let mut apart = [0u8; 16384];
+    let a = spell_name(
+        store,
+        lens,
+        langs,
+        ord,
+        pack,
+        places,
+        call,
+        name,
+        &mut apart,
+        0,
+    );
     match answer(a, out.len()) {
         Spelled::Done { written, flag } => {
-            spell_name(store, lens, langs, ord, pack, places, call, name, out, 0);
-            Spelled::Done { written, flag }
+            if written <= 16384 {
+                name_parts::copy(&apart[0..written], out, 0);
+                Spelled::Done { written, flag }
+            } else {
+                spell_name(store, lens, langs, ord, pack, places, call, name, out, 0);
+                Spelled::Done { written, flag }
+            }
         }
         Spelled::Refused { code, place } => Spelled::Refused { code, place },
     }
@@ -211,7 +197,7 @@ fn spell_in(
     ensures { λ r. ⌜ SpellIs (outcomeOf (spelledBy (stepsOf (now (pack .entry)) (packIn (now (pack .entry))) settings) start (lowerText (now (name .entry))))) (now (out .entry)) r (now (out .exit)) ⌝ }
 {
     let mut low = [0u8; 96];
-    match letters::lower_into(name, &mut low) {
+    match lower_case::lower_into(name, &mut low) {
         Lowered::Done(n) => {
             let call = call_of(settings, start, pack, languages, guesses, any, &low[0..n]);
             name_parts::part_hyphens(&mut low);
@@ -276,7 +262,7 @@ pub(crate) fn spell_at(
 pub fn spell(settings: Settings, start: Start, pack: &[u8], name: &[u8], out: &mut [u8]) -> Spelled
     ensures { λ r. ⌜ SpellIs (callOf settings start (now (pack .entry)) (now (name .entry))) (now (out .entry)) r (now (out .exit)) ⌝ }
 {
-    let mut places = [0usize; 98];
+    let mut places = [0usize; 12642];
     let desk = open(pack, &mut places);
     let mut store = [0u8; 131584];
     let mut lens = [0u8; 1028];

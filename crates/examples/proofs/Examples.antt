@@ -8,13 +8,13 @@ use Rattle.texts.specs.Parts.{tail, front, firstIs, lastIs, placeOf, has, prefi
 use Rattle.languages.specs.Sets.{narrowed, merged, isEmpty}
 use Rattle.languages.specs.Names.{strings, stringsOf, namePlace, bitAt, languageBit}
 use Rattle.regex_optim.specs.Contexts.{literalForm, boxForm, withoutCaret, withoutDollar, boxInner, boxed, formIn, formOf, leftForm, memberOf, codeAt, firstChar, codeOf, backChar, wholeChar, orElse, lastChar, charFits, fits}
-use Rattle.rule.specs.Expressions.{onFirst, cutAt, inside, extra, piecesIn, allOf, formedPiece, formed, boxOf, withBits, namesMask, pieceMask, isListed, textOf, maskSet, setOf, checkedOf}
+use Rattle.phonemes.specs.Expressions.{onFirst, cutAt, inside, extra, piecesIn, allOf, formedPiece, formed, boxOf, withBits, namesMask, pieceMask, isListed, textOf, maskSet, setOf, checkedOf}
 use Rattle.choices.specs.Texts.{byOrder}
 use Rattle.choices.specs.Apply.{insert, under, candidates, enter, apply}
 use Rattle.phoneme_builder.specs.Sets.{sorted, allShort, appended}
 use Rattle.phoneme_builder.specs.Passes.{offered, flagged, applied as onApplied, after, unmatched, run}
 use Rattle.examples.specs.Table.{told, expression, left, applied, appending, partsBy, partsOf, table, AllSame}
-use Rattle.name_parts.specs.Prefixes.{prefixesOf, fits as fitsSpace, firstFit, splitOf}
+use Rattle.prefixes.specs.Prefixes.{prefixesOf, fits as fitsSpace, firstFit, splitOf}
 use Rattle.name_parts.specs.Joining.{joinedName}
 
 -- 01, Examples 1 to 12

@@ -6,15 +6,15 @@ use mathlib.Core.List.{List, [], _∷_, map}
 use Rattle.languages.specs.Sets.{narrowed, merged}
 use Rattle.languages.specs.declared.sets.LanguageSet.{LanguageSet}
 use Rattle.languages.specs.declared.sets.LanguageSet.the-variants.{Any, SomeLanguages}
-use Rattle.rule.specs.Expressions.{piecesIn, textOf, setOf, checkedOf}
-use Rattle.rule.specs.declared.answers.Expression.{Expression}
-use Rattle.rule.specs.declared.answers.Expression.the-variants.{Good, Malformed, Stranger}
+use Rattle.phonemes.specs.Expressions.{piecesIn, textOf, setOf, checkedOf}
+use Rattle.phonemes.specs.declared.answers.Expression.{Expression}
+use Rattle.phonemes.specs.declared.answers.Expression.the-variants.{Good, Malformed, Stranger}
 use Rattle.regex_optim.specs.Contexts.{leftForm, fits}
 use lib.ListN.{drop}
-use Rattle.name_parts.specs.Prefixes.{splitOf}
+use Rattle.prefixes.specs.Prefixes.{splitOf}
 use Rattle.name_parts.specs.Joining.{joinedName}
-use Rattle.name_parts.specs.declared.prefixes.Prefix.{Prefix}
-use Rattle.name_parts.specs.declared.prefixes.Prefix.the-variants.{Parted, Whole}
+use Rattle.prefixes.specs.declared.prefixes.Prefix.{Prefix}
+use Rattle.prefixes.specs.declared.prefixes.Prefix.the-variants.{Parted, Whole}
 use Rattle.choices.specs.Apply.{Entry, start}
 use Rattle.phoneme_builder.specs.Passes.{offered, rule, letter, Ran, ran, run}
 

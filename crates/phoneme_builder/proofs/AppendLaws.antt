@@ -14,10 +14,10 @@ use Rattle.choices.specs.Texts.{Text}
 use Rattle.choices.specs.Apply.{Entry, refused, held, insert}
 use Rattle.choices.proofs.TextLaws.{clash}
 use Rattle.phoneme_builder.specs.Sets.{sorted, lengthened, allShort, appended}
-use Rattle.phoneme_builder.specs.Buffers.{entry, SetIs, KeptBy, outcomeBy, Arena, Rooms, SetAt, entriesAt, AppliedAt, CopiedIs, textIn, langsIn}
+use Rattle.phoneme_builder.specs.Buffers.{entry, KeptBy, outcomeBy, Arena, Rooms, SetAt, entriesAt, GrownAt, AppliedAt, CopiedIs, textIn, langsIn}
 use Rattle.phoneme_builder.specs.declared.apply.Applied.the-variants.{Now, TooLong}
 use Rattle.phoneme_builder.proofs.InsertLaws.{insert-length}
-use Rattle.phoneme_builder.proofs.PartLaws.{few-at, length-at, none-at, none-entries, entriesLent, lent-entries, changed, Back, back-set, back-entries, copied-long, Walk, walk-start, walk-next, walk-text}
+use Rattle.phoneme_builder.proofs.PartLaws.{few-at, length-at, none-at, none-entries, copied-long, Walk, walk-start, walk-next, walk-text}
 
 -- ---- every text is tested
 
@@ -65,12 +65,12 @@ appending-start c {a} {from} {on} {to} r is h ne row long =
 
 module _ {c : Text} {a : Arena} {from on to : ℕ} {b : Arena} {row : List ℕ} {k i : ℕ} (v : Appending c a from on to b row k i) where
   pub appending-end : i ≤ 0 → AppliedAt a b to (Now k) (appended c (entriesAt a from on))
-  unfolding KeptBy outcomeBy entriesAt
+  unfolding KeptBy outcomeBy
   appending-end h =
       let z : i ≡ 0 = omega arith in
       let done : entriesAt b to k ≡ sorted (map (lengthened c) (entriesAt a from on)) = rw z at (v .done) in
       let short : allShort (map (lengthened c) (entriesAt a from on)) ≡ true = rw z at (v .short) in
-      record { done = record { kept = v .now-is .set; is = ap held done ∙ appended-short c _ short }; others = v .at .others }
+      record { rooms = v .at .rooms; kept = v .now-is; is = ap held done ∙ appended-short c _ short; others = v .at .others }
 
   -- a turn: the text before was copied
   module _ (h : 0 < i) where
@@ -93,7 +93,9 @@ module _ {c : Text} {a : Arena} {from on to : ℕ} {b : Arena} {row : List ℕ} 
       pub appending-long : 128 < e + length c → AppliedAt a b to TooLong (appended c (entriesAt a from on))
       unfolding KeptBy outcomeBy
       appending-long much = record {
-        done = record { kept = tt; is = appended-long c _ (long-at c _ (i - 1) _ _ here (rw (length-append, copied-long copy long) much)) };
+        rooms = v .at .rooms;
+        kept = tt;
+        is = appended-long c _ (long-at c _ (i - 1) _ _ here (rw (length-append, copied-long copy long) much));
         others = v .at .others;
       }
 
@@ -101,19 +103,14 @@ module _ {c : Text} {a : Arena} {from on to : ℕ} {b : Arena} {row : List ℕ} 
         pub appending-fits : length (take (e - 0) row′) + length c ≤ 128
         appending-fits = rw (copied-long copy long) fit
 
-        pub appending-next : {s l g o : List ℕ} {r : ℕ} → SetIs s l g o r (insert new (entriesLent b to k)) → Back b to s l g o
-            → Appending c a from on to (changed b to s l g o) row′ r (i - 1)
+        pub appending-next : {x : Arena} {r : ℕ} → GrownAt b x to r (insert new (entriesAt b to k)) → Appending c a from on to x row′ r (i - 1)
         unfolding sorted allShort pick
-        appending-next {s} {l} {g} {o} {r} q back =
-            let now-is : SetAt (changed b to s l g o) to r = back-set (v .at .rooms) (v .at .known) back r (q .set) in
-            let is : entriesAt (changed b to s l g o) to r ≡ insert new (entriesAt b to k) =
-            back-entries (v .at .rooms) (v .at .known) back r ∙ q .is ∙ ap (insert new) (lent-entries b to k) in
-            record {
-              at = walk-next (v .at) back row′ long;
-              now-is = now-is;
-              few = omega (arith, v .few, length-at now-is, ap length is, length-at (v .now-is), insert-length new (entriesAt b to k));
-              done = rw here (is ∙ ap (insert new) (v .done));
-              short = rw (here, le-ltb 128 (length (take (e - 0) row′ ++ c)) (rw length-append appending-fits)) (v .short);
-            }
+        appending-next {x} {r} q = record {
+          at = walk-next (v .at) x (q .rooms) (q .others) row′ long;
+          now-is = q .set;
+          few = omega (arith, v .few, length-at (q .set), ap length (q .is), length-at (v .now-is), insert-length new (entriesAt b to k));
+          done = rw here (q .is ∙ ap (insert new) (v .done));
+          short = rw (here, le-ltb 128 (length (take (e - 0) row′ ++ c)) (rw length-append appending-fits)) (v .short);
+        }
 
-pub ruleset appending-laws = (appending-start, appending-end)
+pub ruleset appending-laws = (appending-start, appending-end, index-in, count-in, appending-long, appending-fits, appending-next)

@@ -10,13 +10,12 @@ use lib.ListN.{length, take, drop, drop-of-length-le}
 use Rattle.base.specs.Pick.{pick}
 use Rattle.languages.specs.Coded.{decoded}
 use Rattle.languages.specs.declared.sets.LanguageSet.{LanguageSet}
-use Rattle.pack.specs.Packs.{Rule}
 use Rattle.choices.specs.Texts.{Text}
 use Rattle.choices.specs.Apply.{Entry, start}
 use Rattle.phoneme_builder.specs.Sets.{Spelling, refusal, texts, united}
-use Rattle.phoneme_builder.specs.Buffers.{entry, Arena, SetAt, entriesAt, textIn, langsIn, entryIn, Stayed, UnitedAt, CopiedIs, BegunAt}
-use Rattle.phoneme_builder.specs.Passes.{Turn, Ran, tooLong, ran, run, turnsOf, raised, onRan, finalText, finalFrom, finalPass, then, mainOf}
-use Rattle.phoneme_builder.specs.Walks.{passedBy, PassKept, PassedAt, Apart, StartedAt, FinalKept, finishedBy, TextFinished, textsBy, FinishedAt}
+use Rattle.phoneme_builder.specs.Buffers.{entry, Arena, Rooms, SetAt, entriesAt, textIn, langsIn, entryIn, Stayed, UnitedAt, CopiedIs, GrownAt}
+use Rattle.phoneme_builder.specs.Passes.{Matcher, Turn, Ran, tooLong, ran, run, turnsOf, raised, onRan, finalText, finalFrom, finalPass, then, mainOf}
+use Rattle.phoneme_builder.specs.Walks.{raisedBy, passedBy, PassKept, PassedAt, Apart, StartedAt, FinalKept, finishedBy, TextFinished, textsBy, FinishedAt}
 use Rattle.phoneme_builder.specs.declared.unite.United.{United}
 use Rattle.phoneme_builder.specs.declared.unite.United.the-variants as united
 use Rattle.phoneme_builder.specs.declared.pass.Passed.{Passed}
@@ -56,12 +55,12 @@ raised-refused f c = refl
 -- ---- one text: its set begun in x, run in x and y, united into the result
 
 -- a set begun has one text
-begun-one : {a b : Arena} {k r : ℕ} {g : LanguageSet} → BegunAt a b k g r → r ≡ 1
+begun-one : {a b : Arena} {k r : ℕ} {g : LanguageSet} → GrownAt a b k r (start g) → r ≡ 1
 begun-one q = sym (length-at (q .set)) ∙ ap length (q .is)
 
-pub started : (a b : Arena) (old i x : ℕ) (g : LanguageSet) (d : List ℕ) (e r : ℕ) → CopiedIs (textIn (a .store) (a .lens) (a .ord) old i) d e → BegunAt a b x g r
+pub started : (a b : Arena) (old i x : ℕ) (g : LanguageSet) (d : List ℕ) (e r : ℕ) → CopiedIs (textIn (a .store) (a .lens) (a .ord) old i) d e → GrownAt a b x r (start g)
     → StartedAt a b old i x g d e
-started a b old i x g d e r c q = record { begun = subst (BegunAt a b x g) (begun-one q) q; copied = c }
+started a b old i x g d e r c q = record { begun = subst (λ (n : ℕ). GrownAt a b x n (start g)) (begun-one q) q; copied = c }
 
 -- the text that was copied, with its languages
 pub copied-entry : (a : Arena) (d : List ℕ) (k i e g : ℕ) → CopiedIs (textIn (a .store) (a .lens) (a .ord) k i) d e → g ≡ langsIn (a .langs) (a .ord) k i
@@ -70,8 +69,8 @@ copied-entry a d k i e g c f =
     let all : e - 0 ≡ e = omega arith in
     entry-in a k i ∙ rw (all, c .text, f)
 
-module _ (old i result n x y limit k g : ℕ) (names : List ℕ) (rules : List Rule) (t : Text) (a b c : Arena) (p : Apart old result x y)
-    (e : entryIn a old i ≡ entry t (decoded g)) (begun : BegunAt a b x (decoded g) k) (r : Passed)
+module _ (old i result n x y limit k g : ℕ) (names : List ℕ) (rules : Matcher) (t : Text) (a b c : Arena) (p : Apart old result x y)
+    (e : entryIn a old i ≡ entry t (decoded g)) (begun : GrownAt a b x k (start (decoded g))) (r : Passed)
     (q : PassedAt b c x y (run true limit (turnsOf names rules t) (entriesAt b x k)) r) where
   -- no other set changed
   stays : (j : ℕ) → j < 4 → (j ≡ x → ⊥) → (j ≡ y → ⊥) → Stayed a c j
@@ -93,6 +92,7 @@ module _ (old i result n x y limit k g : ℕ) (names : List ℕ) (rules : List R
   pub final-long : r ≡ passed.TooLong → TextFinished a c old result (finalText limit names rules (entryIn a old i) (entriesAt a result n)) finished.TooLong
   unfolding FinalKept finishedBy passedBy onRan
   final-long f = record {
+    rooms = q .rooms;
     kept = tt;
     is = λ rest. sym (ran-is tooLong (sym (q .is) ∙ ap (λ (u : Passed). passedBy u c) f) rest);
     stayed = stays old (p .old-known) (p .old-x) (p .old-y);
@@ -122,6 +122,7 @@ module _ (old i result n x y limit k g : ℕ) (names : List ℕ) (rules : List R
       pub final-into : (u : ℕ) → v ≡ united.Into u → TextFinished a d old result (finalText limit names rules (entryIn a old i) (entriesAt a result n)) (finished.Into u flag)
       unfolding FinalKept finishedBy onRan
       final-into u h = record {
+        rooms = w .rooms;
         kept = into-at w (p .result-known) u h;
         is = λ rest. ap (raised flag) (sym (into-is-at w u h rest)) ∙ sym (ran-is _ now-is rest);
         stayed = old-stays;
@@ -130,6 +131,7 @@ module _ (old i result n x y limit k g : ℕ) (names : List ℕ) (rules : List R
       pub final-many : v ≡ united.TooMany → TextFinished a d old result (finalText limit names rules (entryIn a old i) (entriesAt a result n)) finished.TooMany
       unfolding FinalKept finishedBy onRan
       final-many h = record {
+        rooms = w .rooms;
         kept = tt;
         is = λ rest. sym (raised-refused flag 8) ∙ ap (raised flag) (sym (many-at w h rest)) ∙ sym (ran-is _ now-is rest);
         stayed = old-stays;
@@ -137,23 +139,25 @@ module _ (old i result n x y limit k g : ℕ) (names : List ℕ) (rules : List R
 
 -- ---- the loop over the old texts
 
-pub record Finishing (a : Arena) (old on result limit : ℕ) (names : List ℕ) (rules : List Rule) (b : Arena) (n i : ℕ) (flag : Bool) : Type 0 where
+pub record Finishing (a : Arena) (old on result limit : ℕ) (names : List ℕ) (rules : Matcher) (b : Arena) (n i : ℕ) (flag : Bool) : Type 0 where
+  pub rooms : Rooms b
   pub set : SetAt b result n
   pub stayed : Stayed a b old
   pub in-on : i ≤ on
   pub left : raised flag (finalFrom limit names rules (drop i (entriesAt a old on)) (entriesAt b result n)) ≡ finalPass limit names rules (entriesAt a old on)
 
-pub finishing-start : (a : Arena) (old on result limit : ℕ) (names : List ℕ) (rules : List Rule) → SetAt a result 0
+pub finishing-start : (a : Arena) (old on result limit : ℕ) (names : List ℕ) (rules : Matcher) → Rooms a → result < 4
     → Finishing a old on result limit names rules a 0 0 false
 unfolding finalPass
-finishing-start a old on result limit names rules s = record {
-  set = s;
+finishing-start a old on result limit names rules r h = record {
+  rooms = r;
+  set = none-at r h;
   stayed = stayed-refl;
   in-on = zero-le;
   left = raised-down _ ∙ ap (finalFrom limit names rules (entriesAt a old on)) (none-entries a result);
 }
 
-module _ {a : Arena} {old on result limit : ℕ} {names : List ℕ} {rules : List Rule} {b : Arena} {n i : ℕ} {flag : Bool}
+module _ {a : Arena} {old on result limit : ℕ} {names : List ℕ} {rules : Matcher} {b : Arena} {n i : ℕ} {flag : Bool}
     (v : Finishing a old on result limit names rules b n i flag) (s : SetAt a old on) where
   pub finishing-old : SetAt b old on
   finishing-old = stayed-set (v .stayed) s
@@ -162,7 +166,7 @@ module _ {a : Arena} {old on result limit : ℕ} {names : List ℕ} {rules : Lis
   unfolding FinalKept textsBy finalFrom
   finishing-end h =
       let past : length (entriesAt a old on) ≤ i = rw (length-at s) h in
-      record { kept = v .set; is = sym (raised-end flag _) ∙ (rw (drop-of-length-le (entriesAt a old on) past) at (v .left)) }
+      record { rooms = v .rooms; kept = v .set; is = sym (raised-end flag _) ∙ (rw (drop-of-length-le (entriesAt a old on) past) at (v .left)) }
 
   module _ (h : i < on) (c : Arena) (r : Finished)
       (t : TextFinished b c old result (finalText limit names rules (entryIn b old i) (entriesAt b result n)) r) where
@@ -181,6 +185,7 @@ module _ {a : Arena} {old on result limit : ℕ} {names : List ℕ} {rules : Lis
     finishing-next k more next e f =
         let kept : SetAt c result k = rw e at (t .kept) in
         record {
+          rooms = t .rooms;
           set = kept;
           stayed = stayed-trans (v .stayed) (t .stayed);
           in-on = add-one-le h;
@@ -189,11 +194,11 @@ module _ {a : Arena} {old on result limit : ℕ} {names : List ℕ} {rules : Lis
 
     pub finishing-long : r ≡ finished.TooLong → FinishedAt c result (finalPass limit names rules (entriesAt a old on)) finished.TooLong
     unfolding FinalKept finishedBy textsBy
-    finishing-long e = record { kept = tt; is = sym (raised-refused flag 7) ∙ on-next _ e }
+    finishing-long e = record { rooms = t .rooms; kept = tt; is = sym (raised-refused flag 7) ∙ on-next _ e }
 
     pub finishing-many : r ≡ finished.TooMany → FinishedAt c result (finalPass limit names rules (entriesAt a old on)) finished.TooMany
     unfolding FinalKept finishedBy textsBy
-    finishing-many e = record { kept = tt; is = sym (raised-refused flag 8) ∙ on-next _ e }
+    finishing-many e = record { rooms = t .rooms; kept = tt; is = sym (raised-refused flag 8) ∙ on-next _ e }
 
 -- ---- one spelling, and then what follows from its texts
 
@@ -235,27 +240,40 @@ main-side q k set flag e = side ((rw e at (q .kept)) .1)
     side (inl s) = omega (arith, s)
     side (inr s) = omega (arith, s)
 
-module _ {s : Spelling} {l : List Entry} {f : Bool} (e : s ≡ texts l f) (rest : List Entry → Spelling) {b : Arena} {to : ℕ} {r : Finished} (q : FinishedAt b to (rest l) r) where
-  pub then-into : (k : ℕ) (g h : Bool) → r ≡ finished.Into k g → h ≡ pick f true g → FinishedAt b to (then s rest) (finished.Into k h)
-  unfolding FinalKept textsBy then raised
-  then-into k g h p u = record { kept = finished-set q k g p; is = rw (e, finished-texts q k g p, u) }
+-- a pass, and the next with the flag of both
+raised-is : (f : Bool) (r : Finished) (b : Arena) (to : ℕ) → textsBy (raisedBy f r) b to ≡ raised f (textsBy r b to)
+unfolding raisedBy textsBy raised
+raised-is f (finished.Into k flag) b to = refl
+raised-is f finished.TooLong b to = refl
+raised-is f finished.TooMany b to = refl
 
-  pub then-long : r ≡ finished.TooLong → FinishedAt b to (then s rest) finished.TooLong
-  unfolding FinalKept textsBy then raised
-  then-long p = record { kept = tt; is = rw (e, finished-long q p) }
+raised-kept : (f : Bool) (r : Finished) (b : Arena) (to : ℕ) → FinalKept r b to → FinalKept (raisedBy f r) b to
+unfolding raisedBy FinalKept
+raised-kept f (finished.Into k flag) b to q = q
+raised-kept f finished.TooLong b to q = q
+raised-kept f finished.TooMany b to q = q
 
-  pub then-many : r ≡ finished.TooMany → FinishedAt b to (then s rest) finished.TooMany
-  unfolding FinalKept textsBy then raised
-  then-many p = record { kept = tt; is = rw (e, finished-many q p) }
+pub raised-into : (f : Bool) (q : Finished) (k : ℕ) (g h : Bool) → q ≡ finished.Into k g → h ≡ pick f true g → finished.Into k h ≡ raisedBy f q
+unfolding raisedBy
+raised-into f q k g h e u = rw (e, u)
 
-module _ {s : Spelling} (rest : List Entry → Spelling) (b : Arena) (to : ℕ) where
+pub then-raised : {s : Spelling} {l : List Entry} {f : Bool} → s ≡ texts l f → (rest : List Entry → Spelling) (b : Arena) (to : ℕ) (q r : Finished) → FinishedAt b to (rest l) q
+    → r ≡ raisedBy f q → FinishedAt b to (then s rest) r
+unfolding then
+then-raised {f = f} e rest b to q r p u = record {
+  rooms = p .rooms;
+  kept = rw u (raised-kept f q b to (p .kept));
+  is = rw (u, e, raised-is f q b to, p .is);
+}
+
+module _ {s : Spelling} (rest : List Entry → Spelling) (b : Arena) (to : ℕ) (rooms : Rooms b) where
   pub first-long : s ≡ refusal 7 → FinishedAt b to (then s rest) finished.TooLong
   unfolding FinalKept textsBy then
-  first-long e = record { kept = tt; is = rw e }
+  first-long e = record { rooms = rooms; kept = tt; is = rw e }
 
   pub first-many : s ≡ refusal 8 → FinishedAt b to (then s rest) finished.TooMany
   unfolding FinalKept textsBy then
-  first-many e = record { kept = tt; is = rw e }
+  first-many e = record { rooms = rooms; kept = tt; is = rw e }
 
 -- ---- a word: the sets that its passes work in
 

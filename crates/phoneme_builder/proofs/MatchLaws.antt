@@ -2,7 +2,7 @@
 use mathlib.Core.Path.{_≡_, refl, sym, ap, subst, _∙_}
 use mathlib.Core.Bool.{Bool, true, false}
 use mathlib.Core.List.{List, []}
-use Prim.Native.Nat.{ℕ, _+_, _-_, _≤_, _<_, max}
+use Prim.Native.Nat.{ℕ, _+_, _-_, _%_, _≤_, _<_, max}
 use native.Mathlib.Omega.{arith}
 use lib.ListN.{length, getD, take, drop, length-take, length-drop}
 use mir.Syntax.{w8}
@@ -13,38 +13,41 @@ use Rattle.letters.specs.declared.utf8.Step.{Step}
 use Rattle.letters.specs.declared.utf8.Step.the-variants.{Char, Ill, End}
 use Rattle.letters.proofs.Utf8Laws.{char-at}
 use Rattle.rule.specs.Matching.{ruleMatches}
-use Rattle.rule.proofs.Laws.{match-end}
+use Rattle.phonemes.proofs.Laws.{match-end}
 use Rattle.pack.specs.Packs.{Rule, readRule}
-use Rattle.pack.specs.Places.{ruleAt, ruleCount, listAt}
+use Rattle.pack.specs.Places.{ruleAt}
 use Rattle.pack.specs.Guessing.{readSome}
 use Rattle.pack.specs.declared.rules.RuleAt.{RuleAt}
 use Rattle.pack.specs.declared.rules.RuleAt.the-variants as rules
-use Rattle.pack.proofs.RuleLaws.{RuleIs, rule-is, rule-cut, pattern-order, pattern-fits, left-order, left-fits, right-order, right-fits}
+use Rattle.pack.proofs.RuleLaws.{RuleIs, rule-is, rule-cut, pattern-fits}
 use Rattle.pack.proofs.GuessLaws.{some-one}
-use Rattle.pack.proofs.Laws.{short-rule, rules-start, rules-cut, rules-done}
+use Rattle.pack.proofs.Laws.{short-rule, rules-cut, rules-done}
 use Rattle.phoneme_builder.specs.Passes.{Match, none, by, firstMatch, bytesOf}
 use Rattle.phoneme_builder.specs.Walks.{RuleIn, MatchIs, StepIn}
+use Rattle.phoneme_builder.specs.Tables.{entryFor, tried, matcher}
 use Rattle.phoneme_builder.specs.declared.matching.Matched.{Matched}
 use Rattle.phoneme_builder.specs.declared.matching.Matched.the-variants.{By, Nothing}
 
 -- `count` rules are left from `at` on, and none before them matched
-pub record Finding (s word : List ℕ) (place list at count : ℕ) : Type 0 where
+pub record Finding (s word : List ℕ) (place : ℕ) (m : Match) (at count : ℕ) : Type 0 where
   pub bytes : (i : ℕ) → Fits w8 (getD s i 0)
-  pub is : firstMatch (listAt s list) word place ≡ firstMatch (readSome readRule count (drop at s)) word place
+  pub is : m ≡ firstMatch (readSome readRule count (drop at s)) word place
 
-pub finding-start : (s word : List ℕ) (place list count : ℕ) → ((i : ℕ) → Fits w8 (getD s i 0)) → count ≡ ruleCount s list → Finding s word place list (list + 2) count
-finding-start s word place list count b e = record { bytes = b; is = ap (λ (l : List Rule). firstMatch l word place) (rules-start s list count e) }
+pub finding-start : (s table word : List ℕ) (place list k at count : ℕ) → ((i : ℕ) → Fits w8 (getD s i 0)) → k ≡ entryFor list (getD word place 0)
+    → at ≡ getD table k 0 → count ≡ getD table (k + 64) 0 % 65536 → Finding s word place (matcher s table list word place) at count
+unfolding matcher tried
+finding-start s table word place list k at count b ek ea ec = record { bytes = b; is = rw (ea, ec, ek) refl }
 
-module _ {s word : List ℕ} {place list at count : ℕ} (w : Finding s word place list at count) where
-  nothing-left : readSome readRule count (drop at s) ≡ [] → MatchIs s word place (firstMatch (listAt s list) word place) Nothing
+module _ {s word : List ℕ} {place at count : ℕ} {m : Match} (w : Finding s word place m at count) where
+  nothing-left : readSome readRule count (drop at s) ≡ [] → MatchIs s word place m Nothing
   unfolding firstMatch MatchIs
   nothing-left e = subst (λ (m : Match). MatchIs s word place m Nothing) (sym (w .is ∙ ap (λ (l : List Rule). firstMatch l word place) e)) tt
 
-  pub finding-done : count ≤ 0 → MatchIs s word place (firstMatch (listAt s list) word place) Nothing
+  pub finding-done : count ≤ 0 → MatchIs s word place m Nothing
   finding-done h = nothing-left (rules-done count _ h)
 
   module _ (x : RuleAt) (o : x ≡ ruleAt s at) where
-    pub finding-cut : x ≡ rules.Cut → MatchIs s word place (firstMatch (listAt s list) word place) Nothing
+    pub finding-cut : x ≡ rules.Cut → MatchIs s word place m Nothing
     finding-cut q = nothing-left (rules-cut count _ (rule-cut s at x o q))
 
     module _ (a b c d e f g h : ℕ) (q : x ≡ rules.At a b c d e f g h) (n : 0 < count) (t : Bool)
@@ -55,16 +58,16 @@ module _ {s word : List ℕ} {place list at count : ℕ} (w : Finding s word pla
       test : t ≡ ruleMatches (here .value .pattern) (here .value .left) (here .value .right) word place
       test = k ∙ (λ i. ruleMatches (here .pattern i) (here .left i) (here .right i) word place)
 
-      tested : firstMatch (listAt s list) word place ≡ pick t (by (here .value)) (firstMatch (readSome readRule (count - 1) (drop h s)) word place)
+      tested : m ≡ pick t (by (here .value)) (firstMatch (readSome readRule (count - 1) (drop h s)) word place)
       unfolding firstMatch
       tested =
           w .is ∙ ap (λ (l : List Rule). firstMatch l word place) (some-one readRule count _ _ _ n (here .reads))
           ∙ ap (λ (u : Bool). pick u (by (here .value)) (firstMatch (readSome readRule (count - 1) (drop h s)) word place)) (sym test)
 
-      pub finding-next : t ≡ false → Finding s word place list h (count - 1)
+      pub finding-next : t ≡ false → Finding s word place m h (count - 1)
       finding-next z = record { bytes = w .bytes; is = tested ∙ pick-false _ _ _ z }
 
-      pub finding-found : (step : ℕ) → t ≡ true → place < length word → step ≡ max 1 (b - a) → MatchIs s word place (firstMatch (listAt s list) word place) (By step g h)
+      pub finding-found : (step : ℕ) → t ≡ true → place < length word → step ≡ max 1 (b - a) → MatchIs s word place m (By step g h)
       unfolding MatchIs
       finding-found step z l y =
           let v = here in
@@ -78,8 +81,6 @@ module _ {s word : List ℕ} {place list at count : ℕ} (w : Finding s word pla
             expression = v .expression;
             short = omega (arith, long, short-rule s at (v .value) _ (λ i. omega (arith, w .bytes i)) (v .reads) .expression);
           })
-
-pub ruleset finding-laws = (finding-start, finding-done, finding-cut, finding-next, finding-found, pattern-order, pattern-fits, left-order, left-fits, right-order, right-fits)
 
 -- ---- what the answer tells a caller
 

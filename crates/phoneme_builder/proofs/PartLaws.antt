@@ -17,7 +17,7 @@ use Rattle.languages.specs.declared.sets.LanguageSet.the-variants.{Any}
 use Rattle.choices.specs.Texts.{Text}
 use Rattle.choices.specs.Apply.{Entry, insert, start}
 use Rattle.choices.specs.Choices.{Increasing}
-use Rattle.phoneme_builder.specs.Buffers.{entry, entryAt, entries, textAt, All<, RowIn, IsSet, SetIs, Room, part, Arena, arena, Rooms, entriesAt, SetAt, entryIn, Stayed, Only, TextIn, textIn, LangsIn, langsIn, BegunAt, CopiedIs, put}
+use Rattle.phoneme_builder.specs.Buffers.{entry, entryAt, entries, textAt, All<, RowIn, IsSet, SetIs, Room, part, Arena, arena, Rooms, entriesAt, SetAt, entryIn, Stayed, Only, TextIn, textIn, LangsIn, langsIn, GrownAt, CopiedIs, put}
 use Rattle.phoneme_builder.proofs.PutLaws.{put-there}
 use Rattle.phoneme_builder.proofs.Answers.{now-at, now-held-at, long-at, into-at, into-is-at, many-at}
 use Rattle.phoneme_builder.proofs.FindLaws.{getD-map-lt, order-long, slot-below, row-in}
@@ -55,13 +55,6 @@ empty-set r = record {
   long-langs = r .long-langs;
   codes = λ s h. absurd (not-suc-le-zero h);
 }
-
--- one empty text
-pub start-is : (store lens langs ord : List ℕ) (r g : ℕ) → SetIs store lens langs ord r (insert (entry [] (decoded g)) []) → SetIs store lens langs ord r (start (decoded g))
-unfolding insert
-start-is store lens langs ord r g q = q
-
-pub ruleset empty-laws = (empty-set, start-is)
 
 -- ---- one list of four parts
 
@@ -288,7 +281,7 @@ module _ {a : Arena} {k : ℕ} {s l g o : List ℕ} (r : Rooms a) (known : k < 4
   }
 
   -- and set k is in them
-  back-is : (P : List ℕ → List ℕ → List ℕ → List ℕ → Type 0) → P s l g o
+  pub back-is : (P : List ℕ → List ℕ → List ℕ → List ℕ → Type 0) → P s l g o
       → P (part 32896 k (spliced 32896 k (a .store) s)) (part 257 k (spliced 257 k (a .lens) l)) (part 257 k (spliced 257 k (a .langs) g)) (part 256 k (spliced 256 k (a .ord) o))
   back-is P p =
       rw (
@@ -307,8 +300,17 @@ module _ {a : Arena} {k : ℕ} {s l g o : List ℕ} (r : Rooms a) (known : k < 4
     unfolding entriesAt
     back-entries = back-is (λ (s′ l′ g′ o′ : List ℕ). entries s′ l′ g′ o′ n ≡ entries s l g o n) refl
 
-  pub begun : (n : ℕ) (x : LanguageSet) → SetIs s l g o n (start x) → BegunAt a (changed a k s l g o) k x n
-  begun n x q = record { set = back-set n (q .set); is = back-entries n ∙ q .is; others = back-only }
+  pub grown : (n m : ℕ) (e : Entry) → SetIs s l g o n (insert e (entriesLent a k m)) → GrownAt a (changed a k s l g o) k n (insert e (entriesAt a k m))
+  grown n m e q = record { rooms = back-rooms; set = back-set n (q .set); is = back-entries n ∙ q .is ∙ ap (insert e) (lent-entries a k m); others = back-only }
+
+-- into no texts
+pub begun : (a b : Arena) (k n : ℕ) (x : LanguageSet) → GrownAt a b k n (insert (entry ([] ++ []) x) (entriesAt a k 0)) → GrownAt a b k n (start x)
+unfolding insert
+begun a b k n x q = record { rooms = q .rooms; set = q .set; is = q .is ∙ ap (insert (entry [] x)) (none-entries a k); others = q .others }
+
+pub ruleset lend-laws = (lent-set, grown)
+
+pub ruleset begin-laws = (none-at, begun)
 
 -- ---- the functions that read a text
 
@@ -347,7 +349,7 @@ module _ {langs ord : List ℕ} {k i : ℕ} (t : LangsIn langs ord k i) (s : ℕ
   unfolding langsIn
   langs-is = rw (← langs-slot) (sym (part-at 257 k langs s langs-below))
 
-pub ruleset text-laws = (text-row, text-is, text-short, copied, langs-below, langs-is, begun)
+pub ruleset text-laws = (text-row, text-is, text-short, copied, langs-below, langs-is)
 
 -- ---- the texts of a set in order, each copied to a row, into another set
 
@@ -365,12 +367,11 @@ pub walk-start : {a : Arena} {from n to : ℕ} → Rooms a → SetAt a from n �
 walk-start r is h ne row long = record { rooms = r; source = is; texts = refl; known = h; apart = ne; others = only-refl _ _ _; long-row = long }
 
 module _ {a b : Arena} {from n to : ℕ} {row : List ℕ} (w : Walk a from n to b row) where
-  pub walk-next : {s l g o : List ℕ} → Back b to s l g o → (row′ : List ℕ) → length row′ ≡ 128 → Walk a from n to (changed b to s l g o) row′
-  walk-next back row′ long =
-      let only : Only to to b _ = back-only (w .rooms) (w .known) back in
-      let stay : Stayed b _ from = only-stay _ _ _ _ only from (w .source .known) (w .apart) (w .apart) in
+  pub walk-next : (c : Arena) → Rooms c → Only to to b c → (row′ : List ℕ) → length row′ ≡ 128 → Walk a from n to c row′
+  walk-next c r only row′ long =
+      let stay : Stayed b c from = only-stay _ _ _ _ only from (w .source .known) (w .apart) (w .apart) in
       record {
-        rooms = back-rooms (w .rooms) (w .known) back;
+        rooms = r;
         source = stayed-set stay (w .source);
         texts = stayed-entries stay n ∙ w .texts;
         known = w .known;
@@ -394,5 +395,7 @@ module _ {a b : Arena} {from n to : ℕ} {row : List ℕ} (w : Walk a from n to 
       pub walk-text : (row′ : List ℕ) (e : ℕ) → CopiedIs (textIn (b .store) (b .lens) (b .ord) from i) row′ e
           → drop i (entriesAt a from n) ≡ entry (take (e - 0) row′) (decoded x) ∷ drop (i + 1) (entriesAt a from n)
       walk-text row′ e c = rw (sub-zero, ← w .texts, entries-from (w .source) i h, entry-in b from i, ← c .text, ← ex)
+
+pub ruleset walk-laws = (walk-text-in, walk-langs-in, walk-code)
 
 pub ruleset arena-laws = (stayed-set, stayed-entries, stayed-entry, stayed-refl, stayed-trans, only-refl, only-stay, only-trans, only-left, only-right, none-at, none-entries, few-at, length-at, entries-from, entry-in, text-in, langs-in, code-in, now-at, now-held-at, long-at, into-at, into-is-at, many-at)

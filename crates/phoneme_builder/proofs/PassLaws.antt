@@ -15,9 +15,9 @@ use Rattle.pack.specs.Packs.{Rule}
 use Rattle.choices.specs.Texts.{Text}
 use Rattle.choices.specs.Apply.{Alternative, Entry, Outcome, refused, held, apply}
 use Rattle.phoneme_builder.specs.Sets.{appended}
-use Rattle.phoneme_builder.specs.Buffers.{alternatives, Arena, SetAt, entriesAt, Stayed, Only, AppliedAt}
-use Rattle.phoneme_builder.specs.Passes.{offered, Match, none, by, firstMatch, bytesOf, Turn, rule, letter, turnOn, turnsFrom, turnsOf, Ran, tooLong, ran, flagged, applied, after, unmatched, run}
-use Rattle.phoneme_builder.specs.Walks.{RuleIn, TablesAre, StepIn, turnedBy, TurnKept, TurnedAt, passedBy, PassKept, PassedAt}
+use Rattle.phoneme_builder.specs.Buffers.{alternatives, Arena, Rooms, SetAt, entriesAt, Stayed, Only, AppliedAt}
+use Rattle.phoneme_builder.specs.Passes.{offered, Match, none, by, Matcher, bytesOf, Turn, rule, letter, turnOn, turnsFrom, turnsOf, Ran, tooLong, ran, flagged, applied, after, unmatched, run}
+use Rattle.phoneme_builder.specs.Walks.{RuleIn, AltsAre, StepIn, turnedBy, TurnKept, TurnedAt, passedBy, PassKept, PassedAt}
 use Rattle.phoneme_builder.specs.declared.apply.Applied.{Applied}
 use Rattle.phoneme_builder.specs.declared.apply.Applied.the-variants.{Now, TooLong}
 use Rattle.phoneme_builder.specs.declared.pass.Turned.{Turned}
@@ -57,9 +57,9 @@ flagged-long f = refl
 
 -- ---- a rule applied
 
-pub rule-applied : (a b : Arena) (to limit : ℕ) (r : Applied) (l : List Entry) (names e starts ends sets : List ℕ) (m : ℕ) → TablesAre names e starts ends sets m
-    → AppliedAt a b to r (apply limit (alternatives e starts ends sets m) l) → AppliedAt a b to r (apply limit (offered names e) l)
-rule-applied a b to limit r l names e starts ends sets m t d = subst (λ (alts : List Alternative). AppliedAt a b to r (apply limit alts l)) (t .are) d
+pub rule-applied : (a b : Arena) (to limit : ℕ) (r : Applied) (l : List Entry) (names e alts : List ℕ) (m : ℕ) → AltsAre names e alts m
+    → AppliedAt a b to r (apply limit (alternatives e alts m) l) → AppliedAt a b to r (apply limit (offered names e) l)
+rule-applied a b to limit r l names e alts m t d = subst (λ (alts : List Alternative). AppliedAt a b to r (apply limit alts l)) (t .are) d
 
 -- ---- an unmatched character
 
@@ -68,15 +68,16 @@ module _ (a : Arena) (limit from n to : ℕ) (word : Text) (place step : ℕ) (e
   unfolding turnOn
   letter-turn rest = ap (λ (k : ℕ). letter (take k (drop place word)) ∷ rest (place + k)) (sym e)
 
-  pub letter-kept : (last : Bool) → last ≡ false → TurnedAt a a last limit from n to word place (turnOn [] none word place) (turned.Kept step)
+  pub letter-kept : Rooms a → (last : Bool) → last ≡ false → TurnedAt a a last limit from n to word place (turnOn [] none word place) (turned.Kept step)
   unfolding TurnKept turnedBy run after unmatched
-  letter-kept last f = record {
+  letter-kept rooms last f = record {
+    rooms = rooms;
     kept = (refl, w);
     is = λ rest. rw (letter-turn rest, f);
     others = only-refl to to a;
   }
 
-  module _ (b : Arena) (last : Bool) (f : last ≡ true) (h : to < 4) (end : ℕ) (g : end ≡ place + step) (r : Applied)
+  module _ (b : Arena) (last : Bool) (f : last ≡ true) (end : ℕ) (g : end ≡ place + step) (r : Applied)
       (d : AppliedAt a b to r (appended (take (end - place) (drop place word)) (entriesAt a from n))) where
     part-is : end - place ≡ step
     part-is = omega (arith, g)
@@ -91,14 +92,15 @@ module _ (a : Arena) (limit from n to : ℕ) (word : Text) (place step : ℕ) (e
     pub letter-into : (k : ℕ) → r ≡ Now k → TurnedAt a b last limit from n to word place (turnOn [] none word place) (turned.Into k step false)
     unfolding TurnKept turnedBy after
     letter-into k q = record {
-      kept = (now-at d h k q, w);
+      rooms = d .rooms;
+      kept = (now-at d k q, w);
       is = λ rest. flagged-down _ ∙ run-is rest _ (now-held-at d k q);
       others = d .others;
     }
 
     pub letter-long : r ≡ TooLong → TurnedAt a b last limit from n to word place (turnOn [] none word place) turned.TooLong
     unfolding TurnKept turnedBy after
-    letter-long q = record { kept = tt; is = λ rest. run-is rest _ (long-at d q); others = d .others }
+    letter-long q = record { rooms = d .rooms; kept = tt; is = λ rest. run-is rest _ (long-at d q); others = d .others }
 
 pub ruleset letter-laws = (letter-kept, letter-into, letter-long)
 
@@ -113,7 +115,7 @@ module _ (a b : Arena) (last : Bool) (limit from n to : ℕ) (names : List ℕ) 
   unfolding turnOn
   turn-letter r e t = rw e t
 
-  module _ (s : List ℕ) (step start end : ℕ) (q : Matching s word place m step start end) (h : to < 4) (r : Applied)
+  module _ (s : List ℕ) (step start end : ℕ) (q : Matching s word place m step start end) (r : Applied)
       (d : AppliedAt a b to r (apply limit (offered names (take (end - start) (drop start s))) (entriesAt a from n))) where
     rule-step : StepIn word place step
     rule-step = record { some = omega (arith, q .placed .passes); within = q .placed .within }
@@ -129,8 +131,9 @@ module _ (a b : Arena) (last : Bool) (limit from n to : ℕ) (names : List ℕ) 
     pub turn-rule : (k : ℕ) → r ≡ Now k → TurnedAt a b last limit from n to word place (turnOn names m word place) (turned.Into k step (leb limit k))
     unfolding TurnKept turnedBy applied
     turn-rule k e =
-        let set = now-at d h k e in
+        let set = now-at d k e in
         record {
+          rooms = d .rooms;
           kept = (set, rule-step);
           is = λ rest. ap (λ (c : ℕ). flagged (leb limit c) (run last limit (rest (place + step)) (entriesAt b to k))) (sym (length-at set))
               ∙ rule-run rest _ (now-held-at d k e);
@@ -139,7 +142,7 @@ module _ (a b : Arena) (last : Bool) (limit from n to : ℕ) (names : List ℕ) 
 
     pub turn-long : r ≡ TooLong → TurnedAt a b last limit from n to word place (turnOn names m word place) turned.TooLong
     unfolding TurnKept turnedBy applied
-    turn-long e = record { kept = tt; is = λ rest. rule-run rest _ (long-at d e); others = d .others }
+    turn-long e = record { rooms = d .rooms; kept = tt; is = λ rest. rule-run rest _ (long-at d e); others = d .others }
 
 pub ruleset turn-laws = (turn-letter, turn-rule, turn-long)
 
@@ -175,7 +178,8 @@ sides-only x y from to a b (inl (p, q)) o k h i j = o k h (λ e. j (e ∙ q)) (�
 sides-only x y from to a b (inr (p, q)) o k h i j = o k h (λ e. i (e ∙ q)) (λ e. i (e ∙ q))
 
 -- what the turns from here on come to is what all of them come to
-pub record Running (a₀ : Arena) (x y : ℕ) (last : Bool) (limit : ℕ) (names : List ℕ) (rules : List Rule) (word : Text) (o : Ran) (a : Arena) (from to n place : ℕ) (flag : Bool) : Type 0 where
+pub record Running (a₀ : Arena) (x y : ℕ) (last : Bool) (limit : ℕ) (names : List ℕ) (rules : Matcher) (word : Text) (o : Ran) (a : Arena) (from to n place : ℕ) (flag : Bool) : Type 0 where
+  pub rooms : Rooms a
   pub set : SetAt a from n
   pub sides : Sides x y from to
   pub others : Only x y a₀ a
@@ -183,10 +187,11 @@ pub record Running (a₀ : Arena) (x y : ℕ) (last : Bool) (limit : ℕ) (names
   pub enough : length word - place ≤ fuel
   pub left : flagged flag (run last limit (turnsFrom fuel names rules word place) (entriesAt a from n)) ≡ o
 
-pub running-start : (a : Arena) (x y : ℕ) (last : Bool) (limit : ℕ) (names : List ℕ) (rules : List Rule) (word : Text) (n : ℕ) → SetAt a x n
+pub running-start : (a : Arena) (x y : ℕ) (last : Bool) (limit : ℕ) (names : List ℕ) (rules : Matcher) (word : Text) (n : ℕ) → Rooms a → SetAt a x n
     → Running a x y last limit names rules word (run last limit (turnsOf names rules word) (entriesAt a x n)) a x y n 0 false
 unfolding Sides turnsOf
-running-start a x y last limit names rules word n s = record {
+running-start a x y last limit names rules word n r s = record {
+  rooms = r;
   set = s;
   sides = inl (refl, refl);
   others = only-refl x y a;
@@ -195,7 +200,7 @@ running-start a x y last limit names rules word n s = record {
   left = flagged-down _;
 }
 
-module _ {a₀ : Arena} {x y : ℕ} {last : Bool} {limit : ℕ} {names : List ℕ} {rules : List Rule} {word : Text} {o : Ran} {a : Arena} {from to n place : ℕ} {flag : Bool}
+module _ {a₀ : Arena} {x y : ℕ} {last : Bool} {limit : ℕ} {names : List ℕ} {rules : Matcher} {word : Text} {o : Ran} {a : Arena} {from to n place : ℕ} {flag : Bool}
     (v : Running a₀ x y last limit names rules word o a from to n place flag) where
   turns-end : (f : ℕ) → length word ≤ place → turnsFrom f names rules word place ≡ []
   unfolding turnsFrom
@@ -205,6 +210,7 @@ module _ {a₀ : Arena} {x y : ℕ} {last : Bool} {limit : ℕ} {names : List �
   pub running-end : length word ≤ place → PassedAt a₀ a x y o (passed.Now n from flag)
   unfolding passedBy PassKept run
   running-end h = record {
+    rooms = v .rooms;
     kept = (v .set, sides-from x y from to (v .sides));
     is = sym (flagged-end flag (entriesAt a from n)) ∙ (rw (turns-end (v .fuel) h) at (v .left));
     others = v .others;
@@ -217,7 +223,7 @@ module _ {a₀ : Arena} {x y : ℕ} {last : Bool} {limit : ℕ} {names : List �
   running-apart h = sides-apart x y from to (v .sides) h
 
   module _ (h : place < length word) (b : Arena) (r : Turned)
-      (t : TurnedAt a b last limit from n to word place (turnOn names (firstMatch rules word place) word place) r) where
+      (t : TurnedAt a b last limit from n to word place (turnOn names (rules word place) word place) r) where
     more : (f : ℕ) → length word - place ≤ f → (g : ℕ) × (suc g ≡ f)
     more zero k = let bad : ⊥ = omega (arith, k) in absurd bad
     more (suc g) k = (g, refl)
@@ -231,7 +237,7 @@ module _ {a₀ : Arena} {x y : ℕ} {last : Bool} {limit : ℕ} {names : List �
     on-here : flagged flag (turnedBy r last limit b from n to place (turnsFrom less names rules word)) ≡ o
     unfolding turnsFrom
     on-here =
-        let one : turnsFrom (suc less) names rules word place ≡ turnOn names (firstMatch rules word place) word place (turnsFrom less names rules word) =
+        let one : turnsFrom (suc less) names rules word place ≡ turnOn names (rules word place) word place (turnsFrom less names rules word) =
         pick-true _ _ _ (lt-ltb place (length word) h) in
         ap (flagged flag) (t .is (turnsFrom less names rules word)
         ∙ ap (λ (l : List Turn). run last limit l (entriesAt a from n)) (sym one ∙ ap (λ (f : ℕ). turnsFrom f names rules word place) less-is))
@@ -251,6 +257,7 @@ module _ {a₀ : Arena} {x y : ℕ} {last : Bool} {limit : ℕ} {names : List �
         let enough : length word - (place + step) ≤ less = omega (arith, kept .1 .some, kept .1 .within, less-is, v .enough) in
         let is : flagged flag (flagged full (run last limit (turnsFrom less names rules word (place + step)) (entriesAt b to k))) ≡ o = on _ e in
         record {
+          rooms = t .rooms;
           set = kept .0;
           sides = sides-flip x y from to (v .sides);
           others = only-on;
@@ -265,6 +272,7 @@ module _ {a₀ : Arena} {x y : ℕ} {last : Bool} {limit : ℕ} {names : List �
         let kept : (b ≡ a) × StepIn word place step = rw e at (t .kept) in
         let enough : length word - (place + step) ≤ less = omega (arith, kept .1 .some, kept .1 .within, less-is, v .enough) in
         record {
+          rooms = t .rooms;
           set = subst (λ (c : Arena). SetAt c from n) (sym (kept .0)) (v .set);
           sides = v .sides;
           others = only-on;
@@ -275,7 +283,7 @@ module _ {a₀ : Arena} {x y : ℕ} {last : Bool} {limit : ℕ} {names : List �
 
     pub running-long : r ≡ turned.TooLong → PassedAt a₀ b x y o passed.TooLong
     unfolding turnedBy passedBy PassKept
-    running-long e = record { kept = tt; is = sym (flagged-long flag) ∙ (on _ e); others = only-on }
+    running-long e = record { rooms = t .rooms; kept = tt; is = sym (flagged-long flag) ∙ (on _ e); others = only-on }
 
     pub running-step : (k step : ℕ) (full : Bool) → r ≡ turned.Into k step full → StepIn word place step
     unfolding TurnKept

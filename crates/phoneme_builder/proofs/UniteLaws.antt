@@ -20,7 +20,7 @@ use Rattle.languages.proofs.CodedLaws.{or-code, or-decoded}
 use Rattle.choices.specs.Texts.{Text}
 use Rattle.choices.specs.Apply.{Entry, texts, insert}
 use Rattle.phoneme_builder.specs.Sets.{Spelling, refusal, holds, remerged, united}
-use Rattle.phoneme_builder.specs.Buffers.{findL, insAt, entry, textAt, entryAt, textsOf, entries, RowIn, Held, IsSet, SetIs, Written, HeldBy, spellingBy, UnitedIs, Arena, Rooms, SetAt, entriesAt, UnitedAt, CopiedIs, textIn, langsIn}
+use Rattle.phoneme_builder.specs.Buffers.{findL, insAt, entry, textAt, entryAt, textsOf, entries, RowIn, Held, IsSet, SetIs, Written, HeldBy, spellingBy, UnitedIs, part, Arena, Rooms, SetAt, entriesAt, UnitedAt, CopiedIs, textIn, langsIn}
 use Rattle.phoneme_builder.specs.declared.set.Found.{Found}
 use Rattle.phoneme_builder.specs.declared.set.Found.the-variants.{At, Free}
 use Rattle.phoneme_builder.specs.declared.unite.United.{United}
@@ -28,7 +28,8 @@ use Rattle.phoneme_builder.specs.declared.unite.United.the-variants.{Int
 use Rattle.phoneme_builder.proofs.FindLaws.{texts-long, texts-at, slot-below}
 use Rattle.phoneme_builder.proofs.EnterLaws.{increasing-entries, told, enter-le, enter-free}
 use Rattle.phoneme_builder.proofs.AddLaws.{old-entries, write-held, write-set, write-row, new-text, new-entry, entered-is}
-use Rattle.phoneme_builder.proofs.PartLaws.{entries-long, length-at, entriesLent, lent-entries, changed, Back, back-set, back-entries, Walk, walk-start, walk-next, walk-text}
+use Rattle.phoneme_builder.proofs.PartLaws.{entries-long, length-at, entriesLent, lent-entries, changed, Back, back-rooms, back-only, back-is, lent-set, Walk, walk-start, walk-next, walk-text}
+use Rattle.phoneme_builder.proofs.Answers.{into-at}
 use Rattle.phoneme_builder.proofs.OrderLaws.{find-none, find-there, find-equal, at-lt, merge-slots}
 
 -- ---- what the three ways of a text are in the definition
@@ -192,31 +193,44 @@ module _ {z : LanguageSet} {a : Arena} {from nn to n : ℕ} {b : Arena} {row : L
   uniting-end h =
       let past : length (entriesAt a from nn) ≤ i = rw (← v .at .texts, length-at (v .at .source)) h in
       record {
+        rooms = v .at .rooms;
         done = record { kept = v .now-is .set; is = λ rest. rw (drop-of-length-le (entriesAt a from nn) past) at (v .left rest) };
         others = v .at .others;
       }
 
-  -- a turn: the text was copied, and set `to` came back
+  -- a turn: the text was copied, and united
   module _ (h : i < nn) {row′ : List ℕ} {e x : ℕ} (long : length row′ ≡ 128) (copy : CopiedIs (textIn (b .store) (b .lens) (b .ord) from i) row′ e)
-      (ex : x ≡ langsIn (b .langs) (b .ord) from i) {r : United} {s l g o : List ℕ}
-      (q : UnitedIs z (entry (take (e - 0) row′) (decoded x) ∷ []) (entriesLent b to k) r s l g o) (back : Back b to s l g o) where
+      (ex : x ≡ langsIn (b .langs) (b .ord) from i) {r : United} {c : Arena}
+      (q : UnitedAt b c to z (entry (take (e - 0) row′) (decoded x) ∷ []) (entriesAt b to k) r) where
     after : (rest : List Entry → Spelling)
-        → spellingBy r s l g o (λ (m : List Entry). united z (drop (i + 1) (entriesAt a from nn)) m rest) ≡ united z (entriesAt a from nn) (entriesAt a to n) rest
+        → spellingBy r (part 32896 to (c .store)) (part 257 to (c .lens)) (part 257 to (c .langs)) (part 256 to (c .ord)) (λ (m : List Entry). united z (drop (i + 1) (entriesAt a from nn)) m rest)
+        ≡ united z (entriesAt a from nn) (entriesAt a to n) rest
     after rest =
-        rw (← v .left rest, walk-text (v .at) i h x ex row′ e copy, ← lent-entries b to k)
-        (q .is (λ (m : List Entry). united z (drop (i + 1) (entriesAt a from nn)) m rest)
+        rw (← v .left rest, walk-text (v .at) i h x ex row′ e copy)
+        (q .done .is (λ (m : List Entry). united z (drop (i + 1) (entriesAt a from nn)) m rest)
         ∙ way-on z (entry (take (e - 0) row′) (decoded x)) _ rest (drop (i + 1) (entriesAt a from nn)))
 
-    pub uniting-next : (y : ℕ) → r ≡ Into y → Uniting z a from nn to n (changed b to s l g o) row′ y (i + 1)
-    unfolding HeldBy spellingBy
-    uniting-next y er = record {
-      at = walk-next (v .at) back row′ long;
-      now-is = back-set (v .at .rooms) (v .at .known) back y (rw er at (q .kept));
-      left = λ rest. rw (back-entries (v .at .rooms) (v .at .known) back y) (rw er at (after rest));
-    }
+    on-at : Walk a from nn to c row′
+    on-at = walk-next (v .at) c (q .rooms) (q .others) row′ long
 
-    pub uniting-full : r ≡ TooMany → UnitedAt a (changed b to s l g o) to z (entriesAt a from nn) (entriesAt a to n) TooMany
-    unfolding HeldBy spellingBy
-    uniting-full er = record { done = record { kept = tt; is = λ rest. rw er at (after rest) }; others = (walk-next (v .at) back row′ long) .others }
+    pub uniting-next : (y : ℕ) → r ≡ Into y → Uniting z a from nn to n c row′ y (i + 1)
+    unfolding spellingBy entriesAt
+    uniting-next y er = record { at = on-at; now-is = into-at q (v .now-is .known) y er; left = λ rest. rw er at (after rest) }
 
-pub ruleset uniting-laws = (uniting-start, uniting-end)
+    pub uniting-full : r ≡ TooMany → UnitedAt a c to z (entriesAt a from nn) (entriesAt a to n) TooMany
+    unfolding HeldBy spellingBy
+    uniting-full er = record { rooms = q .rooms; done = record { kept = tt; is = λ rest. rw er at (after rest) }; others = on-at .others }
+
+pub ruleset uniting-laws = (uniting-start, uniting-end, uniting-next, uniting-full)
+
+-- ---- set `to` lent
+
+pub united-to : {a : Arena} {to : ℕ} {s l g o : List ℕ} → Rooms a → to < 4 → Back a to s l g o → (n : ℕ) (z : LanguageSet) (xs : List Entry) (r : United)
+    → UnitedIs z xs (entriesLent a to n) r s l g o → UnitedAt a (changed a to s l g o) to z xs (entriesAt a to n) r
+united-to {a} {to} rooms known back n z xs r q = record {
+  rooms = back-rooms rooms known back;
+  done = back-is rooms known back (λ (s l g o : List ℕ). UnitedIs z xs (entriesAt a to n) r s l g o) (rw (lent-entries a to n) at q);
+  others = back-only rooms known back;
+}
+
+pub ruleset united-laws = (lent-set, united-to)

@@ -11,7 +11,7 @@ use mir.Val.{Val, Fits}
 use denote.Shadow.{shadow}
 use denote.Enum.Enum.{formOf}
 use denote.Enum.Declared.{shape}
-use borrow.Author.Tests.{eqb-true, leb-true, le-leb, lt-leb}
+use borrow.Author.Tests.{eqb-true, ltb-true, le-leb, lt-leb}
 use lib.Dec.{eqb, leb}
 use lib.ListN.{length, take, drop, set, length-set, length-append, drop-of-length-le}
 use lib.Seq.{sets, drop-cons, length-sets}
@@ -25,13 +25,13 @@ use Rattle.languages.specs.declared.sets.LanguageSet.the-variants.{Any, NoLangu
 use Rattle.languages.proofs.sets.LanguageSet.{the-type}
 use Rattle.languages.proofs.Laws.{any-below, none-below, mask-below}
 use Rattle.languages.proofs.CodedLaws.{decoded-coded, is-code}
-use Rattle.pack.specs.Packs.{Rule}
-use Rattle.rule.specs.Expressions.{bar}
+use Rattle.phonemes.specs.Expressions.{bar}
 use Rattle.choices.specs.Texts.{Text}
 use Rattle.phoneme_builder.specs.Sets.{Spelling, refusal, texts}
 use Rattle.phoneme_builder.specs.Buffers.{put, over, entryAt, part, Arena, arena, entriesAt, Rooms, TextIn, textIn}
-use Rattle.phoneme_builder.specs.Passes.{wordOf, joined}
-use Rattle.phoneme_builder.specs.Walks.{TableRoom, FinalKept, textsBy, FinishedAt, TextsIn, textsIn, barred, placed, GivenIs, areBuffers, areTables, arePlaces, spellings, Answer, done, refusedBy, unfit, answerOf, answered, placedAs, WordIs}
+use Rattle.phoneme_builder.specs.Passes.{Matcher, wordOf, joined}
+use Rattle.phoneme_builder.specs.Tables.{ListIn, areLists}
+use Rattle.phoneme_builder.specs.Walks.{FinalKept, textsBy, FinishedAt, TextsIn, textsIn, barred, placed, GivenIs, areBuffers, spellings, Answer, done, refusedBy, unfit, answerOf, answered, placedAs, WordIs}
 use Rattle.phoneme_builder.specs.declared.finals.Finished.{Finished}
 use Rattle.phoneme_builder.specs.declared.finals.Finished.the-variants as finished
 use Rattle.phoneme_builder.specs.declared.words.Worded.{Worded}
@@ -234,35 +234,35 @@ set-below (SomeLanguages x) vs p = mask-below 32 x (p .1 .1 .0 .1)
 
 -- what the tests tell
 module _ {b : Bool} (y : b ≡ true) where
-  sizes : {store lens langs ord : ℕ} → b ≡ areBuffers store lens langs ord → (store ≡ 131584) × (lens ≡ 1028) × (langs ≡ 1028) × (ord ≡ 1024)
+  sizes : {store lens langs ord alts : ℕ} → b ≡ areBuffers store lens langs ord alts
+      → (store ≡ 131584) × (lens ≡ 1028) × (langs ≡ 1028) × (ord ≡ 1024) × (alts ≡ 256)
   unfolding areBuffers
   sizes e =
       let u = and-inv _ _ (yes-by e y) in
       let v = and-inv _ _ (u .1) in
       let w = and-inv _ _ (v .1) in
-      (eqb-true _ _ (u .0), eqb-true _ _ (v .0), eqb-true _ _ (w .0), eqb-true _ _ (w .1))
+      let x = and-inv _ _ (w .1) in
+      (eqb-true _ _ (u .0), eqb-true _ _ (v .0), eqb-true _ _ (w .0), eqb-true _ _ (x .0), eqb-true _ _ (x .1))
 
-  pub rooms-by : (store lens langs ord : List ℕ) → b ≡ areBuffers (length store) (length lens) (length langs) (length ord) → Rooms (arena store lens langs ord)
-  rooms-by store lens langs ord e =
+  pub rooms-by : (store lens langs ord : List ℕ) (alts : ℕ) → b ≡ areBuffers (length store) (length lens) (length langs) (length ord) alts
+      → Rooms (arena store lens langs ord)
+  rooms-by store lens langs ord alts e =
       record { long-store = sizes e .0; long-lens = sizes e .1; long-langs = sizes e .2; long-ord = sizes e .3 }
 
-  pub tables-by : (starts ends sets : List ℕ) → b ≡ areTables (length starts) (length ends) (length sets) → TableRoom starts ends sets
-  unfolding areTables
-  tables-by starts ends sets e =
+  pub alts-by : (store lens langs ord : ℕ) {alts : ℕ} → b ≡ areBuffers store lens langs ord alts → alts ≡ 256
+  alts-by store lens langs ord e = sizes e .4
+
+  pub lists-by : (table : List ℕ) {main common last : ℕ} → b ≡ areLists (length table) main common last → ListIn table main × ListIn table common × ListIn table last
+  unfolding areLists
+  lists-by table e =
       let u = and-inv _ _ (yes-by e y) in
       let v = and-inv _ _ (u .1) in
-      record { long-starts = eqb-true _ _ (u .0); long-ends = eqb-true _ _ (v .0); long-sets = eqb-true _ _ (v .1) }
+      let w = and-inv _ _ (v .1) in
+      let long : length table ≡ 12642 = eqb-true _ _ (u .0) in
+      (record { long = long; known = ltb-true _ _ (v .0) }, record { long = long; known = ltb-true _ _ (w .0) }, record { long = long; known = ltb-true _ _ (w .1) })
 
-  pub places-by : {pack main common last : ℕ} → b ≡ arePlaces pack main common last → (main ≤ pack) × (common ≤ pack) × (last ≤ pack)
-  unfolding arePlaces
-  places-by e =
-      let u = and-inv _ _ (yes-by e y) in
-      let v = and-inv _ _ (u .1) in
-      (leb-true _ _ (u .0), leb-true _ _ (v .0), leb-true _ _ (v .1))
-
-pub all-fit : {limit : ℕ} {b t p b′ t′ p′ : Bool} → limit ≤ 256 → b′ ≡ b → b′ ≡ true → t′ ≡ t → t′ ≡ true → p′ ≡ p → p′ ≡ true
-    → and (leb limit 256) (and b (and t p)) ≡ true
-all-fit h eb yb et yt ep yp = and-yes _ _ (le-leb _ _ h) (and-yes _ _ (yes-by eb yb) (and-yes _ _ (yes-by et yt) (yes-by ep yp)))
+pub all-fit : {limit : ℕ} {b p b′ p′ : Bool} → limit ≤ 256 → b′ ≡ b → b′ ≡ true → p′ ≡ p → p′ ≡ true → and (leb limit 256) (and b p) ≡ true
+all-fit h eb yb ep yp = and-yes _ _ (le-leb _ _ h) (and-yes _ _ (yes-by eb yb) (yes-by ep yp))
 
 pub word-unfit : {fit : Bool} {s : Spelling} {out : List ℕ} {at : ℕ} → false ≡ fit → WordIs fit s out out at worded.Unfit
 unfolding answerOf
@@ -281,16 +281,16 @@ module _ (set : LanguageSet) (below : BitsBelow 32 set) (g : ℕ) (e : g ≡ cod
   pub code-by : IsCode g
   code-by = rw e (is-code set below)
 
-  pub of-set : (limit : ℕ) (names : List ℕ) (main common last : List Rule) (word : Text) {b : Arena} {r : Finished}
+  pub of-set : (limit : ℕ) (names : List ℕ) (main common last : Matcher) (word : Text) {b : Arena} {r : Finished}
       → FinishedAt b 0 (wordOf limit names main common last (decoded g) word) r → FinishedAt b 0 (wordOf limit names main common last set word) r
   of-set limit names main common last word q = rw (e, decoded-coded set below) at q
 
 -- where `spell_word` answered
 module _ {store lens langs ord : List ℕ} {s : Spelling} {r : Finished} (q : FinishedAt (arena store lens langs ord) 0 s r) where
   module _ {k : ℕ} {flag : Bool} (e : r ≡ finished.Into k flag) where
-    pub texts-in : {b : Bool} {s₀ l₀ o₀ : ℕ} (g₀ : ℕ) → b ≡ true → b ≡ areBuffers s₀ l₀ g₀ o₀ → length store ≡ s₀ → length lens ≡ l₀ → length ord ≡ o₀ → TextsIn store lens ord k
+    pub texts-in : {b : Bool} {s₀ l₀ o₀ : ℕ} (g₀ a₀ : ℕ) → b ≡ true → b ≡ areBuffers s₀ l₀ g₀ o₀ a₀ → length store ≡ s₀ → length lens ≡ l₀ → length ord ≡ o₀ → TextsIn store lens ord k
     unfolding FinalKept
-    texts-in g₀ y eb es el eo = record {
+    texts-in g₀ a₀ y eb es el eo = record {
       long-store = es ∙ sizes y eb .0;
       long-lens = el ∙ sizes y eb .1;
       long-ord = eo ∙ sizes y eb .3;

@@ -1,6 +1,6 @@
 -- The list of texts that lent buffers hold: rows of 128 bytes at slots, their lengths and languages, and the slots in the order of the texts.
 -- A text that may enter is first written into the free slot behind the others, so there is one slot more than texts.
-use Prim.Native.Nat.{ℕ, zero, suc, _+_, _-_, _*_, _≤_, _<_}
+use Prim.Native.Nat.{ℕ, zero, suc, _+_, _-_, _*_, _/_, _%_, _≤_, _<_}
 use mathlib.Core.Path.{_≡_}
 use mathlib.Core.List.{List, [], _∷_, _++_, map}
 use lib.ListN.{length, take, drop, getD, set}
@@ -8,7 +8,7 @@ use Rattle.letters.specs.Order.{orderOf}
 use Rattle.languages.specs.Coded.{decoded, IsCode}
 use Rattle.languages.specs.declared.sets.LanguageSet.{LanguageSet}
 use Rattle.choices.specs.Texts.{Text, byOrder}
-use Rattle.choices.specs.Apply.{Alternative, Entry, Outcome, refused, held, insert, enter, start}
+use Rattle.choices.specs.Apply.{Alternative, Entry, Outcome, refused, held, insert, enter}
 use Rattle.choices.specs.Choices.{Increasing}
 use Rattle.phoneme_builder.specs.Sets.{Spelling, refusal, united}
 use Rattle.phoneme_builder.specs.declared.set.Found.{Found}
@@ -171,50 +171,62 @@ Only x y a b = (k : ℕ) → k < 4 → (k ≡ x → ⊥) → (k ≡ y → ⊥) �
 
 -- ---- apply
 
--- the alternative j of an expression's tables, and k of them from j on
-unfoldable pub altAt : List ℕ → List ℕ → List ℕ → List ℕ → ℕ → Alternative
-altAt expr starts ends sets j =
-    record { text = take (getD ends j 0 - getD starts j 0) (drop (getD starts j 0) expr); langs = decoded (getD sets j 0) }
+-- an alternative as one number: its languages, where it starts in the expression and where it ends
+abbrev pub startOf : ℕ → ℕ
+startOf x = x / 256 % 256
 
-unfoldable pub altsFrom : List ℕ → List ℕ → List ℕ → List ℕ → ℕ → ℕ → List Alternative
-altsFrom expr starts ends sets j zero = []
-altsFrom expr starts ends sets j (suc k) = altAt expr starts ends sets j ∷ altsFrom expr starts ends sets (suc j) k
+abbrev pub endOf : ℕ → ℕ
+endOf x = x % 256
 
-abbrev pub alternatives : List ℕ → List ℕ → List ℕ → List ℕ → ℕ → List Alternative
-alternatives expr starts ends sets m = altsFrom expr starts ends sets 0 m
+abbrev pub langsOf : ℕ → ℕ
+langsOf x = x / 65536
 
--- the tables hold m alternatives, each a part of the expression
-pub record AltsIn (expr starts ends sets : List ℕ) (m : ℕ) : Type 0 where
-  pub long-starts : m ≤ length starts
-  pub long-ends : m ≤ length ends
-  pub long-sets : m ≤ length sets
-  pub start-in : (j : ℕ) → j < m → getD starts j 0 ≤ getD ends j 0
-  pub end-in : (j : ℕ) → j < m → getD ends j 0 ≤ length expr
-  pub codes : (j : ℕ) → j < m → IsCode (getD sets j 0)
+-- the alternative of number j of an expression's table, and k of them from j on
+unfoldable pub altAt : List ℕ → List ℕ → ℕ → Alternative
+altAt expr alts j =
+    let x = getD alts j 0 in
+    record { text = take (endOf x - startOf x) (drop (startOf x) expr); langs = decoded (langsOf x) }
 
--- what an answer says of the set: the buffers hold one, or a text was too long (01, the table, 7)
-unfoldable pub KeptBy : Applied → List ℕ → List ℕ → List ℕ → List ℕ → Type 0
-KeptBy (Now k) store lens langs ord = IsSet store lens langs ord k
-KeptBy TooLong store lens langs ord = Unit {0}
+unfoldable pub altsFrom : List ℕ → List ℕ → ℕ → ℕ → List Alternative
+altsFrom expr alts j zero = []
+altsFrom expr alts j (suc k) = altAt expr alts j ∷ altsFrom expr alts (suc j) k
 
-unfoldable pub outcomeBy : Applied → List ℕ → List ℕ → List ℕ → List ℕ → (List Entry → Outcome) → Outcome
-outcomeBy (Now k) store lens langs ord rest = rest (entries store lens langs ord k)
-outcomeBy TooLong store lens langs ord rest = refused
+abbrev pub alternatives : List ℕ → List ℕ → ℕ → List Alternative
+alternatives expr alts m = altsFrom expr alts 0 m
 
--- the answer is the outcome o
-pub record AppliedIs (r : Applied) (store lens langs ord : List ℕ) (o : Outcome) : Type 0 where
-  pub kept : KeptBy r store lens langs ord
-  pub is : outcomeBy r store lens langs ord held ≡ o
+-- a number that is an alternative of the expression
+pub record AltIn (expr : List ℕ) (x : ℕ) : Type 0 where
+  pub start-in : startOf x ≤ endOf x
+  pub end-in : endOf x ≤ length expr
+  pub code : IsCode (langsOf x)
 
--- the same of set `to` of an arena, of which no other set changed
+-- the table holds m alternatives, each a part of the expression
+pub record AltsIn (expr alts : List ℕ) (m : ℕ) : Type 0 where
+  pub long : m ≤ length alts
+  pub each : (j : ℕ) → j < m → AltIn expr (getD alts j 0)
+
+-- what an answer says of set `to`: it is one, or a text was too long (01, the table, 7)
+unfoldable pub KeptBy : Applied → Arena → ℕ → Type 0
+KeptBy (Now k) b to = SetAt b to k
+KeptBy TooLong b to = Unit {0}
+
+unfoldable pub outcomeBy : Applied → Arena → ℕ → (List Entry → Outcome) → Outcome
+outcomeBy (Now k) b to rest = rest (entriesAt b to k)
+outcomeBy TooLong b to rest = refused
+
+-- the answer is the outcome o, and no set but `to` changed
 pub record AppliedAt (a b : Arena) (to : ℕ) (r : Applied) (o : Outcome) : Type 0 where
-  pub done : AppliedIs r (part 32896 to (b .store)) (part 257 to (b .lens)) (part 257 to (b .langs)) (part 256 to (b .ord)) o
+  pub rooms : Rooms b
+  pub kept : KeptBy r b to
+  pub is : outcomeBy r b to held ≡ o
   pub others : Only to to a b
 
 -- the candidates cs entered into l, whatever comes behind them
-pub record OfferedIs (limit : ℕ) (cs l : List Entry) (r : Applied) (store lens langs ord : List ℕ) : Type 0 where
-  pub kept : KeptBy r store lens langs ord
-  pub is : (rest : List Entry) → outcomeBy r store lens langs ord (enter limit rest) ≡ enter limit (cs ++ rest) l
+pub record OfferedAt (limit : ℕ) (cs l : List Entry) (a b : Arena) (to : ℕ) (r : Applied) : Type 0 where
+  pub rooms : Rooms b
+  pub kept : KeptBy r b to
+  pub is : (rest : List Entry) → outcomeBy r b to (enter limit rest) ≡ enter limit (cs ++ rest) l
+  pub others : Only to to a b
 
 -- ---- unite
 
@@ -232,6 +244,7 @@ pub record UnitedIs (g : LanguageSet) (xs l : List Entry) (r : United) (store le
   pub is : (rest : List Entry → Spelling) → spellingBy r store lens langs ord rest ≡ united g xs l rest
 
 pub record UnitedAt (a b : Arena) (to : ℕ) (g : LanguageSet) (xs l : List Entry) (r : United) : Type 0 where
+  pub rooms : Rooms b
   pub done : UnitedIs g xs l r (part 32896 to (b .store)) (part 257 to (b .lens)) (part 257 to (b .langs)) (part 256 to (b .ord))
   pub others : Only to to a b
 
@@ -260,9 +273,11 @@ pub record LangsIn (langs ord : List ℕ) (k i : ℕ) : Type 0 where
 unfoldable pub langsIn : List ℕ → List ℕ → ℕ → ℕ → ℕ
 langsIn langs ord k i = getD (part 257 k langs) (getD (part 256 k ord) i 0) 0
 
-pub record BegunAt (a b : Arena) (k : ℕ) (g : LanguageSet) (r : ℕ) : Type 0 where
+-- set k has the r entries l, and no other set changed
+pub record GrownAt (a b : Arena) (k r : ℕ) (l : List Entry) : Type 0 where
+  pub rooms : Rooms b
   pub set : SetAt b k r
-  pub is : entriesAt b k r ≡ start g
+  pub is : entriesAt b k r ≡ l
   pub others : Only k k a b
 
 -- the first r bytes of d are the text t

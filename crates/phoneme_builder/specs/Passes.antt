@@ -10,7 +10,7 @@ use Rattle.letters.specs.declared.utf8.Step.{Step}
 use Rattle.letters.specs.declared.utf8.Step.the-variants.{Char, Ill, End}
 use Rattle.languages.specs.declared.sets.LanguageSet.{LanguageSet}
 use Rattle.rule.specs.Matching.{ruleMatches}
-use Rattle.rule.specs.Expressions.{bar, piecesIn, textOf, setOf}
+use Rattle.phonemes.specs.Expressions.{bar, piecesIn, textOf, setOf}
 use Rattle.pack.specs.Packs.{Rule}
 use Rattle.choices.specs.Texts.{Text}
 use Rattle.choices.specs.Apply.{Alternative, Entry, Outcome, refused, held, apply, start}
@@ -26,8 +26,12 @@ pub data Match : Type 0 where
   none : Match
   by : Rule → Match
 
+-- which rule a list has for a place of a word
+abbrev pub Matcher : Type 0
+Matcher = Text → ℕ → Match
+
 -- "the first rule in its character's list that matches": a rule whose pattern stands there begins with that character
-unfoldable pub firstMatch : List Rule → Text → ℕ → Match
+unfoldable pub firstMatch : List Rule → Matcher
 firstMatch [] word place = none
 firstMatch (r ∷ rs) word place = pick (ruleMatches (r .pattern) (r .left) (r .right) word place) (by r) (firstMatch rs word place)
 
@@ -50,12 +54,12 @@ turnOn names none word place rest =
     letter (take (bytesOf (decodeAt word place)) (drop place word)) ∷ rest (place + bytesOf (decodeAt word place))
 
 -- a turn passes at least one byte, so a fuel of the length is enough
-unfoldable pub turnsFrom : ℕ → List ℕ → List Rule → Text → ℕ → List Turn
+unfoldable pub turnsFrom : ℕ → List ℕ → Matcher → Text → ℕ → List Turn
 turnsFrom zero names rules word place = []
 turnsFrom (suc f) names rules word place =
-    pick (ltb place (length word)) (turnOn names (firstMatch rules word place) word place (turnsFrom f names rules word)) []
+    pick (ltb place (length word)) (turnOn names (rules word place) word place (turnsFrom f names rules word)) []
 
-unfoldable pub turnsOf : List ℕ → List Rule → Text → List Turn
+unfoldable pub turnsOf : List ℕ → Matcher → Text → List Turn
 turnsOf names rules word = turnsFrom (length word) names rules word 0
 
 -- ---- running them
@@ -99,15 +103,15 @@ onRan g tooLong l rest = refusal 7
 onRan g (ran new flag) l rest = raised flag (united g new l rest)
 
 -- "each text is run the same way from its own set"
-unfoldable pub finalText : ℕ → List ℕ → List Rule → Entry → List Entry → (List Entry → Spelling) → Spelling
+unfoldable pub finalText : ℕ → List ℕ → Matcher → Entry → List Entry → (List Entry → Spelling) → Spelling
 finalText limit names rules e l rest = onRan (e .langs) (run true limit (turnsOf names rules (e .text)) (start (e .langs))) l rest
 
 -- the old texts in order; l is what they came to so far
-unfoldable pub finalFrom : ℕ → List ℕ → List Rule → List Entry → List Entry → Spelling
+unfoldable pub finalFrom : ℕ → List ℕ → Matcher → List Entry → List Entry → Spelling
 finalFrom limit names rules [] l = texts l false
 finalFrom limit names rules (e ∷ old) l = finalText limit names rules e l (finalFrom limit names rules old)
 
-unfoldable pub finalPass : ℕ → List ℕ → List Rule → List Entry → Spelling
+unfoldable pub finalPass : ℕ → List ℕ → Matcher → List Entry → Spelling
 finalPass limit names rules old = finalFrom limit names rules old []
 
 unfoldable pub then : Spelling → (List Entry → Spelling) → Spelling
@@ -119,7 +123,7 @@ mainOf tooLong = refusal 7
 mainOf (ran l flag) = texts l flag
 
 -- a word: the main pass "from one empty text with the set", then the final passes, common and then language
-unfoldable pub wordOf : ℕ → List ℕ → List Rule → List Rule → List Rule → LanguageSet → Text → Spelling
+unfoldable pub wordOf : ℕ → List ℕ → Matcher → Matcher → Matcher → LanguageSet → Text → Spelling
 wordOf limit names main common language set word =
     then (mainOf (run false limit (turnsOf names main word) (start set))) (λ l.
     then (finalPass limit names common l) (finalPass limit names language))

@@ -10,10 +10,10 @@ use Rattle.base.specs.Pick.{pick, and}
 use lib.ListN.{length, take, drop}
 use Rattle.languages.specs.declared.sets.LanguageSet.{LanguageSet}
 use Rattle.choices.specs.Texts.{Text}
-use Rattle.choices.specs.Apply.{Entry}
+use Rattle.choices.specs.Apply.{Entry, start}
 use Rattle.phoneme_builder.specs.Sets.{Spelling, refusal, texts}
 use Rattle.phoneme_builder.specs.Passes.{offered, Match, none, by, Turn, Ran, tooLong, ran, flagged, run, raised, onRan, joined}
-use Rattle.phoneme_builder.specs.Buffers.{AltsIn, alternatives, Held, textsOf, part, Arena, SetAt, entriesAt, textIn, Stayed, Only, CopiedIs, BegunAt}
+use Rattle.phoneme_builder.specs.Buffers.{AltsIn, alternatives, Held, textsOf, part, Arena, SetAt, entriesAt, textIn, Stayed, Only, CopiedIs, Rooms, GrownAt}
 use Rattle.phoneme_builder.specs.declared.pass.Turned.{Turned}
 use Rattle.phoneme_builder.specs.declared.pass.Turned.the-variants as turned
 use Rattle.phoneme_builder.specs.declared.pass.Passed.{Passed}
@@ -41,16 +41,10 @@ MatchIs s word place none Nothing = Unit {0}
 MatchIs s word place (by r) (By step start end) = RuleIn s word place r step start end
 MatchIs s word place (by r) Nothing = ⊥
 
--- the tables hold the alternatives of e
-pub record TablesAre (names e starts ends sets : List ℕ) (m : ℕ) : Type 0 where
-  pub parts : AltsIn e starts ends sets m
-  pub are : alternatives e starts ends sets m ≡ offered names e
-
--- room for an expression's alternatives, of which there are at most 256
-pub record TableRoom (starts ends sets : List ℕ) : Type 0 where
-  pub long-starts : length starts ≡ 256
-  pub long-ends : length ends ≡ 256
-  pub long-sets : length sets ≡ 256
+-- the table holds the alternatives of e
+pub record AltsAre (names e alts : List ℕ) (m : ℕ) : Type 0 where
+  pub parts : AltsIn e alts m
+  pub are : alternatives e alts m ≡ offered names e
 
 -- ---- a turn, from the n texts of set `from`: what the run then comes to, whatever turns follow
 
@@ -70,6 +64,7 @@ TurnKept (turned.Kept step) a b to word place = (b ≡ a) × StepIn word place s
 TurnKept turned.TooLong a b to word place = Unit {0}
 
 pub record TurnedAt (a b : Arena) (final : Bool) (limit from n to : ℕ) (word : Text) (place : ℕ) (turns : (ℕ → List Turn) → List Turn) (r : Turned) : Type 0 where
+  pub rooms : Rooms b
   pub kept : TurnKept r a b to word place
   pub is : (rest : ℕ → List Turn) → turnedBy r final limit b from n to place rest ≡ run final limit (turns rest) (entriesAt a from n)
   pub others : Only to to a b
@@ -85,6 +80,7 @@ PassKept (passed.Now k set flag) b x y = SetAt b set k × ((set ≡ x) ⊎ (set 
 PassKept passed.TooLong b x y = Unit {0}
 
 pub record PassedAt (a b : Arena) (x y : ℕ) (o : Ran) (r : Passed) : Type 0 where
+  pub rooms : Rooms b
   pub kept : PassKept r b x y
   pub is : passedBy r b ≡ o
   pub others : Only x y a b
@@ -106,7 +102,7 @@ pub record Apart (old result x y : ℕ) : Type 0 where
 
 -- set x begun with one empty text of the languages g, and the i-th text of set `old` copied to the front of d
 pub record StartedAt (a b : Arena) (old i x : ℕ) (g : LanguageSet) (d : List ℕ) (r : ℕ) : Type 0 where
-  pub begun : BegunAt a b x g 1
+  pub begun : GrownAt a b x 1 (start g)
   pub copied : CopiedIs (textIn (a .store) (a .lens) (a .ord) old i) d r
 
 unfoldable pub FinalKept : Finished → Arena → ℕ → Type 0
@@ -121,6 +117,7 @@ finishedBy finished.TooMany b to rest = refusal 8
 
 -- one text's run, united into the result so far, whatever is done with it
 pub record TextFinished (a b : Arena) (old to : ℕ) (s : (List Entry → Spelling) → Spelling) (r : Finished) : Type 0 where
+  pub rooms : Rooms b
   pub kept : FinalKept r b to
   pub is : (rest : List Entry → Spelling) → finishedBy r b to rest ≡ s rest
   pub stayed : Stayed a b old
@@ -132,8 +129,15 @@ textsBy finished.TooLong b to = refusal 7
 textsBy finished.TooMany b to = refusal 8
 
 pub record FinishedAt (b : Arena) (to : ℕ) (s : Spelling) (r : Finished) : Type 0 where
+  pub rooms : Rooms b
   pub kept : FinalKept r b to
   pub is : textsBy r b to ≡ s
+
+-- the same pass with the flag up where `up`
+unfoldable pub raisedBy : Bool → Finished → Finished
+raisedBy up (finished.Into k flag) = finished.Into k (pick up true flag)
+raisedBy up finished.TooLong = finished.TooLong
+raisedBy up finished.TooMany = finished.TooMany
 
 -- ---- the answer
 
@@ -160,15 +164,9 @@ pub record GivenIs (ts : List Text) (out out′ : List ℕ) (at r : ℕ) : Type 
   pub result : r ≡ length (joined ts)
   pub buffer : out′ ≡ placed out at (joined ts)
 
--- the sizes of the buffers, of the tables and of the places of lists that `word` works with
-unfoldable pub areBuffers : ℕ → ℕ → ℕ → ℕ → Bool
-areBuffers store lens langs ord = and (eqb store 131584) (and (eqb lens 1028) (and (eqb langs 1028) (eqb ord 1024)))
-
-unfoldable pub areTables : ℕ → ℕ → ℕ → Bool
-areTables starts ends sets = and (eqb starts 256) (and (eqb ends 256) (eqb sets 256))
-
-unfoldable pub arePlaces : ℕ → ℕ → ℕ → ℕ → Bool
-arePlaces pack main common last = and (leb main pack) (and (leb common pack) (leb last pack))
+-- the sizes of the buffers that `word` works with: four sets, and the alternatives of an expression, of which there are at most 256
+unfoldable pub areBuffers : ℕ → ℕ → ℕ → ℕ → ℕ → Bool
+areBuffers store lens langs ord alts = and (eqb store 131584) (and (eqb lens 1028) (and (eqb langs 1028) (and (eqb ord 1024) (eqb alts 256))))
 
 -- the texts of a set
 abbrev pub spellings : List Entry → List Text

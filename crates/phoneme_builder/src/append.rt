@@ -4,7 +4,7 @@ ghost use Prim.Native.Nat.{_<_};
 ghost use Rattle.phoneme_builder.specs.Sets.{appended};
 ghost use Rattle.phoneme_builder.specs.Buffers.{arena, Rooms, SetAt, entriesAt, AppliedAt};
 use crate::apply::Applied;
-use crate::set::add;
+use crate::set::add_to;
 use crate::set::copy_text;
 use crate::set::langs_of;
 
@@ -24,9 +24,6 @@ pub(crate) fn append(
     requires { ⌜ (to < 4) × (from ≡ to → ⊥) ⌝ }
     ensures { λ r. ⌜ AppliedAt (arena (now (store .entry)) (now (lens .entry)) (now (langs .entry)) (now (ord .entry))) (arena (now (store .exit)) (now (lens .exit)) (now (langs .exit)) (now (ord .exit))) to r (appended (now (c .entry)) (entriesAt (arena (now (store .entry)) (now (lens .entry)) (now (langs .entry)) (now (ord .entry))) from on)) ⌝ }
 {
-    let p = to * 32896;
-    let l = to * 257;
-    let o = to * 256;
     let mut row = [0u8; 128];
     let mut i = on;
     let mut k = 0;
@@ -37,16 +34,7 @@ pub(crate) fn append(
         if 128 < e + c.len() {
             return Applied::TooLong;
         }
-        k = add(
-            &mut store[p..p + 32896],
-            &mut lens[l..l + 257],
-            &mut langs[l..l + 257],
-            &mut ord[o..o + 256],
-            k,
-            &row[0..e],
-            c,
-            g,
-        );
+        k = add_to(store, lens, langs, ord, to, k, &row[0..e], c, g);
     }
     Applied::Now(k)
 }

@@ -4,8 +4,8 @@ ghost use Prim.Native.Nat.{_≤_, _<_};
 ghost use Rattle.languages.specs.Coded.{decoded, IsCode};
 ghost use Rattle.choices.specs.Apply.{under, apply};
 ghost use mathlib.Core.Path.{_≡_};
-ghost use Rattle.phoneme_builder.specs.Buffers.{entry, alternative, entries, alternatives, IsSet, AltsIn, OfferedIs, arena, Rooms, SetAt, entriesAt, AppliedAt};
-use crate::set::add;
+ghost use Rattle.phoneme_builder.specs.Buffers.{entry, alternative, startOf, endOf, alternatives, AltsIn, arena, Rooms, SetAt, entriesAt, OfferedAt, AppliedAt};
+use crate::set::add_to;
 use crate::set::copy_text;
 use crate::set::langs_of;
 
@@ -15,12 +15,13 @@ pub(crate) enum Applied {
     TooLong,
 }
 
-// The text a with the alternative b behind it: passed over where the narrowed set is empty, else it enters.
+// The text a with the alternative b behind it: passed over where the narrowed set is empty, else it enters set `to`.
 fn offer(
     store: &mut [u8],
     lens: &mut [u8],
     langs: &mut [u64],
     ord: &mut [u8],
+    to: usize,
     n: usize,
     a: &[u8],
     ga: u64,
@@ -28,11 +29,12 @@ fn offer(
     gb: u64,
     limit: usize,
 ) -> Applied
-    requires { ⌜ IsSet (now store) (now lens) (now langs) (now ord) n ⌝ }
+    requires { ⌜ Rooms (arena (now store) (now lens) (now langs) (now ord)) ⌝ }
+    requires { ⌜ SetAt (arena (now store) (now lens) (now langs) (now ord)) to n ⌝ }
     requires { ⌜ IsCode ga ⌝ }
     requires { ⌜ IsCode gb ⌝ }
     requires { ⌜ (n < limit) × (limit ≤ 256) ⌝ }
-    ensures { λ r. ⌜ OfferedIs limit (under (entry (now (a .entry)) (decoded ga)) (alternative (now (b .entry)) (decoded gb) ∷ [])) (entries (now (store .entry)) (now (lens .entry)) (now (langs .entry)) (now (ord .entry)) n) r (now (store .exit)) (now (lens .exit)) (now (langs .exit)) (now (ord .exit)) ⌝ }
+    ensures { λ r. ⌜ OfferedAt limit (under (entry (now (a .entry)) (decoded ga)) (alternative (now (b .entry)) (decoded gb) ∷ [])) (entriesAt (arena (now (store .entry)) (now (lens .entry)) (now (langs .entry)) (now (ord .entry))) to n) (arena (now (store .entry)) (now (lens .entry)) (now (langs .entry)) (now (ord .entry))) (arena (now (store .exit)) (now (lens .exit)) (now (langs .exit)) (now (ord .exit))) to r ⌝ }
 {
     let g = ga & gb;
     if g % 4294967296 == 0 {
@@ -41,7 +43,20 @@ fn offer(
     if 128 < a.len() + b.len() {
         return Applied::TooLong;
     }
-    Applied::Now(add(store, lens, langs, ord, n, a, b, g))
+    Applied::Now(add_to(store, lens, langs, ord, to, n, a, b, g))
+}
+
+// Where an alternative of the table starts in its expression, and where it ends.
+fn start_of(x: u64) -> usize
+    ensures { λ r. ⌜ r ≡ startOf x ⌝ }
+{
+    (x / 256 % 256) as usize
+}
+
+fn end_of(x: u64) -> usize
+    ensures { λ r. ⌜ r ≡ endOf x ⌝ }
+{
+    (x % 256) as usize
 }
 
 // Under one old text the alternatives in order, until the count reaches the limit.
@@ -50,21 +65,21 @@ fn apply_row(
     lens: &mut [u8],
     langs: &mut [u64],
     ord: &mut [u8],
+    to: usize,
     n: usize,
     a: &[u8],
     g: u64,
     expr: &[u8],
-    starts: &[usize],
-    ends: &[usize],
-    sets: &[u64],
+    alts: &[u64],
     m: usize,
     limit: usize,
 ) -> Applied
-    requires { ⌜ IsSet (now store) (now lens) (now langs) (now ord) n ⌝ }
+    requires { ⌜ Rooms (arena (now store) (now lens) (now langs) (now ord)) ⌝ }
+    requires { ⌜ SetAt (arena (now store) (now lens) (now langs) (now ord)) to n ⌝ }
     requires { ⌜ IsCode g ⌝ }
-    requires { ⌜ AltsIn (now expr) (now starts) (now ends) (now sets) m ⌝ }
+    requires { ⌜ AltsIn (now expr) (now alts) m ⌝ }
     requires { ⌜ limit ≤ 256 ⌝ }
-    ensures { λ r. ⌜ OfferedIs limit (under (entry (now (a .entry)) (decoded g)) (alternatives (now (expr .entry)) (now (starts .entry)) (now (ends .entry)) (now (sets .entry)) m)) (entries (now (store .entry)) (now (lens .entry)) (now (langs .entry)) (now (ord .entry)) n) r (now (store .exit)) (now (lens .exit)) (now (langs .exit)) (now (ord .exit)) ⌝ }
+    ensures { λ r. ⌜ OfferedAt limit (under (entry (now (a .entry)) (decoded g)) (alternatives (now (expr .entry)) (now (alts .entry)) m)) (entriesAt (arena (now (store .entry)) (now (lens .entry)) (now (langs .entry)) (now (ord .entry))) to n) (arena (now (store .entry)) (now (lens .entry)) (now (langs .entry)) (now (ord .entry))) (arena (now (store .exit)) (now (lens .exit)) (now (langs .exit)) (now (ord .exit))) to r ⌝ }
 {
     let mut j = 0;
     let mut k = n;
@@ -72,13 +87,25 @@ fn apply_row(
         if limit <= k {
             return Applied::Now(k);
         }
-        let p = starts[j];
-        let e = ends[j];
-        let h = sets[j];
+        let x = alts[j];
+        let p = start_of(x);
+        let e = end_of(x);
         j += 1;
-        match offer(store, lens, langs, ord, k, a, g, &expr[p..e], h, limit) {
-            Applied::Now(x) => {
-                k = x;
+        match offer(
+            store,
+            lens,
+            langs,
+            ord,
+            to,
+            k,
+            a,
+            g,
+            &expr[p..e],
+            x / 65536,
+            limit,
+        ) {
+            Applied::Now(grown) => {
+                k = grown;
             }
             Applied::TooLong => {
                 return Applied::TooLong;
@@ -98,22 +125,17 @@ pub(crate) fn apply(
     on: usize,
     to: usize,
     expr: &[u8],
-    starts: &[usize],
-    ends: &[usize],
-    sets: &[u64],
+    alts: &[u64],
     m: usize,
     limit: usize,
 ) -> Applied
     requires { ⌜ Rooms (arena (now store) (now lens) (now langs) (now ord)) ⌝ }
     requires { ⌜ SetAt (arena (now store) (now lens) (now langs) (now ord)) from on ⌝ }
     requires { ⌜ (to < 4) × (from ≡ to → ⊥) ⌝ }
-    requires { ⌜ AltsIn (now expr) (now starts) (now ends) (now sets) m ⌝ }
+    requires { ⌜ AltsIn (now expr) (now alts) m ⌝ }
     requires { ⌜ limit ≤ 256 ⌝ }
-    ensures { λ r. ⌜ AppliedAt (arena (now (store .entry)) (now (lens .entry)) (now (langs .entry)) (now (ord .entry))) (arena (now (store .exit)) (now (lens .exit)) (now (langs .exit)) (now (ord .exit))) to r (apply limit (alternatives (now (expr .entry)) (now (starts .entry)) (now (ends .entry)) (now (sets .entry)) m) (entriesAt (arena (now (store .entry)) (now (lens .entry)) (now (langs .entry)) (now (ord .entry))) from on)) ⌝ }
+    ensures { λ r. ⌜ AppliedAt (arena (now (store .entry)) (now (lens .entry)) (now (langs .entry)) (now (ord .entry))) (arena (now (store .exit)) (now (lens .exit)) (now (langs .exit)) (now (ord .exit))) to r (apply limit (alternatives (now (expr .entry)) (now (alts .entry)) m) (entriesAt (arena (now (store .entry)) (now (lens .entry)) (now (langs .entry)) (now (ord .entry))) from on)) ⌝ }
 {
-    let p = to * 32896;
-    let l = to * 257;
-    let o = to * 256;
     let mut row = [0u8; 128];
     let mut i = 0;
     let mut n = 0;
@@ -125,17 +147,16 @@ pub(crate) fn apply(
         let g = langs_of(langs, ord, from, i);
         i += 1;
         match apply_row(
-            &mut store[p..p + 32896],
-            &mut lens[l..l + 257],
-            &mut langs[l..l + 257],
-            &mut ord[o..o + 256],
+            store,
+            lens,
+            langs,
+            ord,
+            to,
             n,
             &row[0..e],
             g,
             expr,
-            starts,
-            ends,
-            sets,
+            alts,
             m,
             limit,
         ) {

@@ -3,10 +3,10 @@ ghost use mathlib.Core.Path.{_≡_};
 ghost use Prim.Native.Nat.{_≤_, _<_};
 ghost use lib.ListN.{length};
 ghost use Rattle.languages.specs.Coded.{decoded, IsCode};
-ghost use Rattle.pack.specs.Places.{listAt};
 ghost use Rattle.phoneme_builder.specs.Buffers.{arena, Rooms, SetAt, entryIn, entriesAt};
 ghost use Rattle.phoneme_builder.specs.Passes.{finalText, finalPass};
-ghost use Rattle.phoneme_builder.specs.Walks.{TableRoom, Apart, StartedAt, TextFinished, FinishedAt};
+ghost use Rattle.phoneme_builder.specs.Tables.{matcher, ListIn};
+ghost use Rattle.phoneme_builder.specs.Walks.{Apart, StartedAt, TextFinished, FinishedAt};
 use crate::pass::Passed;
 use crate::pass::either;
 use crate::pass::run;
@@ -55,9 +55,7 @@ fn final_text(
     lens: &mut [u8],
     langs: &mut [u64],
     ord: &mut [u8],
-    starts: &mut [usize],
-    ends: &mut [usize],
-    sets: &mut [u64],
+    alts: &mut [u64],
     word: &mut [u8],
     old: usize,
     on: usize,
@@ -68,6 +66,7 @@ fn final_text(
     y: usize,
     pack: &[u8],
     names: &[u8],
+    table: &[usize],
     list: usize,
     limit: usize,
 ) -> Finished
@@ -77,9 +76,9 @@ fn final_text(
     requires { ⌜ SetAt (arena (now store) (now lens) (now langs) (now ord)) result n ⌝ }
     requires { ⌜ Apart old result x y ⌝ }
     requires { ⌜ length (now word) ≡ 128 ⌝ }
-    requires { ⌜ TableRoom (now starts) (now ends) (now sets) ⌝ }
-    requires { ⌜ (list ≤ length (now pack)) × (limit ≤ 256) ⌝ }
-    ensures { λ r. ⌜ TextFinished (arena (now (store .entry)) (now (lens .entry)) (now (langs .entry)) (now (ord .entry))) (arena (now (store .exit)) (now (lens .exit)) (now (langs .exit)) (now (ord .exit))) old result (finalText limit (now (names .entry)) (listAt (now (pack .entry)) list) (entryIn (arena (now (store .entry)) (now (lens .entry)) (now (langs .entry)) (now (ord .entry))) old i) (entriesAt (arena (now (store .entry)) (now (lens .entry)) (now (langs .entry)) (now (ord .entry))) result n)) r ⌝ }
+    requires { ⌜ length (now alts) ≡ 256 ⌝ }
+    requires { ⌜ ListIn (now table) list × (limit ≤ 256) ⌝ }
+    ensures { λ r. ⌜ TextFinished (arena (now (store .entry)) (now (lens .entry)) (now (langs .entry)) (now (ord .entry))) (arena (now (store .exit)) (now (lens .exit)) (now (langs .exit)) (now (ord .exit))) old result (finalText limit (now (names .entry)) (matcher (now (pack .entry)) (now (table .entry)) list) (entryIn (arena (now (store .entry)) (now (lens .entry)) (now (langs .entry)) (now (ord .entry))) old i) (entriesAt (arena (now (store .entry)) (now (lens .entry)) (now (langs .entry)) (now (ord .entry))) result n)) r ⌝ }
 {
     let g = langs_of(langs, ord, old, i);
     let e = start_text(store, lens, langs, ord, old, on, i, x, g, word);
@@ -89,14 +88,13 @@ fn final_text(
         lens,
         langs,
         ord,
-        starts,
-        ends,
-        sets,
+        alts,
         x,
         1,
         y,
         pack,
         names,
+        table,
         list,
         &word[0..e],
         limit,
@@ -117,9 +115,7 @@ pub(crate) fn final_pass(
     lens: &mut [u8],
     langs: &mut [u64],
     ord: &mut [u8],
-    starts: &mut [usize],
-    ends: &mut [usize],
-    sets: &mut [u64],
+    alts: &mut [u64],
     old: usize,
     on: usize,
     result: usize,
@@ -127,15 +123,16 @@ pub(crate) fn final_pass(
     y: usize,
     pack: &[u8],
     names: &[u8],
+    table: &[usize],
     list: usize,
     limit: usize,
 ) -> Finished
     requires { ⌜ Rooms (arena (now store) (now lens) (now langs) (now ord)) ⌝ }
     requires { ⌜ SetAt (arena (now store) (now lens) (now langs) (now ord)) old on ⌝ }
     requires { ⌜ Apart old result x y ⌝ }
-    requires { ⌜ TableRoom (now starts) (now ends) (now sets) ⌝ }
-    requires { ⌜ (list ≤ length (now pack)) × (limit ≤ 256) ⌝ }
-    ensures { λ r. ⌜ FinishedAt (arena (now (store .exit)) (now (lens .exit)) (now (langs .exit)) (now (ord .exit))) result (finalPass limit (now (names .entry)) (listAt (now (pack .entry)) list) (entriesAt (arena (now (store .entry)) (now (lens .entry)) (now (langs .entry)) (now (ord .entry))) old on)) r ⌝ }
+    requires { ⌜ length (now alts) ≡ 256 ⌝ }
+    requires { ⌜ ListIn (now table) list × (limit ≤ 256) ⌝ }
+    ensures { λ r. ⌜ FinishedAt (arena (now (store .exit)) (now (lens .exit)) (now (langs .exit)) (now (ord .exit))) result (finalPass limit (now (names .entry)) (matcher (now (pack .entry)) (now (table .entry)) list) (entriesAt (arena (now (store .entry)) (now (lens .entry)) (now (langs .entry)) (now (ord .entry))) old on)) r ⌝ }
 {
     let mut word = [0u8; 128];
     let mut i = 0;
@@ -147,9 +144,7 @@ pub(crate) fn final_pass(
             lens,
             langs,
             ord,
-            starts,
-            ends,
-            sets,
+            alts,
             &mut word,
             old,
             on,
@@ -160,6 +155,7 @@ pub(crate) fn final_pass(
             y,
             pack,
             names,
+            table,
             list,
             limit,
         ) {

@@ -1,10 +1,10 @@
 // The sets of texts of engine.rs and the passes over a word: `PhonemeBuilder`, `RulesApplication` and `apply_final_rule`.
 mod append;
 mod apply;
+mod expressions;
 mod finals;
 mod matching;
 mod pass;
-mod phonemes;
 mod set;
 mod unite;
 mod words;

@@ -2,9 +2,9 @@
 ghost use mathlib.Core.Path.{_≡_};
 ghost use Prim.Native.Nat.{_≤_, _<_, _-_, max};
 ghost use lib.ListN.{length};
-ghost use Rattle.pack.specs.Places.{listAt};
-ghost use Rattle.phoneme_builder.specs.Passes.{firstMatch};
+ghost use Rattle.phoneme_builder.specs.Tables.{matcher, ListIn};
 ghost use Rattle.phoneme_builder.specs.Walks.{MatchIs};
+use crate::set::wide;
 use pack::RuleAt;
 
 // The rule that matches: how far its pattern reaches, and where its expression stands in the pack.
@@ -25,14 +25,21 @@ fn step_of(from: usize, to: usize) -> usize
     if from < to { to - from } else { 1 }
 }
 
-// The first rule of the list at the place `list` of `pack` that matches at a place of word.
-pub(crate) fn first_match(pack: &[u8], list: usize, word: &[u8], place: usize) -> Matched
-    requires { ⌜ list ≤ length (now pack) ⌝ }
+// The first rule that matches at a place of word, of those that the table has for the list and the byte there.
+pub(crate) fn first_match(
+    pack: &[u8],
+    table: &[usize],
+    list: usize,
+    word: &[u8],
+    place: usize,
+) -> Matched
+    requires { ⌜ ListIn (now table) list ⌝ }
     requires { ⌜ place < length (now word) ⌝ }
-    ensures { λ r. ⌜ MatchIs (now (pack .entry)) (now (word .entry)) place (firstMatch (listAt (now (pack .entry)) list) (now (word .entry)) place) r ⌝ }
+    ensures { λ r. ⌜ MatchIs (now (pack .entry)) (now (word .entry)) place (matcher (now (pack .entry)) (now (table .entry)) list (now (word .entry)) place) r ⌝ }
 {
-    let mut at = list + 2;
-    let mut count = pack::rule_count(pack, list);
+    let k = 98 + list * 128 + wide(word[place]) % 64;
+    let mut at = table[k];
+    let mut count = table[k + 64] % 65536;
     while 0 < count {
         match pack::rule_at(pack, at) {
             RuleAt::At {

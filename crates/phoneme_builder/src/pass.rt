@@ -6,17 +6,17 @@ ghost use Prim.Native.Nat.{_≤_, _<_};
 ghost use lib.ListN.{length};
 ghost use Rattle.base.specs.Pick.{pick};
 ghost use Rattle.letters.specs.Utf8.{decodeAt};
-ghost use Rattle.pack.specs.Places.{listAt};
 ghost use Rattle.choices.specs.Apply.{apply};
 ghost use Rattle.phoneme_builder.specs.Buffers.{arena, Rooms, SetAt, entriesAt, AppliedAt};
-ghost use Rattle.phoneme_builder.specs.Passes.{offered, none, firstMatch, bytesOf, turnOn, turnsOf, run};
-ghost use Rattle.phoneme_builder.specs.Walks.{TableRoom, StepIn, TurnedAt, PassedAt};
+ghost use Rattle.phoneme_builder.specs.Passes.{offered, none, bytesOf, turnOn, turnsOf, run};
+ghost use Rattle.phoneme_builder.specs.Tables.{matcher, ListIn};
+ghost use Rattle.phoneme_builder.specs.Walks.{StepIn, TurnedAt, PassedAt};
 use crate::append::append;
 use crate::apply::Applied;
 use crate::apply::apply;
+use crate::expressions::alternatives;
 use crate::matching::Matched;
 use crate::matching::first_match;
-use crate::phonemes::alternatives;
 use letters::Step;
 
 // What a turn at a place comes to: so many texts in the other set, `full` where an apply ended at or over the limit;
@@ -103,9 +103,7 @@ fn apply_rule(
     lens: &mut [u8],
     langs: &mut [u64],
     ord: &mut [u8],
-    starts: &mut [usize],
-    ends: &mut [usize],
-    sets: &mut [u64],
+    alts: &mut [u64],
     from: usize,
     n: usize,
     to: usize,
@@ -116,26 +114,12 @@ fn apply_rule(
     requires { ⌜ Rooms (arena (now store) (now lens) (now langs) (now ord)) ⌝ }
     requires { ⌜ SetAt (arena (now store) (now lens) (now langs) (now ord)) from n ⌝ }
     requires { ⌜ (to < 4) × (from ≡ to → ⊥) ⌝ }
-    requires { ⌜ TableRoom (now starts) (now ends) (now sets) ⌝ }
+    requires { ⌜ length (now alts) ≡ 256 ⌝ }
     requires { ⌜ (length (now expr) < 256) × (limit ≤ 256) ⌝ }
     ensures { λ r. ⌜ AppliedAt (arena (now (store .entry)) (now (lens .entry)) (now (langs .entry)) (now (ord .entry))) (arena (now (store .exit)) (now (lens .exit)) (now (langs .exit)) (now (ord .exit))) to r (apply limit (offered (now (names .entry)) (now (expr .entry))) (entriesAt (arena (now (store .entry)) (now (lens .entry)) (now (langs .entry)) (now (ord .entry))) from n)) ⌝ }
 {
-    let m = alternatives(expr, names, starts, ends, sets);
-    apply(
-        store,
-        lens,
-        langs,
-        ord,
-        from,
-        n,
-        to,
-        expr,
-        starts,
-        ends,
-        sets,
-        m,
-        limit,
-    )
+    let m = alternatives(expr, names, alts);
+    apply(store, lens, langs, ord, from, n, to, expr, alts, m, limit)
 }
 
 // The turn at a place of a word: from set `from` with n texts into set `to`.
@@ -145,14 +129,13 @@ fn turn(
     lens: &mut [u8],
     langs: &mut [u64],
     ord: &mut [u8],
-    starts: &mut [usize],
-    ends: &mut [usize],
-    sets: &mut [u64],
+    alts: &mut [u64],
     from: usize,
     n: usize,
     to: usize,
     pack: &[u8],
     names: &[u8],
+    table: &[usize],
     list: usize,
     word: &[u8],
     place: usize,
@@ -161,12 +144,12 @@ fn turn(
     requires { ⌜ Rooms (arena (now store) (now lens) (now langs) (now ord)) ⌝ }
     requires { ⌜ SetAt (arena (now store) (now lens) (now langs) (now ord)) from n ⌝ }
     requires { ⌜ (to < 4) × (from ≡ to → ⊥) ⌝ }
-    requires { ⌜ TableRoom (now starts) (now ends) (now sets) ⌝ }
-    requires { ⌜ (list ≤ length (now pack)) × (limit ≤ 256) ⌝ }
+    requires { ⌜ length (now alts) ≡ 256 ⌝ }
+    requires { ⌜ ListIn (now table) list × (limit ≤ 256) ⌝ }
     requires { ⌜ place < length (now word) ⌝ }
-    ensures { λ r. ⌜ TurnedAt (arena (now (store .entry)) (now (lens .entry)) (now (langs .entry)) (now (ord .entry))) (arena (now (store .exit)) (now (lens .exit)) (now (langs .exit)) (now (ord .exit))) last limit from n to (now (word .entry)) place (turnOn (now (names .entry)) (firstMatch (listAt (now (pack .entry)) list) (now (word .entry)) place) (now (word .entry)) place) r ⌝ }
+    ensures { λ r. ⌜ TurnedAt (arena (now (store .entry)) (now (lens .entry)) (now (langs .entry)) (now (ord .entry))) (arena (now (store .exit)) (now (lens .exit)) (now (langs .exit)) (now (ord .exit))) last limit from n to (now (word .entry)) place (turnOn (now (names .entry)) (matcher (now (pack .entry)) (now (table .entry)) list (now (word .entry)) place) (now (word .entry)) place) r ⌝ }
 {
-    match first_match(pack, list, word, place) {
+    match first_match(pack, table, list, word, place) {
         Matched::By {
             step,
             expression,
@@ -176,9 +159,7 @@ fn turn(
             lens,
             langs,
             ord,
-            starts,
-            ends,
-            sets,
+            alts,
             from,
             n,
             to,
@@ -216,14 +197,13 @@ pub(crate) fn run(
     lens: &mut [u8],
     langs: &mut [u64],
     ord: &mut [u8],
-    starts: &mut [usize],
-    ends: &mut [usize],
-    sets: &mut [u64],
+    alts: &mut [u64],
     x: usize,
     n: usize,
     y: usize,
     pack: &[u8],
     names: &[u8],
+    table: &[usize],
     list: usize,
     word: &[u8],
     limit: usize,
@@ -231,9 +211,9 @@ pub(crate) fn run(
     requires { ⌜ Rooms (arena (now store) (now lens) (now langs) (now ord)) ⌝ }
     requires { ⌜ SetAt (arena (now store) (now lens) (now langs) (now ord)) x n ⌝ }
     requires { ⌜ (y < 4) × (x ≡ y → ⊥) ⌝ }
-    requires { ⌜ TableRoom (now starts) (now ends) (now sets) ⌝ }
-    requires { ⌜ (list ≤ length (now pack)) × (limit ≤ 256) ⌝ }
-    ensures { λ r. ⌜ PassedAt (arena (now (store .entry)) (now (lens .entry)) (now (langs .entry)) (now (ord .entry))) (arena (now (store .exit)) (now (lens .exit)) (now (langs .exit)) (now (ord .exit))) x y (run last limit (turnsOf (now (names .entry)) (listAt (now (pack .entry)) list) (now (word .entry))) (entriesAt (arena (now (store .entry)) (now (lens .entry)) (now (langs .entry)) (now (ord .entry))) x n)) r ⌝ }
+    requires { ⌜ length (now alts) ≡ 256 ⌝ }
+    requires { ⌜ ListIn (now table) list × (limit ≤ 256) ⌝ }
+    ensures { λ r. ⌜ PassedAt (arena (now (store .entry)) (now (lens .entry)) (now (langs .entry)) (now (ord .entry))) (arena (now (store .exit)) (now (lens .exit)) (now (langs .exit)) (now (ord .exit))) x y (run last limit (turnsOf (now (names .entry)) (matcher (now (pack .entry)) (now (table .entry)) list) (now (word .entry))) (entriesAt (arena (now (store .entry)) (now (lens .entry)) (now (langs .entry)) (now (ord .entry))) x n)) r ⌝ }
 {
     let mut from = x;
     let mut to = y;
@@ -247,14 +227,13 @@ pub(crate) fn run(
             lens,
             langs,
             ord,
-            starts,
-            ends,
-            sets,
+            alts,
             from,
             texts,
             to,
             pack,
             names,
+            table,
             list,
             word,
             place,

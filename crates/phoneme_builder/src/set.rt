@@ -8,7 +8,7 @@ ghost use lib.ListN.{length, take};
 ghost use Rattle.letters.specs.Order.{orderOf};
 ghost use Rattle.languages.specs.Coded.{decoded, IsCode};
 ghost use Rattle.choices.specs.Apply.{insert, start};
-ghost use Rattle.phoneme_builder.specs.Buffers.{findL, insAt, entry, put, textAt, textsOf, entries, RowIn, Held, IsSet, SetIs, Room, SlotIn, Written, Entered, arena, Rooms, TextIn, textIn, LangsIn, langsIn, CopiedIs, BegunAt};
+ghost use Rattle.phoneme_builder.specs.Buffers.{findL, insAt, entry, put, textAt, textsOf, entries, RowIn, Held, IsSet, SetIs, SlotIn, Written, Entered, arena, Rooms, SetAt, entriesAt, TextIn, textIn, LangsIn, langsIn, CopiedIs, GrownAt};
 
 // Where a text stands, or where it would go.
 pub(crate) enum Found {
@@ -150,19 +150,37 @@ pub(crate) fn add(
     enter(store, lens, ord, n)
 }
 
-// One empty text with the languages g: what a pass starts from. Returns how many texts there are.
-pub(crate) fn empty(
+// The same in set k of those side by side.
+pub(crate) fn add_to(
     store: &mut [u8],
     lens: &mut [u8],
     langs: &mut [u64],
     ord: &mut [u8],
+    k: usize,
+    n: usize,
+    a: &[u8],
+    b: &[u8],
     g: u64,
 ) -> usize
-    requires { ⌜ Room (now store) (now lens) (now langs) (now ord) ⌝ }
+    requires { ⌜ Rooms (arena (now store) (now lens) (now langs) (now ord)) ⌝ }
+    requires { ⌜ SetAt (arena (now store) (now lens) (now langs) (now ord)) k n ⌝ }
     requires { ⌜ IsCode g ⌝ }
-    ensures { λ r. ⌜ SetIs (now (store .exit)) (now (lens .exit)) (now (langs .exit)) (now (ord .exit)) r (start (decoded g)) ⌝ }
+    requires { ⌜ (n < 256) × (length (now a) + length (now b) ≤ 128) ⌝ }
+    ensures { λ r. ⌜ GrownAt (arena (now (store .entry)) (now (lens .entry)) (now (langs .entry)) (now (ord .entry))) (arena (now (store .exit)) (now (lens .exit)) (now (langs .exit)) (now (ord .exit))) k r (insert (entry (now (a .entry) ++ now (b .entry)) (decoded g)) (entriesAt (arena (now (store .entry)) (now (lens .entry)) (now (langs .entry)) (now (ord .entry))) k n)) ⌝ }
 {
-    add(store, lens, langs, ord, 0, b"", b"", g)
+    let p = k * 32896;
+    let l = k * 257;
+    let o = k * 256;
+    add(
+        &mut store[p..p + 32896],
+        &mut lens[l..l + 257],
+        &mut langs[l..l + 257],
+        &mut ord[o..o + 256],
+        n,
+        a,
+        b,
+        g,
+    )
 }
 
 // The i-th text of set k.
@@ -206,7 +224,7 @@ pub(crate) fn langs_of(langs: &[u64], ord: &[u8], k: usize, i: usize) -> u64
     langs[l + s]
 }
 
-// Set k begun with one empty text of the languages g.
+// Set k begun with one empty text of the languages g. Returns how many texts there are.
 pub(crate) fn begin(
     store: &mut [u8],
     lens: &mut [u8],
@@ -218,16 +236,7 @@ pub(crate) fn begin(
     requires { ⌜ Rooms (arena (now store) (now lens) (now langs) (now ord)) ⌝ }
     requires { ⌜ k < 4 ⌝ }
     requires { ⌜ IsCode g ⌝ }
-    ensures { λ r. ⌜ BegunAt (arena (now (store .entry)) (now (lens .entry)) (now (langs .entry)) (now (ord .entry))) (arena (now (store .exit)) (now (lens .exit)) (now (langs .exit)) (now (ord .exit))) k (decoded g) r ⌝ }
+    ensures { λ r. ⌜ GrownAt (arena (now (store .entry)) (now (lens .entry)) (now (langs .entry)) (now (ord .entry))) (arena (now (store .exit)) (now (lens .exit)) (now (langs .exit)) (now (ord .exit))) k r (start (decoded g)) ⌝ }
 {
-    let p = k * 32896;
-    let l = k * 257;
-    let o = k * 256;
-    empty(
-        &mut store[p..p + 32896],
-        &mut lens[l..l + 257],
-        &mut langs[l..l + 257],
-        &mut ord[o..o + 256],
-        g,
-    )
+    add_to(store, lens, langs, ord, k, 0, b"", b"", g)
 }

@@ -53,6 +53,40 @@ fn unite_row(
     }
 }
 
+// The same into set `to` of those side by side.
+fn unite_to(
+    store: &mut [u8],
+    lens: &mut [u8],
+    langs: &mut [u64],
+    ord: &mut [u8],
+    to: usize,
+    n: usize,
+    a: &[u8],
+    ga: u64,
+    g: u64,
+) -> United
+    requires { ⌜ Rooms (arena (now store) (now lens) (now langs) (now ord)) ⌝ }
+    requires { ⌜ SetAt (arena (now store) (now lens) (now langs) (now ord)) to n ⌝ }
+    requires { ⌜ IsCode ga ⌝ }
+    requires { ⌜ IsCode g ⌝ }
+    requires { ⌜ length (now a) ≤ 128 ⌝ }
+    ensures { λ r. ⌜ UnitedAt (arena (now (store .entry)) (now (lens .entry)) (now (langs .entry)) (now (ord .entry))) (arena (now (store .exit)) (now (lens .exit)) (now (langs .exit)) (now (ord .exit))) to (decoded g) (entry (now (a .entry)) (decoded ga) ∷ []) (entriesAt (arena (now (store .entry)) (now (lens .entry)) (now (langs .entry)) (now (ord .entry))) to n) r ⌝ }
+{
+    let p = to * 32896;
+    let l = to * 257;
+    let o = to * 256;
+    unite_row(
+        &mut store[p..p + 32896],
+        &mut lens[l..l + 257],
+        &mut langs[l..l + 257],
+        &mut ord[o..o + 256],
+        n,
+        a,
+        ga,
+        g,
+    )
+}
+
 // The texts of set `from`, one text's final run, in order into the result so far, set `to`; g is the set of that text.
 pub(crate) fn unite(
     store: &mut [u8],
@@ -72,9 +106,6 @@ pub(crate) fn unite(
     requires { ⌜ IsCode g ⌝ }
     ensures { λ r. ⌜ UnitedAt (arena (now (store .entry)) (now (lens .entry)) (now (langs .entry)) (now (ord .entry))) (arena (now (store .exit)) (now (lens .exit)) (now (langs .exit)) (now (ord .exit))) to (decoded g) (entriesAt (arena (now (store .entry)) (now (lens .entry)) (now (langs .entry)) (now (ord .entry))) from nn) (entriesAt (arena (now (store .entry)) (now (lens .entry)) (now (langs .entry)) (now (ord .entry))) to n) r ⌝ }
 {
-    let p = to * 32896;
-    let l = to * 257;
-    let o = to * 256;
     let mut row = [0u8; 128];
     let mut i = 0;
     let mut k = n;
@@ -82,16 +113,7 @@ pub(crate) fn unite(
         let e = copy_text(store, lens, ord, from, i, &mut row);
         let ga = langs_of(langs, ord, from, i);
         i += 1;
-        match unite_row(
-            &mut store[p..p + 32896],
-            &mut lens[l..l + 257],
-            &mut langs[l..l + 257],
-            &mut ord[o..o + 256],
-            k,
-            &row[0..e],
-            ga,
-            g,
-        ) {
+        match unite_to(store, lens, langs, ord, to, k, &row[0..e], ga, g) {
             United::Into(x) => {
                 k = x;
             }

@@ -7,11 +7,11 @@ ghost use lib.ListN.{length};
 ghost use lib.Seq.{sets};
 ghost use Rattle.base.specs.Pick.{and};
 ghost use Rattle.languages.specs.Coded.{decoded, IsCode};
-ghost use Rattle.rule.specs.Expressions.{bar};
-ghost use Rattle.pack.specs.Places.{listAt};
+ghost use Rattle.phonemes.specs.Expressions.{bar};
 ghost use Rattle.phoneme_builder.specs.Buffers.{arena, Rooms, SetAt, entriesAt};
 ghost use Rattle.phoneme_builder.specs.Passes.{finalPass, then, wordOf, joined};
-ghost use Rattle.phoneme_builder.specs.Walks.{TableRoom, FinishedAt, TextsIn, textsIn, barred, GivenIs, areBuffers, areTables, arePlaces, WordIs};
+ghost use Rattle.phoneme_builder.specs.Tables.{matcher, ListIn, areLists};
+ghost use Rattle.phoneme_builder.specs.Walks.{FinishedAt, raisedBy, TextsIn, textsIn, barred, GivenIs, areBuffers, WordIs};
 use crate::finals::Finished;
 use crate::finals::final_pass;
 use crate::pass::Passed;
@@ -22,12 +22,26 @@ use crate::set::put;
 use crate::set::text_of;
 use languages::LanguageSet;
 
-// How long the answer is, and the flag; or 7; or 8; or that the buffers, the limit or a list's place are not fit for the work.
+// How long the answer is, and the flag; or 7; or 8; or that the buffers, the limit, the table or a list's number are not fit for the work.
 pub enum Worded {
     Done { length: usize, flag: bool },
     TooLong,
     TooMany,
     Unfit,
+}
+
+// What a pass came to, with the flag up where that of the pass before it was.
+fn raised(up: bool, pass: Finished) -> Finished
+    ensures { λ r. ⌜ r ≡ raisedBy up pass ⌝ }
+{
+    match pass {
+        Finished::Into { texts, flag } => Finished::Into {
+            texts,
+            flag: either(up, flag),
+        },
+        Finished::TooLong => Finished::TooLong,
+        Finished::TooMany => Finished::TooMany,
+    }
 }
 
 // The final passes from the n texts of set `set`, 0 or 1, into set 0.
@@ -36,13 +50,12 @@ fn final_passes(
     lens: &mut [u8],
     langs: &mut [u64],
     ord: &mut [u8],
-    starts: &mut [usize],
-    ends: &mut [usize],
-    sets: &mut [u64],
+    alts: &mut [u64],
     set: usize,
     n: usize,
     pack: &[u8],
     names: &[u8],
+    table: &[usize],
     common: usize,
     last: usize,
     limit: usize,
@@ -50,10 +63,10 @@ fn final_passes(
     requires { ⌜ Rooms (arena (now store) (now lens) (now langs) (now ord)) ⌝ }
     requires { ⌜ SetAt (arena (now store) (now lens) (now langs) (now ord)) set n ⌝ }
     requires { ⌜ set < 2 ⌝ }
-    requires { ⌜ TableRoom (now starts) (now ends) (now sets) ⌝ }
-    requires { ⌜ (common ≤ length (now pack)) × (last ≤ length (now pack)) ⌝ }
+    requires { ⌜ length (now alts) ≡ 256 ⌝ }
+    requires { ⌜ ListIn (now table) common × ListIn (now table) last ⌝ }
     requires { ⌜ limit ≤ 256 ⌝ }
-    ensures { λ r. ⌜ FinishedAt (arena (now (store .exit)) (now (lens .exit)) (now (langs .exit)) (now (ord .exit))) 0 (then (finalPass limit (now (names .entry)) (listAt (now (pack .entry)) common) (entriesAt (arena (now (store .entry)) (now (lens .entry)) (now (langs .entry)) (now (ord .entry))) set n)) (finalPass limit (now (names .entry)) (listAt (now (pack .entry)) last))) r ⌝ }
+    ensures { λ r. ⌜ FinishedAt (arena (now (store .exit)) (now (lens .exit)) (now (langs .exit)) (now (ord .exit))) 0 (then (finalPass limit (now (names .entry)) (matcher (now (pack .entry)) (now (table .entry)) common) (entriesAt (arena (now (store .entry)) (now (lens .entry)) (now (langs .entry)) (now (ord .entry))) set n)) (finalPass limit (now (names .entry)) (matcher (now (pack .entry)) (now (table .entry)) last))) r ⌝ }
 {
     let other = 1 - set;
     match final_pass(
@@ -61,9 +74,7 @@ fn final_passes(
         lens,
         langs,
         ord,
-        starts,
-        ends,
-        sets,
+        alts,
         set,
         n,
         2,
@@ -71,37 +82,30 @@ fn final_passes(
         3,
         pack,
         names,
+        table,
         common,
         limit,
     ) {
-        Finished::Into { texts, flag } => match final_pass(
-            store,
-            lens,
-            langs,
-            ord,
-            starts,
-            ends,
-            sets,
-            2,
-            texts,
-            0,
-            1,
-            3,
-            pack,
-            names,
-            last,
-            limit,
-        ) {
-            Finished::Into {
-                texts: k,
-                flag: more,
-            } => Finished::Into {
-                texts: k,
-                flag: either(flag, more),
-            },
-            Finished::TooLong => Finished::TooLong,
-            Finished::TooMany => Finished::TooMany,
-        },
+        Finished::Into { texts, flag } => {
+            let language = final_pass(
+                store,
+                lens,
+                langs,
+                ord,
+                alts,
+                2,
+                texts,
+                0,
+                1,
+                3,
+                pack,
+                names,
+                table,
+                last,
+                limit,
+            );
+            raised(flag, language)
+        }
         Finished::TooLong => Finished::TooLong,
         Finished::TooMany => Finished::TooMany,
     }
@@ -113,11 +117,10 @@ fn spell_word(
     lens: &mut [u8],
     langs: &mut [u64],
     ord: &mut [u8],
-    starts: &mut [usize],
-    ends: &mut [usize],
-    sets: &mut [u64],
+    alts: &mut [u64],
     pack: &[u8],
     names: &[u8],
+    table: &[usize],
     main: usize,
     common: usize,
     last: usize,
@@ -126,11 +129,11 @@ fn spell_word(
     limit: usize,
 ) -> Finished
     requires { ⌜ Rooms (arena (now store) (now lens) (now langs) (now ord)) ⌝ }
-    requires { ⌜ TableRoom (now starts) (now ends) (now sets) ⌝ }
-    requires { ⌜ (main ≤ length (now pack)) × (common ≤ length (now pack)) × (last ≤ length (now pack)) ⌝ }
+    requires { ⌜ length (now alts) ≡ 256 ⌝ }
+    requires { ⌜ ListIn (now table) main × ListIn (now table) common × ListIn (now table) last ⌝ }
     requires { ⌜ IsCode g ⌝ }
     requires { ⌜ limit ≤ 256 ⌝ }
-    ensures { λ r. ⌜ FinishedAt (arena (now (store .exit)) (now (lens .exit)) (now (langs .exit)) (now (ord .exit))) 0 (wordOf limit (now (names .entry)) (listAt (now (pack .entry)) main) (listAt (now (pack .entry)) common) (listAt (now (pack .entry)) last) (decoded g) (now (word .entry))) r ⌝ }
+    ensures { λ r. ⌜ FinishedAt (arena (now (store .exit)) (now (lens .exit)) (now (langs .exit)) (now (ord .exit))) 0 (wordOf limit (now (names .entry)) (matcher (now (pack .entry)) (now (table .entry)) main) (matcher (now (pack .entry)) (now (table .entry)) common) (matcher (now (pack .entry)) (now (table .entry)) last) (decoded g) (now (word .entry))) r ⌝ }
 {
     let n = begin(store, lens, langs, ord, 0, g);
     match run(
@@ -139,44 +142,35 @@ fn spell_word(
         lens,
         langs,
         ord,
-        starts,
-        ends,
-        sets,
+        alts,
         0,
         n,
         1,
         pack,
         names,
+        table,
         main,
         word,
         limit,
     ) {
-        Passed::Now { texts, set, flag } => match final_passes(
-            store,
-            lens,
-            langs,
-            ord,
-            starts,
-            ends,
-            sets,
-            set,
-            texts,
-            pack,
-            names,
-            common,
-            last,
-            limit,
-        ) {
-            Finished::Into {
-                texts: k,
-                flag: more,
-            } => Finished::Into {
-                texts: k,
-                flag: either(flag, more),
-            },
-            Finished::TooLong => Finished::TooLong,
-            Finished::TooMany => Finished::TooMany,
-        },
+        Passed::Now { texts, set, flag } => {
+            let last = final_passes(
+                store,
+                lens,
+                langs,
+                ord,
+                alts,
+                set,
+                texts,
+                pack,
+                names,
+                table,
+                common,
+                last,
+                limit,
+            );
+            raised(flag, last)
+        }
         Passed::TooLong => Finished::TooLong,
     }
 }
@@ -242,54 +236,47 @@ fn give(store: &[u8], lens: &[u8], ord: &[u8], n: usize, out: &mut [u8], at: usi
     length
 }
 
-// Whether buffers have these sizes: four sets of 257 rows, and the tables of an expression's alternatives.
-fn are_buffers(store: usize, lens: usize, langs: usize, ord: usize) -> bool
-    ensures { λ r. ⌜ r ≡ areBuffers store lens langs ord ⌝ }
+// Whether buffers have these sizes: four sets of 257 rows, and the table of an expression's alternatives.
+fn are_buffers(store: usize, lens: usize, langs: usize, ord: usize, alts: usize) -> bool
+    ensures { λ r. ⌜ r ≡ areBuffers store lens langs ord alts ⌝ }
 {
     if store == 131584 {
         if lens == 1028 {
             if langs == 1028 {
-                return ord == 1024;
+                if ord == 1024 {
+                    return alts == 256;
+                }
             }
         }
     }
     false
 }
 
-fn are_tables(starts: usize, ends: usize, sets: usize) -> bool
-    ensures { λ r. ⌜ r ≡ areTables starts ends sets ⌝ }
+// Whether a table has this size, and lists of these numbers.
+fn are_lists(table: usize, main: usize, common: usize, last: usize) -> bool
+    ensures { λ r. ⌜ r ≡ areLists table main common last ⌝ }
 {
-    if starts == 256 {
-        if ends == 256 {
-            return sets == 256;
+    if table == 12642 {
+        if main < 98 {
+            if common < 98 {
+                return last < 98;
+            }
         }
     }
     false
 }
 
-fn are_places(pack: usize, main: usize, common: usize, last: usize) -> bool
-    ensures { λ r. ⌜ r ≡ arePlaces pack main common last ⌝ }
-{
-    if main <= pack {
-        if common <= pack {
-            return last <= pack;
-        }
-    }
-    false
-}
-
-// A word spelled from the lists at places of a pack, with the start languages `set`: its texts, joined by bars, go into `out` from
-// `at` on where they fit, else `out` stays as it is. The first seven buffers are lent for the work.
+// A word spelled by the lists of a table over a pack, with the start languages `set`: its texts, joined by bars, go into `out` from
+// `at` on where they fit, else `out` stays as it is. The first five buffers are lent for the work.
 pub fn word(
     store: &mut [u8],
     lens: &mut [u8],
     langs: &mut [u64],
     ord: &mut [u8],
-    starts: &mut [usize],
-    ends: &mut [usize],
-    sets: &mut [u64],
+    alts: &mut [u64],
     pack: &[u8],
     names: &[u8],
+    table: &[usize],
     main: usize,
     common: usize,
     last: usize,
@@ -299,40 +286,37 @@ pub fn word(
     out: &mut [u8],
     at: usize,
 ) -> Worded
-    ensures { λ r. ⌜ WordIs (and (leb limit 256) (and (areBuffers (length (now (store .entry))) (length (now (lens .entry))) (length (now (langs .entry))) (length (now (ord .entry)))) (and (areTables (length (now (starts .entry))) (length (now (ends .entry))) (length (now (sets .entry)))) (arePlaces (length (now (pack .entry))) main common last)))) (wordOf limit (now (names .entry)) (listAt (now (pack .entry)) main) (listAt (now (pack .entry)) common) (listAt (now (pack .entry)) last) set (now (word .entry))) (now (out .entry)) (now (out .exit)) at r ⌝ }
+    ensures { λ r. ⌜ WordIs (and (leb limit 256) (and (areBuffers (length (now (store .entry))) (length (now (lens .entry))) (length (now (langs .entry))) (length (now (ord .entry))) (length (now (alts .entry)))) (areLists (length (now (table .entry))) main common last))) (wordOf limit (now (names .entry)) (matcher (now (pack .entry)) (now (table .entry)) main) (matcher (now (pack .entry)) (now (table .entry)) common) (matcher (now (pack .entry)) (now (table .entry)) last) set (now (word .entry))) (now (out .entry)) (now (out .exit)) at r ⌝ }
 {
     if 256 < limit {
         return Worded::Unfit;
     }
-    if are_buffers(store.len(), lens.len(), langs.len(), ord.len()) {
-        if are_tables(starts.len(), ends.len(), sets.len()) {
-            if are_places(pack.len(), main, common, last) {
-                let g = languages::coded(set);
-                return match spell_word(
-                    store,
-                    lens,
-                    langs,
-                    ord,
-                    starts,
-                    ends,
-                    sets,
-                    pack,
-                    names,
-                    main,
-                    common,
-                    last,
-                    g,
-                    word,
-                    limit,
-                ) {
-                    Finished::Into { texts, flag } => Worded::Done {
-                        length: give(store, lens, ord, texts, out, at),
-                        flag,
-                    },
-                    Finished::TooLong => Worded::TooLong,
-                    Finished::TooMany => Worded::TooMany,
-                };
-            }
+    if are_buffers(store.len(), lens.len(), langs.len(), ord.len(), alts.len()) {
+        if are_lists(table.len(), main, common, last) {
+            let g = languages::coded(set);
+            return match spell_word(
+                store,
+                lens,
+                langs,
+                ord,
+                alts,
+                pack,
+                names,
+                table,
+                main,
+                common,
+                last,
+                g,
+                word,
+                limit,
+            ) {
+                Finished::Into { texts, flag } => Worded::Done {
+                    length: give(store, lens, ord, texts, out, at),
+                    flag,
+                },
+                Finished::TooLong => Worded::TooLong,
+                Finished::TooMany => Worded::TooMany,
+            };
         }
     }
     Worded::Unfit

@@ -4,7 +4,7 @@ use Rattle.engine.proofs.encode.part_of.Statement.{statement}
 use Rattle.engine.proofs.encode.part_of.Tie as tie
 use Rattle.engine.proofs.encode.part_of.Reads as reads
 use Rattle.engine.proofs.encode.part_of.Lts as lts
-use Rattle.name_parts.proofs.prefix_of.Reads as prefix-of-reads
+use Rattle.prefixes.proofs.prefix_of.Reads as prefix-of-reads
 
 enum-told : tie.Need-enum-told
 enum-told c = search needs

@@ -1,6 +1,6 @@
-use Prim.Native.Nat.{ℕ}
-use lib.ListN.{length-replicate}
+use mathlib.Core.Path.{refl}
 use borrow.Author.Needs.{needs}
+use Rattle.engine.proofs.AnswerLaws.{scratch-new, blank-new}
 use Rattle.engine.proofs.lines.spell_lines.Statement.{statement}
 use Rattle.engine.proofs.lines.spell_lines.Tie as tie
 use Rattle.engine.proofs.lines.spell_lines.Reads as reads
@@ -12,7 +12,7 @@ slice-aggregate-open : tie.Need-slice-aggregate-open
 slice-aggregate-open c = search needs
 
 open-requires : tie.Need-open-requires
-open-requires c κs = search needs
+open-requires c κs = blank-new 12642 refl
 
 slice-aggregate-put-lines : tie.Need-slice-aggregate-put-lines
 slice-aggregate-put-lines c = search needs
@@ -30,7 +30,7 @@ slice-aggregate-put-lines-5 : tie.Need-slice-aggregate-put-lines-5
 slice-aggregate-put-lines-5 c = search needs
 
 put-lines-requires : tie.Need-put-lines-requires
-put-lines-requires c κs = (record { store-is = length-replicate {A = ℕ} 131584 0; lens-is = length-replicate {A = ℕ} 1028 0; langs-is = length-replicate {A = ℕ} 1028 0; ord-is = length-replicate {A = ℕ} 1024 0 }, search needs)
+put-lines-requires c κs = (scratch-new, search needs)
 
 same-length : tie.Need-same-length
 same-length c = search needs

@@ -1,4 +1,5 @@
-use Rattle.engine.proofs.AnswerLaws.{scratch-new}
+use mathlib.Core.Path.{refl}
+use Rattle.engine.proofs.AnswerLaws.{scratch-new, blank-new}
 use borrow.Author.Needs.{needs}
 use Rattle.engine.proofs.spelling.spell.Statement.{statement}
 use Rattle.engine.proofs.spelling.spell.Tie as tie
@@ -11,7 +12,7 @@ slice-aggregate-open : tie.Need-slice-aggregate-open
 slice-aggregate-open c = search needs
 
 open-requires : tie.Need-open-requires
-open-requires c κs = search needs
+open-requires c κs = blank-new 12642 refl
 
 slice-aggregate-spell-at : tie.Need-slice-aggregate-spell-at
 slice-aggregate-spell-at c = search needs

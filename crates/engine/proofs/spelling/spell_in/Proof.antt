@@ -7,7 +7,7 @@ use Rattle.engine.proofs.spelling.spell_in.Reads as reads
 use Rattle.engine.proofs.spelling.spell_in.Lts as lts
 use Rattle.engine.proofs.call.call_of.Reads as call-of-reads
 use Rattle.engine.proofs.spelling.spell_lowered.Reads as spell-lowered-reads
-use Rattle.letters.proofs.lower_into.Reads as lower-into-reads
+use Rattle.lower_case.proofs.lower_into.Reads as lower-into-reads
 use Rattle.name_parts.proofs.part_hyphens.Reads as part-hyphens-reads
 
 slice-aggregate-lower-into : tie.Need-slice-aggregate-lower-into

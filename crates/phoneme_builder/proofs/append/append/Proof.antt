@@ -1,33 +1,23 @@
 use borrow.Author.Needs.{needs}
+use mathlib.Core.Path.{refl}
 use native.Mathlib.Omega.{arith}
 use Rattle.phoneme_builder.specs.Buffers.{arena}
-use Rattle.phoneme_builder.proofs.PartLaws.{walk-text-in, walk-langs-in, walk-code, lent-set}
-use Rattle.phoneme_builder.proofs.AppendLaws.{Appending, appending-laws, appending-long, appending-fits, appending-next, index-in, count-in}
+use Rattle.phoneme_builder.proofs.PartLaws.{walk-text-in, walk-langs-in, walk-code}
+use Rattle.phoneme_builder.proofs.AppendLaws.{Appending, appending-start, appending-end, appending-long, appending-fits, appending-next, index-in, count-in}
 use Rattle.phoneme_builder.proofs.append.append.Statement.{statement}
 use Rattle.phoneme_builder.proofs.append.append.Tie as tie
 use Rattle.phoneme_builder.proofs.append.append.Reads as reads
 use Rattle.phoneme_builder.proofs.append.append.Lts as lts
-use Rattle.phoneme_builder.proofs.set.add.Reads as add-reads
-use Rattle.phoneme_builder.proofs.set.copy_text.Reads as copy-text-reads
-use Rattle.phoneme_builder.proofs.set.langs_of.Reads as langs-of-reads
 
 abbrev Inv-loop : tie.InvT-loop
-Inv-loop store₀ lens₀ langs₀ ord₀ from on to c p l o row₀ i₀ k₀ store lens langs ord row i k = Appending c (arena store₀ lens₀ langs₀ ord₀) from on to (arena store lens langs ord) row k i
+Inv-loop store₀ lens₀ langs₀ ord₀ from on to c row₀ i₀ k₀ store lens langs ord row i k =
+    Appending c (arena store₀ lens₀ langs₀ ord₀) from on to (arena store lens langs ord) row k i
 
 abbrev μ-loop : tie.MeasureT-loop
-μ-loop store₀ lens₀ langs₀ ord₀ from on to c p l o row₀ i₀ k₀ store lens langs ord row i k = i
-
-mul-p : tie.Need-mul-p Inv-loop μ-loop
-mul-p c = search needs
-
-mul-l : tie.Need-mul-l Inv-loop μ-loop
-mul-l c = search needs
-
-mul-o : tie.Need-mul-o Inv-loop μ-loop
-mul-o c = search needs
+μ-loop store₀ lens₀ langs₀ ord₀ from on to c row₀ i₀ k₀ store lens langs ord row i k = i
 
 loop-holds : tie.Need-loop-holds Inv-loop μ-loop
-loop-holds c = search (appending-laws, needs)
+loop-holds c = appending-start _ (c .before .before .before .before .before .pre .0) (c .before .before .before .before .before .pre .1 .0) (c .before .before .before .before .before .pre .1 .1 .0) (c .before .before .before .before .before .pre .1 .1 .1) _ refl
 
 sub-i : tie.Need-sub-i Inv-loop μ-loop
 sub-i c = search needs
@@ -42,106 +32,55 @@ langs-of-requires : tie.Need-langs-of-requires Inv-loop μ-loop
 langs-of-requires c κs = walk-langs-in (c .before .before .before .before .before .before .before .before .before .loop .inv .at) _ (index-in (c .before .before .before .before .before .before .before .before .before .loop .inv) (c .before .before .before .before .before .before .before .before .loop-test .taken))
 
 add-if1 : tie.Need-add-if1 Inv-loop μ-loop
-add-if1 c = omega (arith, c .before .before .before .before .copy-text .ensures .short)
+add-if1 c = search needs
 
 same-length : tie.Need-same-length Inv-loop μ-loop
-same-length c = search needs
+same-length c = omega (arith, c .before .before .before .before .before .before .before .before .before .before .before .loop .inv .at .rooms .long-store, c .before .before .before .before .before .before .before .before .before .before .before .before .before .before .before .before .before .pre .0 .long-store)
 
 same-length-2 : tie.Need-same-length-2 Inv-loop μ-loop
-same-length-2 c = search needs
+same-length-2 c = omega (arith, c .before .before .before .before .before .before .before .before .before .before .before .loop .inv .at .rooms .long-lens, c .before .before .before .before .before .before .before .before .before .before .before .before .before .before .before .before .before .pre .0 .long-lens)
 
 same-length-3 : tie.Need-same-length-3 Inv-loop μ-loop
-same-length-3 c = search needs
+same-length-3 c = omega (arith, c .before .before .before .before .before .before .before .before .before .before .before .loop .inv .at .rooms .long-langs, c .before .before .before .before .before .before .before .before .before .before .before .before .before .before .before .before .before .pre .0 .long-langs)
 
 same-length-4 : tie.Need-same-length-4 Inv-loop μ-loop
-same-length-4 c = search needs
+same-length-4 c = omega (arith, c .before .before .before .before .before .before .before .before .before .before .before .loop .inv .at .rooms .long-ord, c .before .before .before .before .before .before .before .before .before .before .before .before .before .before .before .before .before .pre .0 .long-ord)
 
 returns : tie.Need-returns Inv-loop μ-loop
 returns c = appending-long (c .before .before .before .before .before .before .before .before .before .before .before .loop .inv) (c .before .before .before .before .before .before .before .before .before .before .loop-test .taken) (c .before .before .before .before .row2 .given) (c .before .before .before .before .before .copy-text .ensures) (c .before .langs-of .ensures) (omega (arith, c .if1 .taken))
 
-add-add : tie.Need-add-add Inv-loop μ-loop
-add-add c = search needs
+sub-add-to : tie.Need-sub-add-to Inv-loop μ-loop
+sub-add-to c = search needs
 
-sub-add : tie.Need-sub-add Inv-loop μ-loop
-sub-add c = search needs
+part-add-to-start : tie.Need-part-add-to-start Inv-loop μ-loop
+part-add-to-start c = search needs
 
-part-add-start : tie.Need-part-add-start Inv-loop μ-loop
-part-add-start c = search needs
+part-add-to-end : tie.Need-part-add-to-end Inv-loop μ-loop
+part-add-to-end c = omega (arith, c .before .before .before .before .before .before .before .before .before .before .copy-text .ensures .short, c .before .before .before .before .before .before .before .before .before .row2 .given)
 
-part-add-end : tie.Need-part-add-end Inv-loop μ-loop
-part-add-end c = search needs
-
-add-add-2 : tie.Need-add-add-2 Inv-loop μ-loop
-add-add-2 c = search needs
-
-sub-add-2 : tie.Need-sub-add-2 Inv-loop μ-loop
-sub-add-2 c = search needs
-
-part-add-start-2 : tie.Need-part-add-start-2 Inv-loop μ-loop
-part-add-start-2 c = search needs
-
-part-add-end-2 : tie.Need-part-add-end-2 Inv-loop μ-loop
-part-add-end-2 c = search needs
-
-add-add-3 : tie.Need-add-add-3 Inv-loop μ-loop
-add-add-3 c = search needs
-
-mul-add : tie.Need-mul-add Inv-loop μ-loop
-mul-add c = search needs
-
-sub-add-3 : tie.Need-sub-add-3 Inv-loop μ-loop
-sub-add-3 c = search needs
-
-part-add-start-3 : tie.Need-part-add-start-3 Inv-loop μ-loop
-part-add-start-3 c = search needs
-
-part-add-end-3 : tie.Need-part-add-end-3 Inv-loop μ-loop
-part-add-end-3 c = search needs
-
-add-add-4 : tie.Need-add-add-4 Inv-loop μ-loop
-add-add-4 c = search needs
-
-sub-add-4 : tie.Need-sub-add-4 Inv-loop μ-loop
-sub-add-4 c = search needs
-
-part-add-start-4 : tie.Need-part-add-start-4 Inv-loop μ-loop
-part-add-start-4 c = search needs
-
-part-add-end-4 : tie.Need-part-add-end-4 Inv-loop μ-loop
-part-add-end-4 c = search needs
-
-sub-add-5 : tie.Need-sub-add-5 Inv-loop μ-loop
-sub-add-5 c = search needs
-
-part-add-start-5 : tie.Need-part-add-start-5 Inv-loop μ-loop
-part-add-start-5 c = search needs
-
-part-add-end-5 : tie.Need-part-add-end-5 Inv-loop μ-loop
-part-add-end-5 c = omega (arith, c .before .before .before .before .before .before .before .before .before .before .copy-text .ensures .short, c .before .before .before .before .before .before .before .before .before .row2 .given)
-
-add-requires : tie.Need-add-requires Inv-loop μ-loop
-add-requires c κs = (lent-set _ _ _ (c .before .before .before .before .before .before .before .before .before .before .before .before .before .before .before .before .before .loop .inv .now-is), (walk-code (c .before .before .before .before .before .before .before .before .before .before .before .before .before .before .before .before .before .loop .inv .at) _ (index-in (c .before .before .before .before .before .before .before .before .before .before .before .before .before .before .before .before .before .loop .inv) (c .before .before .before .before .before .before .before .before .before .before .before .before .before .before .before .before .loop-test .taken)) _ (c .before .before .before .before .before .before .before .langs-of .ensures), (count-in (c .before .before .before .before .before .before .before .before .before .before .before .before .before .before .before .before .before .loop .inv) (c .before .before .before .before .before .before .before .before .before .before .before .before .before .before .before .before .loop-test .taken), appending-fits (c .before .before .before .before .before .before .before .before .before .before .before .before .before .before .before .before .before .loop .inv) (c .before .before .before .before .before .before .before .before .before .before .before .before .before .before .before .before .loop-test .taken) (c .before .before .before .before .before .before .before .before .before .before .row2 .given) (c .before .before .before .before .before .before .before .before .before .before .before .copy-text .ensures) (c .before .before .before .before .before .before .before .langs-of .ensures) (omega (arith, c .before .before .before .before .before .before .if1 .left)))))
+add-to-requires : tie.Need-add-to-requires Inv-loop μ-loop
+add-to-requires c κs = (c .before .before .before .before .before .before .before .before .before .before .before .before .before .before .before .before .before .loop .inv .at .rooms, (c .before .before .before .before .before .before .before .before .before .before .before .before .before .before .before .before .before .loop .inv .now-is, (walk-code (c .before .before .before .before .before .before .before .before .before .before .before .before .before .before .before .before .before .loop .inv .at) _ (index-in (c .before .before .before .before .before .before .before .before .before .before .before .before .before .before .before .before .before .loop .inv) (c .before .before .before .before .before .before .before .before .before .before .before .before .before .before .before .before .loop-test .taken)) _ (c .before .before .before .before .before .before .before .langs-of .ensures), (count-in (c .before .before .before .before .before .before .before .before .before .before .before .before .before .before .before .before .before .loop .inv) (c .before .before .before .before .before .before .before .before .before .before .before .before .before .before .before .before .loop-test .taken), appending-fits (c .before .before .before .before .before .before .before .before .before .before .before .before .before .before .before .before .before .loop .inv) (c .before .before .before .before .before .before .before .before .before .before .before .before .before .before .before .before .loop-test .taken) (c .before .before .before .before .before .before .before .before .before .before .row2 .given) (c .before .before .before .before .before .before .before .before .before .before .before .copy-text .ensures) (c .before .before .before .before .before .before .before .langs-of .ensures) (omega (arith, c .before .before .before .before .before .before .if1 .left))))))
 
 loop-less : tie.Need-loop-less Inv-loop μ-loop
 loop-less c = omega (arith, c .before .before .before .before .before .before .before .before .before .before .before .before .before .before .before .before .before .before .before .before .before .before .before .before .before .loop-test .taken)
 
 loop-again : tie.Need-loop-again Inv-loop μ-loop
-loop-again c = appending-next (c .before .before .before .before .before .before .before .before .before .before .before .before .before .before .before .before .before .before .before .before .before .before .before .before .before .before .loop .inv) (c .before .before .before .before .before .before .before .before .before .before .before .before .before .before .before .before .before .before .before .before .before .before .before .before .before .loop-test .taken) (c .before .before .before .before .before .before .before .before .before .before .before .before .before .before .before .before .before .before .before .row2 .given) (c .before .before .before .before .before .before .before .before .before .before .before .before .before .before .before .before .before .before .before .before .copy-text .ensures) (c .before .before .before .before .before .before .before .before .before .before .before .before .before .before .before .before .langs-of .ensures) (omega (arith, c .before .before .before .before .before .before .before .before .before .before .before .before .before .before .before .if1 .left)) (c .before .before .before .before .before .before .before .before .add .ensures) (record { store = c .before .before .before .before .before .before .before .store .given .0; lens = c .before .before .before .before .before .lens .given .0; langs = c .before .before .before .langs .given .0; ord = c .before .ord .given .0 })
+loop-again c = appending-next (c .before .before .before .before .before .before .before .before .before .before .before .before .before .before .before .before .before .before .before .before .before .before .before .before .before .before .loop .inv) (c .before .before .before .before .before .before .before .before .before .before .before .before .before .before .before .before .before .before .before .before .before .before .before .before .before .loop-test .taken) (c .before .before .before .before .before .before .before .before .before .before .before .before .before .before .before .before .before .before .before .row2 .given) (c .before .before .before .before .before .before .before .before .before .before .before .before .before .before .before .before .before .before .before .before .copy-text .ensures) (c .before .before .before .before .before .before .before .before .before .before .before .before .before .before .before .before .langs-of .ensures) (omega (arith, c .before .before .before .before .before .before .before .before .before .before .before .before .before .before .before .if1 .left)) (c .before .before .before .before .before .before .before .before .add-to .ensures)
 
 same-length-5 : tie.Need-same-length-5 Inv-loop μ-loop
-same-length-5 c = search needs
+same-length-5 c = omega (arith, c .before .loop .inv .at .rooms .long-store, c .before .before .before .before .before .before .before .pre .0 .long-store)
 
 same-length-6 : tie.Need-same-length-6 Inv-loop μ-loop
-same-length-6 c = search needs
+same-length-6 c = omega (arith, c .before .loop .inv .at .rooms .long-lens, c .before .before .before .before .before .before .before .pre .0 .long-lens)
 
 same-length-7 : tie.Need-same-length-7 Inv-loop μ-loop
-same-length-7 c = search needs
+same-length-7 c = omega (arith, c .before .loop .inv .at .rooms .long-langs, c .before .before .before .before .before .before .before .pre .0 .long-langs)
 
 same-length-8 : tie.Need-same-length-8 Inv-loop μ-loop
-same-length-8 c = search needs
+same-length-8 c = omega (arith, c .before .loop .inv .at .rooms .long-ord, c .before .before .before .before .before .before .before .pre .0 .long-ord)
 
 returns-2 : tie.Need-returns-2 Inv-loop μ-loop
-returns-2 c = search (appending-laws, needs)
+returns-2 c = appending-end (c .before .loop .inv) (c .loop-test .left)
 
 pub append-spec : {M : Type 1} → statement M
 append-spec =
@@ -149,9 +88,6 @@ append-spec =
     (tie.spec
     Inv-loop
     μ-loop
-    mul-p
-    mul-l
-    mul-o
     loop-holds
     sub-i
     slice-aggregate-copy-text
@@ -163,27 +99,10 @@ append-spec =
     same-length-3
     same-length-4
     returns
-    add-add
-    sub-add
-    part-add-start
-    part-add-end
-    add-add-2
-    sub-add-2
-    part-add-start-2
-    part-add-end-2
-    add-add-3
-    mul-add
-    sub-add-3
-    part-add-start-3
-    part-add-end-3
-    add-add-4
-    sub-add-4
-    part-add-start-4
-    part-add-end-4
-    sub-add-5
-    part-add-start-5
-    part-add-end-5
-    add-requires
+    sub-add-to
+    part-add-to-start
+    part-add-to-end
+    add-to-requires
     loop-less
     loop-again
     same-length-5

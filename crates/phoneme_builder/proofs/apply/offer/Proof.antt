@@ -1,10 +1,11 @@
 use borrow.Author.Needs.{needs}
+use native.Mathlib.Omega.{arith}
 use Rattle.phoneme_builder.proofs.ApplyLaws.{offer-laws}
+use Rattle.languages.proofs.CodedLaws.{and-code}
 use Rattle.phoneme_builder.proofs.apply.offer.Statement.{statement}
 use Rattle.phoneme_builder.proofs.apply.offer.Tie as tie
 use Rattle.phoneme_builder.proofs.apply.offer.Reads as reads
 use Rattle.phoneme_builder.proofs.apply.offer.Lts as lts
-use Rattle.phoneme_builder.proofs.set.add.Reads as add-reads
 
 returns : tie.Need-returns
 returns c = search (offer-laws, needs)
@@ -15,20 +16,20 @@ add-if2 c = search needs
 returns-2 : tie.Need-returns-2
 returns-2 c = search (offer-laws, needs)
 
-add-requires : tie.Need-add-requires
-add-requires c κs = (search needs, (search (offer-laws, needs), search needs))
+add-to-requires : tie.Need-add-to-requires
+add-to-requires c κs = (c .before .before .before .before .before .before .before .before .before .before .before .before .pre .0, (c .before .before .before .before .before .before .before .before .before .before .before .before .pre .1 .0, (and-code (c .before .before .before .before .before .before .before .before .before .before .before .before .pre .1 .1 .0) (c .before .before .before .before .before .before .before .before .before .before .before .before .pre .1 .1 .1 .0), search needs)))
 
 same-length : tie.Need-same-length
-same-length c = search needs
+same-length c = omega (arith, c .before .before .before .before .before .before .before .before .add-to .ensures .rooms .long-store, c .before .before .before .before .before .before .before .before .before .before .before .before .before .before .before .before .before .before .before .before .before .pre .0 .long-store)
 
 same-length-2 : tie.Need-same-length-2
-same-length-2 c = search needs
+same-length-2 c = omega (arith, c .before .before .before .before .before .before .before .before .add-to .ensures .rooms .long-lens, c .before .before .before .before .before .before .before .before .before .before .before .before .before .before .before .before .before .before .before .before .before .pre .0 .long-lens)
 
 same-length-3 : tie.Need-same-length-3
-same-length-3 c = search needs
+same-length-3 c = omega (arith, c .before .before .before .before .before .before .before .before .add-to .ensures .rooms .long-langs, c .before .before .before .before .before .before .before .before .before .before .before .before .before .before .before .before .before .before .before .before .before .pre .0 .long-langs)
 
 same-length-4 : tie.Need-same-length-4
-same-length-4 c = search needs
+same-length-4 c = omega (arith, c .before .before .before .before .before .before .before .before .add-to .ensures .rooms .long-ord, c .before .before .before .before .before .before .before .before .before .before .before .before .before .before .before .before .before .before .before .before .before .pre .0 .long-ord)
 
 returns-3 : tie.Need-returns-3
 returns-3 c = search (offer-laws, needs)
@@ -40,7 +41,7 @@ offer-spec =
     returns
     add-if2
     returns-2
-    add-requires
+    add-to-requires
     same-length
     same-length-2
     same-length-3

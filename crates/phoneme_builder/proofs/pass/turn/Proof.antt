@@ -1,31 +1,29 @@
+use borrow.Author.Needs.{needs}
+use native.Mathlib.Omega.{arith}
 use Rattle.phoneme_builder.proofs.MatchLaws.{match-by, match-none}
 use Rattle.phoneme_builder.proofs.PassLaws.{expression-short, turn-letter, turn-rule, turn-long}
-use borrow.Author.Needs.{needs}
 use Rattle.phoneme_builder.proofs.pass.turn.Statement.{statement}
 use Rattle.phoneme_builder.proofs.pass.turn.Tie as tie
 use Rattle.phoneme_builder.proofs.pass.turn.Reads as reads
 use Rattle.phoneme_builder.proofs.pass.turn.Lts as lts
-use Rattle.phoneme_builder.proofs.matching.first_match.Reads as first-match-reads
-use Rattle.phoneme_builder.proofs.pass.apply_rule.Reads as apply-rule-reads
-use Rattle.phoneme_builder.proofs.pass.letter_turn.Reads as letter-turn-reads
 
 first-match-requires : tie.Need-first-match-requires
-first-match-requires c κs = search needs
+first-match-requires c κs = (c .before .before .before .before .before .before .before .before .before .pre .1 .1 .1 .1 .0 .0, c .before .before .before .before .before .before .before .before .before .pre .1 .1 .1 .1 .1)
 
 enum-known-step : tie.Need-enum-known-step
 enum-known-step c = search needs
 
 sub-apply-rule : tie.Need-sub-apply-rule
-sub-apply-rule c = match-by _ _ _ _ _ (c .before .before .before .before .before .before .before .before .before .before .first-match .ensures) _ _ _ (c .before .before .before .before .before .before .before .before .step .given .1) .placed .order
+sub-apply-rule c = match-by _ _ _ _ _ (c .before .before .before .before .before .before .before .before .first-match .ensures) _ _ _ (c .before .before .before .before .before .before .step .given .1) .placed .order
 
 part-apply-rule-start : tie.Need-part-apply-rule-start
-part-apply-rule-start c = match-by _ _ _ _ _ (c .before .before .before .before .before .before .before .before .before .before .first-match .ensures) _ _ _ (c .before .before .before .before .before .before .before .before .step .given .1) .placed .order
+part-apply-rule-start c = match-by _ _ _ _ _ (c .before .before .before .before .before .before .before .before .first-match .ensures) _ _ _ (c .before .before .before .before .before .before .step .given .1) .placed .order
 
 part-apply-rule-end : tie.Need-part-apply-rule-end
-part-apply-rule-end c = match-by _ _ _ _ _ (c .before .before .before .before .before .before .before .before .before .before .first-match .ensures) _ _ _ (c .before .before .before .before .before .before .before .before .step .given .1) .placed .fits
+part-apply-rule-end c = match-by _ _ _ _ _ (c .before .before .before .before .before .before .before .before .first-match .ensures) _ _ _ (c .before .before .before .before .before .before .step .given .1) .placed .fits
 
 apply-rule-requires : tie.Need-apply-rule-requires
-apply-rule-requires c κs = (c .before .before .before .before .before .before .before .before .before .before .before .before .before .before .before .before .before .before .before .before .before .before .pre .0, (c .before .before .before .before .before .before .before .before .before .before .before .before .before .before .before .before .before .before .before .before .before .before .pre .1 .0, (c .before .before .before .before .before .before .before .before .before .before .before .before .before .before .before .before .before .before .before .before .before .before .pre .1 .1 .0, (c .before .before .before .before .before .before .before .before .before .before .before .before .before .before .before .before .before .before .before .before .before .before .pre .1 .1 .1 .0, (expression-short (match-by _ _ _ _ _ (c .before .before .before .before .before .before .before .before .before .before .before .first-match .ensures) _ _ _ (c .before .before .before .before .before .before .before .before .before .step .given .1) .placed), c .before .before .before .before .before .before .before .before .before .before .before .before .before .before .before .before .before .before .before .before .before .before .pre .1 .1 .1 .1 .0 .1)))))
+apply-rule-requires c κs = (c .before .before .before .before .before .before .before .before .before .before .before .before .before .before .before .before .before .before .before .pre .0, (c .before .before .before .before .before .before .before .before .before .before .before .before .before .before .before .before .before .before .before .pre .1 .0, (c .before .before .before .before .before .before .before .before .before .before .before .before .before .before .before .before .before .before .before .pre .1 .1 .0, (c .before .before .before .before .before .before .before .before .before .before .before .before .before .before .before .before .before .before .before .pre .1 .1 .1 .0, (expression-short (match-by _ _ _ _ _ (c .before .before .before .before .before .before .before .before .before .first-match .ensures) _ _ _ (c .before .before .before .before .before .before .before .step .given .1) .placed), c .before .before .before .before .before .before .before .before .before .before .before .before .before .before .before .before .before .before .before .pre .1 .1 .1 .1 .0 .1)))))
 
 enum-known-k : tie.Need-enum-known-k
 enum-known-k c = search needs
@@ -37,67 +35,55 @@ enum-told-2 : tie.Need-enum-told-2
 enum-told-2 c = search needs
 
 letter-turn-requires : tie.Need-letter-turn-requires
-letter-turn-requires c κs = (c .before .before .before .before .before .before .before .before .before .before .before .before .before .before .before .before .before .pre .0, (c .before .before .before .before .before .before .before .before .before .before .before .before .before .before .before .before .before .pre .1 .0, (c .before .before .before .before .before .before .before .before .before .before .before .before .before .before .before .before .before .pre .1 .1 .0, c .before .before .before .before .before .before .before .before .before .before .before .before .before .before .before .before .before .pre .1 .1 .1 .1 .1)))
+letter-turn-requires c κs = (c .before .before .before .before .before .before .before .before .before .before .before .before .before .before .before .before .pre .0, (c .before .before .before .before .before .before .before .before .before .before .before .before .before .before .before .before .pre .1 .0, (c .before .before .before .before .before .before .before .before .before .before .before .before .before .before .before .before .pre .1 .1 .0, c .before .before .before .before .before .before .before .before .before .before .before .before .before .before .before .before .pre .1 .1 .1 .1 .1)))
 
 same-length : tie.Need-same-length
-same-length c = search needs
+same-length c = omega (arith, c .before .before .before .before .before .before .before .before .before .before .before .before .before .apply-rule .ensures .rooms .long-store, c .before .before .before .before .before .before .before .before .before .before .before .before .before .before .before .before .before .before .before .before .before .before .before .before .before .before .before .before .before .before .before .before .before .pre .0 .long-store)
 
 same-length-2 : tie.Need-same-length-2
-same-length-2 c = search needs
+same-length-2 c = omega (arith, c .before .before .before .before .before .before .before .before .before .before .before .before .before .apply-rule .ensures .rooms .long-lens, c .before .before .before .before .before .before .before .before .before .before .before .before .before .before .before .before .before .before .before .before .before .before .before .before .before .before .before .before .before .before .before .before .before .pre .0 .long-lens)
 
 same-length-3 : tie.Need-same-length-3
-same-length-3 c = search needs
+same-length-3 c = omega (arith, c .before .before .before .before .before .before .before .before .before .before .before .before .before .apply-rule .ensures .rooms .long-langs, c .before .before .before .before .before .before .before .before .before .before .before .before .before .before .before .before .before .before .before .before .before .before .before .before .before .before .before .before .before .before .before .before .before .pre .0 .long-langs)
 
 same-length-4 : tie.Need-same-length-4
-same-length-4 c = search needs
+same-length-4 c = omega (arith, c .before .before .before .before .before .before .before .before .before .before .before .before .before .apply-rule .ensures .rooms .long-ord, c .before .before .before .before .before .before .before .before .before .before .before .before .before .before .before .before .before .before .before .before .before .before .before .before .before .before .before .before .before .before .before .before .before .pre .0 .long-ord)
 
 same-length-5 : tie.Need-same-length-5
-same-length-5 c = search needs
-
-same-length-6 : tie.Need-same-length-6
-same-length-6 c = search needs
-
-same-length-7 : tie.Need-same-length-7
-same-length-7 c = search needs
+same-length-5 c = omega (arith, c .before .before .before .before .alts .given)
 
 returns : tie.Need-returns
-returns c = turn-rule _ _ _ _ _ _ _ _ _ _ _ _ _ _ _ (match-by _ _ _ _ _ (c .before .before .before .before .before .before .before .before .before .before .before .before .before .before .before .before .before .before .before .before .before .before .before .before .before .before .before .before .before .first-match .ensures) _ _ _ (c .before .before .before .before .before .before .before .before .before .before .before .before .before .before .before .before .before .before .before .before .before .before .before .before .before .before .before .step .given .1)) (c .before .before .before .before .before .before .before .before .before .before .before .before .before .before .before .before .before .before .before .before .before .before .before .before .before .before .before .before .before .before .before .before .before .before .before .before .before .before .before .before .pre .1 .1 .0 .0) _ (c .before .before .before .before .before .before .before .before .before .before .before .before .before .before .before .before .before .apply-rule .ensures) _ (c .before .k .given .1)
+returns c = turn-rule _ _ _ _ _ _ _ _ _ _ _ _ _ _ _ (match-by _ _ _ _ _ (c .before .before .before .before .before .before .before .before .before .before .before .before .before .before .before .before .before .before .before .before .before .before .before .first-match .ensures) _ _ _ (c .before .before .before .before .before .before .before .before .before .before .before .before .before .before .before .before .before .before .before .before .before .step .given .1)) _ (c .before .before .before .before .before .before .before .before .before .before .before .before .before .apply-rule .ensures) _ (c .before .k .given .1)
+
+same-length-6 : tie.Need-same-length-6
+same-length-6 c = omega (arith, c .before .before .before .before .before .before .before .before .before .before .before .before .apply-rule .ensures .rooms .long-store, c .before .before .before .before .before .before .before .before .before .before .before .before .before .before .before .before .before .before .before .before .before .before .before .before .before .before .before .before .before .before .before .before .pre .0 .long-store)
+
+same-length-7 : tie.Need-same-length-7
+same-length-7 c = omega (arith, c .before .before .before .before .before .before .before .before .before .before .before .before .apply-rule .ensures .rooms .long-lens, c .before .before .before .before .before .before .before .before .before .before .before .before .before .before .before .before .before .before .before .before .before .before .before .before .before .before .before .before .before .before .before .before .pre .0 .long-lens)
 
 same-length-8 : tie.Need-same-length-8
-same-length-8 c = search needs
+same-length-8 c = omega (arith, c .before .before .before .before .before .before .before .before .before .before .before .before .apply-rule .ensures .rooms .long-langs, c .before .before .before .before .before .before .before .before .before .before .before .before .before .before .before .before .before .before .before .before .before .before .before .before .before .before .before .before .before .before .before .before .pre .0 .long-langs)
 
 same-length-9 : tie.Need-same-length-9
-same-length-9 c = search needs
+same-length-9 c = omega (arith, c .before .before .before .before .before .before .before .before .before .before .before .before .apply-rule .ensures .rooms .long-ord, c .before .before .before .before .before .before .before .before .before .before .before .before .before .before .before .before .before .before .before .before .before .before .before .before .before .before .before .before .before .before .before .before .pre .0 .long-ord)
 
 same-length-10 : tie.Need-same-length-10
-same-length-10 c = search needs
-
-same-length-11 : tie.Need-same-length-11
-same-length-11 c = search needs
-
-same-length-12 : tie.Need-same-length-12
-same-length-12 c = search needs
-
-same-length-13 : tie.Need-same-length-13
-same-length-13 c = search needs
-
-same-length-14 : tie.Need-same-length-14
-same-length-14 c = search needs
+same-length-10 c = omega (arith, c .before .before .before .alts .given)
 
 returns-2 : tie.Need-returns-2
-returns-2 c = turn-long _ _ _ _ _ _ _ _ _ _ _ _ _ _ _ (match-by _ _ _ _ _ (c .before .before .before .before .before .before .before .before .before .before .before .before .before .before .before .before .before .before .before .before .before .before .before .before .before .before .before .before .first-match .ensures) _ _ _ (c .before .before .before .before .before .before .before .before .before .before .before .before .before .before .before .before .before .before .before .before .before .before .before .before .before .before .step .given .1)) (c .before .before .before .before .before .before .before .before .before .before .before .before .before .before .before .before .before .before .before .before .before .before .before .before .before .before .before .before .before .before .before .before .before .before .before .before .before .before .before .pre .1 .1 .0 .0) _ (c .before .before .before .before .before .before .before .before .before .before .before .before .before .before .before .before .apply-rule .ensures) (c .enum-told .given .1)
+returns-2 c = turn-long _ _ _ _ _ _ _ _ _ _ _ _ _ _ _ (match-by _ _ _ _ _ (c .before .before .before .before .before .before .before .before .before .before .before .before .before .before .before .before .before .before .before .before .before .before .first-match .ensures) _ _ _ (c .before .before .before .before .before .before .before .before .before .before .before .before .before .before .before .before .before .before .before .before .step .given .1)) _ (c .before .before .before .before .before .before .before .before .before .before .before .before .apply-rule .ensures) (c .enum-told .given .1)
 
-same-length-15 : tie.Need-same-length-15
-same-length-15 c = search needs
+same-length-11 : tie.Need-same-length-11
+same-length-11 c = omega (arith, c .before .before .before .before .before .before .before .before .letter-turn .ensures .rooms .long-store, c .before .before .before .before .before .before .before .before .before .before .before .before .before .before .before .before .before .before .before .before .before .before .before .before .before .pre .0 .long-store)
 
-same-length-16 : tie.Need-same-length-16
-same-length-16 c = search needs
+same-length-12 : tie.Need-same-length-12
+same-length-12 c = omega (arith, c .before .before .before .before .before .before .before .before .letter-turn .ensures .rooms .long-lens, c .before .before .before .before .before .before .before .before .before .before .before .before .before .before .before .before .before .before .before .before .before .before .before .before .before .pre .0 .long-lens)
 
-same-length-17 : tie.Need-same-length-17
-same-length-17 c = search needs
+same-length-13 : tie.Need-same-length-13
+same-length-13 c = omega (arith, c .before .before .before .before .before .before .before .before .letter-turn .ensures .rooms .long-langs, c .before .before .before .before .before .before .before .before .before .before .before .before .before .before .before .before .before .before .before .before .before .before .before .before .before .pre .0 .long-langs)
 
-same-length-18 : tie.Need-same-length-18
-same-length-18 c = search needs
+same-length-14 : tie.Need-same-length-14
+same-length-14 c = omega (arith, c .before .before .before .before .before .before .before .before .letter-turn .ensures .rooms .long-ord, c .before .before .before .before .before .before .before .before .before .before .before .before .before .before .before .before .before .before .before .before .before .before .before .before .before .pre .0 .long-ord)
 
 returns-3 : tie.Need-returns-3
 returns-3 c = turn-letter _ _ _ _ _ _ _ _ _ _ _ _ (match-none _ _ _ _ _ (c .before .before .before .before .before .before .before .before .before .before .before .before .before .before .before .first-match .ensures) (c .before .before .before .before .before .before .before .before .before .before .before .before .before .enum-told2 .given .1)) (c .before .before .before .before .before .before .before .before .letter-turn .ensures)
@@ -121,19 +107,15 @@ turn-spec =
     same-length-3
     same-length-4
     same-length-5
+    returns
     same-length-6
     same-length-7
-    returns
     same-length-8
     same-length-9
     same-length-10
+    returns-2
     same-length-11
     same-length-12
     same-length-13
     same-length-14
-    returns-2
-    same-length-15
-    same-length-16
-    same-length-17
-    same-length-18
     returns-3)

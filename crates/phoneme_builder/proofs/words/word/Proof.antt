@@ -1,15 +1,9 @@
 use borrow.Author.Needs.{needs}
-use Rattle.phoneme_builder.proofs.WordLaws.{set-below, rooms-by, tables-by, places-by, all-fit, code-by, of-set, texts-in, word-done, word-long, word-many, unfit-laws}
+use Rattle.phoneme_builder.proofs.WordLaws.{set-below, rooms-by, alts-by, lists-by, all-fit, code-by, of-set, texts-in, word-done, word-long, word-many, unfit-laws}
 use Rattle.phoneme_builder.proofs.words.word.Statement.{statement}
 use Rattle.phoneme_builder.proofs.words.word.Tie as tie
 use Rattle.phoneme_builder.proofs.words.word.Reads as reads
 use Rattle.phoneme_builder.proofs.words.word.Lts as lts
-use Rattle.languages.proofs.coded.Reads as coded-reads
-use Rattle.phoneme_builder.proofs.words.are_buffers.Reads as are-buffers-reads
-use Rattle.phoneme_builder.proofs.words.are_places.Reads as are-places-reads
-use Rattle.phoneme_builder.proofs.words.are_tables.Reads as are-tables-reads
-use Rattle.phoneme_builder.proofs.words.give.Reads as give-reads
-use Rattle.phoneme_builder.proofs.words.spell_word.Reads as spell-word-reads
 
 returns : tie.Need-returns
 returns c = search (unfit-laws, needs)
@@ -17,23 +11,20 @@ returns c = search (unfit-laws, needs)
 are-buffers-requires : tie.Need-are-buffers-requires
 are-buffers-requires c κs = search needs
 
-are-tables-requires : tie.Need-are-tables-requires
-are-tables-requires c κs = search needs
-
-are-places-requires : tie.Need-are-places-requires
-are-places-requires c κs = search needs
+are-lists-requires : tie.Need-are-lists-requires
+are-lists-requires c κs = search needs
 
 coded-requires : tie.Need-coded-requires
 coded-requires c κs = search needs
 
 spell-word-requires : tie.Need-spell-word-requires
-spell-word-requires c κs = (rooms-by (c .before .before .before .before .before .before .before .before .before .before .before .before .if2 .taken) _ _ _ _ (c .before .before .before .before .before .before .before .before .before .before .before .before .before .are-buffers .ensures), (tables-by (c .before .before .before .before .before .before .before .before .before .before .if3 .taken) _ _ _ (c .before .before .before .before .before .before .before .before .before .before .before .are-tables .ensures), (places-by (c .before .before .before .before .before .before .before .before .if4 .taken) (c .before .before .before .before .before .before .before .before .before .are-places .ensures), (code-by _ (set-below _ _ (c .before .before .before .before .before .before .before .before .before .before .before .before .before .before .before .before .before .before .before .before .before .before .before .before .before .before .good .1 .1 .1 .1 .1 .1 .1 .1 .1 .1 .1 .1 .0 .1 .1)) _ (c .before .before .before .before .before .before .before .coded .ensures), c .before .before .before .before .before .before .before .before .before .before .before .before .before .before .if1 .left))))
+spell-word-requires c κs = (rooms-by (c .before .before .before .before .before .before .before .before .if2 .taken) _ _ _ _ _ (c .before .before .before .before .before .before .before .before .before .are-buffers .ensures), (alts-by (c .before .before .before .before .before .before .before .before .if2 .taken) _ _ _ _ (c .before .before .before .before .before .before .before .before .before .are-buffers .ensures), (lists-by (c .before .before .before .before .before .before .if3 .taken) _ (c .before .before .before .before .before .before .before .are-lists .ensures), (code-by _ (set-below _ _ (c .before .before .before .before .before .before .before .before .before .before .before .before .before .before .before .before .before .before .before .before .before .good .1 .1 .1 .1 .1 .1 .1 .1 .1 .1 .1 .0 .1 .1)) _ (c .before .before .before .before .before .coded .ensures), c .before .before .before .before .before .before .before .before .before .before .if1 .left))))
 
 enum-known-texts : tie.Need-enum-known-texts
 enum-known-texts c = search needs
 
 give-requires : tie.Need-give-requires
-give-requires c κs = texts-in (c .before .before .before .before .before .before .before .before .before .before .before .before .before .before .before .before .before .before .before .before .before .spell-word .ensures) (c .before .before .before .before .before .texts .given .1) _ (c .before .before .before .before .before .before .before .before .before .before .before .before .before .before .before .before .before .before .before .before .before .before .before .before .before .before .before .before .before .before .before .before .before .before .if2 .taken) (c .before .before .before .before .before .before .before .before .before .before .before .before .before .before .before .before .before .before .before .before .before .before .before .before .before .before .before .before .before .before .before .before .before .before .before .are-buffers .ensures) (c .before .before .before .before .before .before .before .before .before .before .before .before .before .before .before .before .before .before .before .before .store .given) (c .before .before .before .before .before .before .before .before .before .before .before .before .before .before .before .before .before .before .lens .given) (c .before .before .before .before .before .before .before .before .before .before .before .before .before .before .ord .given)
+give-requires c κs = texts-in (c .before .before .before .before .before .before .before .before .before .before .before .before .before .before .before .before .before .spell-word .ensures) (c .before .before .before .before .before .texts .given .1) _ _ (c .before .before .before .before .before .before .before .before .before .before .before .before .before .before .before .before .before .before .before .before .before .before .before .before .before .before .if2 .taken) (c .before .before .before .before .before .before .before .before .before .before .before .before .before .before .before .before .before .before .before .before .before .before .before .before .before .before .before .are-buffers .ensures) (c .before .before .before .before .before .before .before .before .before .before .before .before .before .before .before .before .store .given) (c .before .before .before .before .before .before .before .before .before .before .before .before .before .before .lens .given) (c .before .before .before .before .before .before .before .before .before .before .ord .given)
 
 enum-told : tie.Need-enum-told
 enum-told c = search needs
@@ -59,14 +50,14 @@ same-length-5 c = search needs
 same-length-6 : tie.Need-same-length-6
 same-length-6 c = search needs
 
+returns-2 : tie.Need-returns-2
+returns-2 c = word-done (of-set _ (set-below _ _ (c .before .before .before .before .before .before .before .before .before .before .before .before .before .before .before .before .before .before .before .before .before .before .before .before .before .before .before .before .before .before .before .before .before .before .before .before .before .before .before .before .before .before .good .1 .1 .1 .1 .1 .1 .1 .1 .1 .1 .1 .0 .1 .1)) _ (c .before .before .before .before .before .before .before .before .before .before .before .before .before .before .before .before .before .before .before .before .before .before .before .before .before .before .coded .ensures) _ _ _ _ _ _ (c .before .before .before .before .before .before .before .before .before .before .before .before .before .before .before .before .before .before .before .before .spell-word .ensures)) (c .before .before .before .before .before .before .before .before .texts .given .1) (all-fit (c .before .before .before .before .before .before .before .before .before .before .before .before .before .before .before .before .before .before .before .before .before .before .before .before .before .before .before .before .before .before .before .if1 .left) (c .before .before .before .before .before .before .before .before .before .before .before .before .before .before .before .before .before .before .before .before .before .before .before .before .before .before .before .before .before .before .are-buffers .ensures) (c .before .before .before .before .before .before .before .before .before .before .before .before .before .before .before .before .before .before .before .before .before .before .before .before .before .before .before .before .before .if2 .taken) (c .before .before .before .before .before .before .before .before .before .before .before .before .before .before .before .before .before .before .before .before .before .before .before .before .before .before .before .before .are-lists .ensures) (c .before .before .before .before .before .before .before .before .before .before .before .before .before .before .before .before .before .before .before .before .before .before .before .before .before .before .before .if3 .taken)) (c .before .before .give .ensures)
+
 same-length-7 : tie.Need-same-length-7
 same-length-7 c = search needs
 
 same-length-8 : tie.Need-same-length-8
 same-length-8 c = search needs
-
-returns-2 : tie.Need-returns-2
-returns-2 c = word-done (of-set _ (set-below _ _ (c .before .before .before .before .before .before .before .before .before .before .before .before .before .before .before .before .before .before .before .before .before .before .before .before .before .before .before .before .before .before .before .before .before .before .before .before .before .before .before .before .before .before .before .before .before .before .before .before .before .before .before .good .1 .1 .1 .1 .1 .1 .1 .1 .1 .1 .1 .1 .0 .1 .1)) _ (c .before .before .before .before .before .before .before .before .before .before .before .before .before .before .before .before .before .before .before .before .before .before .before .before .before .before .before .before .before .before .before .before .coded .ensures) _ _ _ _ _ _ (c .before .before .before .before .before .before .before .before .before .before .before .before .before .before .before .before .before .before .before .before .before .before .before .before .spell-word .ensures)) (c .before .before .before .before .before .before .before .before .texts .given .1) (all-fit (c .before .before .before .before .before .before .before .before .before .before .before .before .before .before .before .before .before .before .before .before .before .before .before .before .before .before .before .before .before .before .before .before .before .before .before .before .before .before .before .if1 .left) (c .before .before .before .before .before .before .before .before .before .before .before .before .before .before .before .before .before .before .before .before .before .before .before .before .before .before .before .before .before .before .before .before .before .before .before .before .before .before .are-buffers .ensures) (c .before .before .before .before .before .before .before .before .before .before .before .before .before .before .before .before .before .before .before .before .before .before .before .before .before .before .before .before .before .before .before .before .before .before .before .before .before .if2 .taken) (c .before .before .before .before .before .before .before .before .before .before .before .before .before .before .before .before .before .before .before .before .before .before .before .before .before .before .before .before .before .before .before .before .before .before .before .before .are-tables .ensures) (c .before .before .before .before .before .before .before .before .before .before .before .before .before .before .before .before .before .before .before .before .before .before .before .before .before .before .before .before .before .before .before .before .before .before .before .if3 .taken) (c .before .before .before .before .before .before .before .before .before .before .before .before .before .before .before .before .before .before .before .before .before .before .before .before .before .before .before .before .before .before .before .before .before .before .are-places .ensures) (c .before .before .before .before .before .before .before .before .before .before .before .before .before .before .before .before .before .before .before .before .before .before .before .before .before .before .before .before .before .before .before .before .before .if4 .taken)) (c .before .before .give .ensures)
 
 same-length-9 : tie.Need-same-length-9
 same-length-9 c = search needs
@@ -76,6 +67,9 @@ same-length-10 c = search needs
 
 same-length-11 : tie.Need-same-length-11
 same-length-11 c = search needs
+
+returns-3 : tie.Need-returns-3
+returns-3 c = word-long (of-set _ (set-below _ _ (c .before .before .before .before .before .before .before .before .before .before .before .before .before .before .before .before .before .before .before .before .before .before .before .before .before .before .before .before .before .before .before .before .before .before .good .1 .1 .1 .1 .1 .1 .1 .1 .1 .1 .1 .0 .1 .1)) _ (c .before .before .before .before .before .before .before .before .before .before .before .before .before .before .before .before .before .before .coded .ensures) _ _ _ _ _ _ (c .before .before .before .before .before .before .before .before .before .before .before .before .spell-word .ensures)) (all-fit (c .before .before .before .before .before .before .before .before .before .before .before .before .before .before .before .before .before .before .before .before .before .before .before .if1 .left) (c .before .before .before .before .before .before .before .before .before .before .before .before .before .before .before .before .before .before .before .before .before .before .are-buffers .ensures) (c .before .before .before .before .before .before .before .before .before .before .before .before .before .before .before .before .before .before .before .before .before .if2 .taken) (c .before .before .before .before .before .before .before .before .before .before .before .before .before .before .before .before .before .before .before .before .are-lists .ensures) (c .before .before .before .before .before .before .before .before .before .before .before .before .before .before .before .before .before .before .before .if3 .taken)) (c .enum-told .given .1)
 
 same-length-12 : tie.Need-same-length-12
 same-length-12 c = search needs
@@ -89,32 +83,11 @@ same-length-14 c = search needs
 same-length-15 : tie.Need-same-length-15
 same-length-15 c = search needs
 
-returns-3 : tie.Need-returns-3
-returns-3 c = word-long (of-set _ (set-below _ _ (c .before .before .before .before .before .before .before .before .before .before .before .before .before .before .before .before .before .before .before .before .before .before .before .before .before .before .before .before .before .before .before .before .before .before .before .before .before .before .before .before .before .before .before .good .1 .1 .1 .1 .1 .1 .1 .1 .1 .1 .1 .1 .0 .1 .1)) _ (c .before .before .before .before .before .before .before .before .before .before .before .before .before .before .before .before .before .before .before .before .before .before .before .before .coded .ensures) _ _ _ _ _ _ (c .before .before .before .before .before .before .before .before .before .before .before .before .before .before .before .before .spell-word .ensures)) (all-fit (c .before .before .before .before .before .before .before .before .before .before .before .before .before .before .before .before .before .before .before .before .before .before .before .before .before .before .before .before .before .before .before .if1 .left) (c .before .before .before .before .before .before .before .before .before .before .before .before .before .before .before .before .before .before .before .before .before .before .before .before .before .before .before .before .before .before .are-buffers .ensures) (c .before .before .before .before .before .before .before .before .before .before .before .before .before .before .before .before .before .before .before .before .before .before .before .before .before .before .before .before .before .if2 .taken) (c .before .before .before .before .before .before .before .before .before .before .before .before .before .before .before .before .before .before .before .before .before .before .before .before .before .before .before .before .are-tables .ensures) (c .before .before .before .before .before .before .before .before .before .before .before .before .before .before .before .before .before .before .before .before .before .before .before .before .before .before .before .if3 .taken) (c .before .before .before .before .before .before .before .before .before .before .before .before .before .before .before .before .before .before .before .before .before .before .before .before .before .before .are-places .ensures) (c .before .before .before .before .before .before .before .before .before .before .before .before .before .before .before .before .before .before .before .before .before .before .before .before .before .if4 .taken)) (c .enum-told .given .1)
-
 same-length-16 : tie.Need-same-length-16
 same-length-16 c = search needs
 
-same-length-17 : tie.Need-same-length-17
-same-length-17 c = search needs
-
-same-length-18 : tie.Need-same-length-18
-same-length-18 c = search needs
-
-same-length-19 : tie.Need-same-length-19
-same-length-19 c = search needs
-
-same-length-20 : tie.Need-same-length-20
-same-length-20 c = search needs
-
-same-length-21 : tie.Need-same-length-21
-same-length-21 c = search needs
-
-same-length-22 : tie.Need-same-length-22
-same-length-22 c = search needs
-
 returns-4 : tie.Need-returns-4
-returns-4 c = word-many (of-set _ (set-below _ _ (c .before .before .before .before .before .before .before .before .before .before .before .before .before .before .before .before .before .before .before .before .before .before .before .before .before .before .before .before .before .before .before .before .before .before .before .before .before .before .before .before .before .before .before .good .1 .1 .1 .1 .1 .1 .1 .1 .1 .1 .1 .1 .0 .1 .1)) _ (c .before .before .before .before .before .before .before .before .before .before .before .before .before .before .before .before .before .before .before .before .before .before .before .before .coded .ensures) _ _ _ _ _ _ (c .before .before .before .before .before .before .before .before .before .before .before .before .before .before .before .before .spell-word .ensures)) (all-fit (c .before .before .before .before .before .before .before .before .before .before .before .before .before .before .before .before .before .before .before .before .before .before .before .before .before .before .before .before .before .before .before .if1 .left) (c .before .before .before .before .before .before .before .before .before .before .before .before .before .before .before .before .before .before .before .before .before .before .before .before .before .before .before .before .before .before .are-buffers .ensures) (c .before .before .before .before .before .before .before .before .before .before .before .before .before .before .before .before .before .before .before .before .before .before .before .before .before .before .before .before .before .if2 .taken) (c .before .before .before .before .before .before .before .before .before .before .before .before .before .before .before .before .before .before .before .before .before .before .before .before .before .before .before .before .are-tables .ensures) (c .before .before .before .before .before .before .before .before .before .before .before .before .before .before .before .before .before .before .before .before .before .before .before .before .before .before .before .if3 .taken) (c .before .before .before .before .before .before .before .before .before .before .before .before .before .before .before .before .before .before .before .before .before .before .before .before .before .before .are-places .ensures) (c .before .before .before .before .before .before .before .before .before .before .before .before .before .before .before .before .before .before .before .before .before .before .before .before .before .if4 .taken)) (c .enum-told2 .given .1)
+returns-4 c = word-many (of-set _ (set-below _ _ (c .before .before .before .before .before .before .before .before .before .before .before .before .before .before .before .before .before .before .before .before .before .before .before .before .before .before .before .before .before .before .before .before .before .before .good .1 .1 .1 .1 .1 .1 .1 .1 .1 .1 .1 .0 .1 .1)) _ (c .before .before .before .before .before .before .before .before .before .before .before .before .before .before .before .before .before .before .coded .ensures) _ _ _ _ _ _ (c .before .before .before .before .before .before .before .before .before .before .before .before .spell-word .ensures)) (all-fit (c .before .before .before .before .before .before .before .before .before .before .before .before .before .before .before .before .before .before .before .before .before .before .before .if1 .left) (c .before .before .before .before .before .before .before .before .before .before .before .before .before .before .before .before .before .before .before .before .before .before .are-buffers .ensures) (c .before .before .before .before .before .before .before .before .before .before .before .before .before .before .before .before .before .before .before .before .before .if2 .taken) (c .before .before .before .before .before .before .before .before .before .before .before .before .before .before .before .before .before .before .before .before .are-lists .ensures) (c .before .before .before .before .before .before .before .before .before .before .before .before .before .before .before .before .before .before .before .if3 .taken)) (c .enum-told2 .given .1)
 
 returns-5 : tie.Need-returns-5
 returns-5 c = search unfit-laws
@@ -122,17 +95,13 @@ returns-5 c = search unfit-laws
 returns-6 : tie.Need-returns-6
 returns-6 c = search unfit-laws
 
-returns-7 : tie.Need-returns-7
-returns-7 c = search unfit-laws
-
 pub word-spec : {M : Type 1} → statement M
 word-spec =
     tie.close
     (tie.spec
     returns
     are-buffers-requires
-    are-tables-requires
-    are-places-requires
+    are-lists-requires
     coded-requires
     spell-word-requires
     enum-known-texts
@@ -145,25 +114,18 @@ word-spec =
     same-length-4
     same-length-5
     same-length-6
+    returns-2
     same-length-7
     same-length-8
-    returns-2
     same-length-9
     same-length-10
     same-length-11
+    returns-3
     same-length-12
     same-length-13
     same-length-14
     same-length-15
-    returns-3
     same-length-16
-    same-length-17
-    same-length-18
-    same-length-19
-    same-length-20
-    same-length-21
-    same-length-22
     returns-4
     returns-5
-    returns-6
-    returns-7)
+    returns-6)

@@ -1,0 +1,25 @@
+use Rattle.base.specs.Pick.{cases}
+use Rattle.phoneme_builder.specs.Tables.{areLists}
+use Rattle.phoneme_builder.proofs.words.are_lists.Statement.{statement}
+use Rattle.phoneme_builder.proofs.words.are_lists.Tie as tie
+use Rattle.phoneme_builder.proofs.words.are_lists.Reads as reads
+use Rattle.phoneme_builder.proofs.words.are_lists.Lts as lts
+
+returns : tie.Need-returns
+unfolding areLists
+returns c = search cases
+
+returns-2 : tie.Need-returns-2
+unfolding areLists
+returns-2 c = search cases
+
+returns-3 : tie.Need-returns-3
+unfolding areLists
+returns-3 c = search cases
+
+returns-4 : tie.Need-returns-4
+unfolding areLists
+returns-4 c = search cases
+
+pub are-lists-spec : {M : Type 1} → statement M
+are-lists-spec = tie.close (tie.spec returns returns-2 returns-3 returns-4)

@@ -1,0 +1,35 @@
+// The alternatives of an expression, read once for each apply.
+ghost use mathlib.Core.Path.{_≡_};
+ghost use Prim.Native.Nat.{_+_, _*_, _<_};
+ghost use lib.ListN.{length};
+ghost use Rattle.phoneme_builder.specs.Walks.{AltsAre};
+use phonemes::Alternative;
+
+// An alternative as one number: its languages, where it starts and where it ends.
+fn packed(set: u64, start: usize, end: usize) -> u64
+    requires { ⌜ (set < 17179869184) × (start < 256) × (end < 256) ⌝ }
+    ensures { λ r. ⌜ r ≡ set * 65536 + start * 256 + end ⌝ }
+{
+    set * 65536 + (start as u64) * 256 + end as u64
+}
+
+// The alternatives of e, in the table. Returns how many there are.
+pub(crate) fn alternatives(e: &[u8], names: &[u8], alts: &mut [u64]) -> usize
+    requires { ⌜ length (now e) < 256 ⌝ }
+    requires { ⌜ length (now alts) ≡ 256 ⌝ }
+    ensures { λ r. ⌜ AltsAre (now (names .entry)) (now (e .entry)) (now (alts .exit)) r ⌝ }
+{
+    let mut i = 0;
+    while i < 256 {
+        match phonemes::alternative(e, names, i) {
+            Alternative::At { start, end, set } => {
+                alts[i] = packed(languages::coded(set), start, end);
+                i += 1;
+            }
+            Alternative::Nothing => {
+                return i;
+            }
+        }
+    }
+    i
+}
