@@ -1,88 +1,10 @@
 // Answers cases: for each line of standard input that is a case, a line of what the port says of it, and `?` for any
 // other line. A case is a word and its fields, parted by blanks.
-mod fields;
-mod input;
-mod languages_cases;
-mod letters_cases;
 mod loading_cases;
-mod out;
-mod packs_cases;
-mod rules_cases;
-mod said;
 mod spelling_cases;
 mod words_cases;
 
-ghost use Prim.Native.Nat.{_≤_};
-ghost use lib.ListN.{length};
-use said::Said;
-
-// What is said of a line. `given` is for the bytes of its fields, `made` for what the port writes, `kept` is the pack,
-// `files` the bundle.
-fn said_of(line: &[u8], given: &mut [u8], made: &mut [u8], kept: &[u8], files: &[u8]) -> Said {
-    let f = fields::next(line, 0);
-    let from = f.from;
-    let to = f.to;
-    let word = &line[from..to];
-    let rest = &line[to..];
-    if letters_cases::knows(word) {
-        return letters_cases::said_of(word, rest, given, made);
-    }
-    if languages_cases::knows(word) {
-        return languages_cases::said_of(word, rest, given);
-    }
-    if rules_cases::knows(word) {
-        return rules_cases::said_of(word, rest, given);
-    }
-    if packs_cases::knows(word) {
-        return packs_cases::said_of(word, rest, given, kept);
-    }
-    if words_cases::knows(word) {
-        return words_cases::said_of(rest, given, made, kept);
-    }
-    if spelling_cases::knows(word) {
-        return spelling_cases::said_of(word, rest, given, made, kept);
-    }
-    if loading_cases::knows(word) {
-        return loading_cases::said_of(word, rest, given, made, files);
-    }
-    Said::NoCase
-}
-
-// Copies the first n bytes of given, where there is room, and answers how many are held now.
-fn store(given: &[u8], n: usize, into: &mut [u8], held: usize) -> usize
-    requires { ⌜ held ≤ length (now into) ⌝ }
-    ensures { λ r. ⌜ r ≤ length (now (into .exit)) ⌝ }
-{
-    if n <= given.len() {
-        if n <= into.len() {
-            bytes::copy(&given[0..n], into);
-            return n;
-        }
-    }
-    held
-}
-
-// Keeps a pack that a line gave, and answers how long the one that is kept now is.
-fn keep(said: Said, given: &[u8], pack: &mut [u8], held: usize) -> usize
-    requires { ⌜ held ≤ length (now pack) ⌝ }
-    ensures { λ r. ⌜ r ≤ length (now (pack .exit)) ⌝ }
-{
-    match said {
-        Said::Pack(n) => store(given, n, pack, held),
-        _ => held,
-    }
-}
-
-// The same for a bundle.
-fn keep_bundle(said: Said, given: &[u8], bundle: &mut [u8], held: usize) -> usize
-    requires { ⌜ held ≤ length (now bundle) ⌝ }
-    ensures { λ r. ⌜ r ≤ length (now (bundle .exit)) ⌝ }
-{
-    match said {
-        Said::Bundle(n) => store(given, n, bundle, held),
-        _ => held,
-    }
-}
+use cases::Said;
 
 // How long the pack and the bundle are that are kept, and how many bytes of output wait.
 struct Held {
@@ -91,8 +13,51 @@ struct Held {
     used: usize,
 }
 
-// Answers a line, and keeps what it gave.
+// What is said of a line, by its word's place and what its fields tell, with the pack and the bundle that are kept.
+fn said_of(
+    command: usize,
+    given: &[u8],
+    tells: &[usize; 9],
+    made: &mut [u8],
+    kept: &[u8],
+    files: &[u8],
+) -> Said {
+    match command {
+        cases::WORD => words_cases::word(given, tells, made, kept),
+        cases::SPELL => spelling_cases::spell(given, tells, made, kept),
+        cases::GIVEN => spelling_cases::spell_given(given, tells, made, kept),
+        cases::LOAD => loading_cases::load(tells, made, files),
+        _ => cases::said_of(command, given, tells, made, kept),
+    }
+}
+
+// Puts what is said of a line, and answers how many bytes of output wait then.
 fn answer(
+    command: usize,
+    given: &[u8],
+    tells: &[usize; 9],
+    made: &mut [u8],
+    kept: &[u8],
+    files: &[u8],
+    out: &mut [u8],
+    used: usize,
+) -> usize {
+    let said = said_of(command, given, tells, made, kept, files);
+    cases::say(said, given, tells, made, out, used)
+}
+
+// Keeps a line's bytes where it gives them for that and there is room, and answers how many are held now.
+fn keep(gives: bool, bytes: &[u8], into: &mut [u8], held: usize) -> usize {
+    if gives {
+        if bytes.len() <= into.len() {
+            return bytes::copy(bytes, into);
+        }
+    }
+    held
+}
+
+// Answers a line, and keeps the pack or the bundle that it gives.
+fn turn(
     line: &[u8],
     given: &mut [u8],
     made: &mut [u8],
@@ -100,19 +65,23 @@ fn answer(
     bundle: &mut [u8],
     out: &mut [u8],
     held: Held,
-) -> Held
-    requires { ⌜ (held .pack ≤ length (now pack)) × (held .bundle ≤ length (now bundle)) × (held .used ≤ length (now out)) ⌝ }
-    ensures { λ r. ⌜ (r .pack ≤ length (now (pack .exit))) × (r .bundle ≤ length (now (bundle .exit))) × (r .used ≤ length (now (out .exit))) ⌝ }
-{
-    let p = held.pack;
-    let b = held.bundle;
-    let said = said_of(line, given, made, &pack[0..p], &bundle[0..b]);
-    let kept = keep(said, given, pack, p);
-    let files = keep_bundle(said, given, bundle, b);
-    let used = said::say(said, given, made, out, held.used);
+) -> Held {
+    let mut tells = [0usize; 9];
+    let command = cases::read(line, given, &mut tells);
+    let used = answer(
+        command,
+        given,
+        &tells,
+        made,
+        cases::part(pack, 0, held.pack),
+        cases::part(bundle, 0, held.bundle),
+        out,
+        held.used,
+    );
+    let bytes = cases::bytes_of(given, &tells, 0);
     Held {
-        pack: kept,
-        bundle: files,
+        pack: keep(command == cases::PACK, bytes, pack, held.pack),
+        bundle: keep(command == cases::BUNDLE, bytes, bundle, held.bundle),
         used,
     }
 }
@@ -120,14 +89,15 @@ fn answer(
 // Answers every line of the input. The turns are counted down, from a number that no run uses up, since a proved loop
 // ends.
 fn serve(
-    buf: &mut [u8],
+    block: &mut [u8],
+    line: &mut [u8],
     given: &mut [u8],
     made: &mut [u8],
     pack: &mut [u8],
     bundle: &mut [u8],
     out: &mut [u8],
 ) {
-    let mut s = input::next(buf, input::start());
+    let mut s = cases::next(block, line, cases::start());
     let mut held = Held {
         pack: 0,
         bundle: 0,
@@ -135,25 +105,33 @@ fn serve(
     };
     let mut turns = u64::MAX;
     while turns > 0 && s.open {
-        let from = s.from;
-        let to = s.to;
-        held = answer(&buf[from..to], given, made, pack, bundle, out, held);
-        s = input::next(buf, s);
+        held = turn(
+            cases::part(line, 0, s.size),
+            given,
+            made,
+            pack,
+            bundle,
+            out,
+            held,
+        );
+        s = cases::next(block, line, s);
         turns -= 1;
     }
-    out::flush(out, held.used);
+    cases::flush(out, held.used);
 }
 
 fn main() {
-    // a line of 200,000 bytes and its line feed, and the bytes that such a line can give in hex; a pack and a bundle of 98,304 bytes
-    let mut buf = [0u8; 200001];
+    // a line of 200,000 bytes and one more, and the bytes that such a line can give in hex; a pack and a bundle of 98,304 bytes
+    let mut block = io::large_buffer();
+    let mut line = [0u8; 200001];
     let mut given = [0u8; 100000];
     let mut made = [0u8; 100000];
     let mut pack = [0u8; 98304];
     let mut bundle = [0u8; 98304];
     let mut out = io::large_buffer();
     serve(
-        &mut buf,
+        &mut block,
+        &mut line,
         &mut given,
         &mut made,
         &mut pack,

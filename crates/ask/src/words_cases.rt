@@ -1,30 +1,23 @@
 // The cases of the crate phoneme_builder.
-use crate::fields;
-use crate::fields::Three;
-use crate::said::Said;
+ghost use Prim.Native.Nat.{_≤_};
+use cases::Said;
 use languages::LanguageSet;
 use pack::Surveyed;
 use phoneme_builder::Worded;
 
-// Whether the word is one of this layer's.
-pub fn knows(word: &[u8]) -> bool {
-    letters::same(word, b"word")
-}
-
 // A set by its kind and bits.
-fn set_of(kind: u32, bits: u32) -> LanguageSet {
+fn set_of(kind: usize, bits: usize) -> LanguageSet {
     if kind == 0 {
         LanguageSet::Any
     } else if kind == 1 {
         LanguageSet::NoLanguages
     } else {
-        LanguageSet::SomeLanguages(bits)
+        LanguageSet::SomeLanguages(cases::low(bits))
     }
 }
 
 // The place of a list, by its number; behind every pack where there is none.
-fn place_of(places: &[usize], languages: usize, number: u32) -> usize {
-    let k = number as usize;
+fn place_of(places: &[usize], languages: usize, k: usize) -> usize {
     if k < places.len() {
         if languages <= 32 {
             if k < 3 * languages + 2 {
@@ -38,13 +31,97 @@ fn place_of(places: &[usize], languages: usize, number: u32) -> usize {
 // An answer of so many bytes, where there is room for it.
 fn fitted(flag: bool, length: usize, room: usize) -> Said {
     if length <= room {
-        return Said::Spelled(flag, length);
+        return Said::Line(0, flag as usize, cases::NO_NUMBER, length);
     }
-    Said::NoCase
+    cases::word(cases::NO_CASE)
+}
+
+// Whether a list's place lies behind the pack: there is no such list.
+fn are_past(end: usize, main: usize, common: usize, last: usize) -> bool {
+    end < main || end < common || end < last
+}
+
+fn put(table: &mut [usize], k: usize, value: usize) {
+    if k < table.len() {
+        table[k] = value;
+    }
+}
+
+// A row by which every rule of a list is tried, whatever byte is met: where they stand, and how many.
+fn fill_row(table: &mut [usize], row: usize, at: usize, count: usize)
+    requires { ⌜ row ≤ 354 ⌝ }
+{
+    let mut j: usize = 0;
+    while j < 64 {
+        put(table, row + j, at);
+        put(table, row + 64 + j, count);
+        j += 1;
+    }
+}
+
+// Where the rules of a list stand, behind its count.
+fn behind_count(place: usize) -> usize {
+    if place < usize::MAX - 2 {
+        place + 2
+    } else {
+        place
+    }
+}
+
+// The row of the list at a place.
+fn list_row(kept: &[u8], place: usize, table: &mut [usize], row: usize)
+    requires { ⌜ row ≤ 354 ⌝ }
+{
+    fill_row(
+        table,
+        row,
+        behind_count(place),
+        pack::rule_count(kept, place),
+    );
+}
+
+// A word spelled by the first three rows of a table.
+fn spelled(
+    kept: &[u8],
+    names: &[u8],
+    table: &[usize],
+    set: LanguageSet,
+    word: &[u8],
+    limit: usize,
+    made: &mut [u8],
+) -> Said {
+    let mut store = [0u8; 131584];
+    let mut lens = [0u8; 1028];
+    let mut langs = [0u64; 1028];
+    let mut ord = [0u8; 1024];
+    let mut alts = [0u64; 256];
+    match phoneme_builder::word(
+        &mut store,
+        &mut lens,
+        &mut langs,
+        &mut ord,
+        &mut alts,
+        kept,
+        names,
+        table,
+        0,
+        1,
+        2,
+        set,
+        word,
+        limit,
+        made,
+        0,
+    ) {
+        Worded::Done { length, flag } => fitted(flag, length, made.len()),
+        Worded::TooLong => Said::Count(cases::PLAIN, 7),
+        Worded::TooMany => Said::Count(cases::PLAIN, 8),
+        Worded::Unfit => cases::word(cases::NO_CASE),
+    }
 }
 
 // A word spelled from three lists of a pack.
-fn spelled(
+fn by_lists(
     kept: &[u8],
     names: &[u8],
     main: usize,
@@ -55,77 +132,31 @@ fn spelled(
     limit: usize,
     made: &mut [u8],
 ) -> Said {
-    let mut store = [0u8; 131584];
-    let mut lens = [0u8; 1028];
-    let mut langs = [0u64; 1028];
-    let mut ord = [0u8; 1024];
-    let mut starts = [0usize; 256];
-    let mut ends = [0usize; 256];
-    let mut sets = [0u64; 256];
-    match phoneme_builder::word(
-        &mut store,
-        &mut lens,
-        &mut langs,
-        &mut ord,
-        &mut starts,
-        &mut ends,
-        &mut sets,
-        kept,
-        names,
-        main,
-        common,
-        last,
-        set,
-        word,
-        limit,
-        made,
-        0,
-    ) {
-        Worded::Done { length, flag } => fitted(flag, length, made.len()),
-        Worded::TooLong => Said::Number(7),
-        Worded::TooMany => Said::Number(8),
-        Worded::Unfit => Said::NoCase,
+    if are_past(kept.len(), main, common, last) {
+        return cases::word(cases::NO_CASE);
     }
+    let mut table = [0usize; 12642];
+    list_row(kept, main, &mut table, 98);
+    list_row(kept, common, &mut table, 226);
+    list_row(kept, last, &mut table, 354);
+    spelled(kept, names, &table, set, word, limit, made)
 }
 
-// The names of a pack, by the place of its guessing section.
-fn names_of(kept: &[u8], guesses: usize) -> &[u8] {
-    if guesses <= kept.len() {
-        if 1 <= guesses {
-            return &kept[1..guesses];
-        }
-    }
-    &kept[0..0]
-}
-
-// A word spelled from the lists of these numbers; `more` is the limit and the set's kind and bits.
-fn worded(kept: &[u8], lists: Three, more: Three, word: &[u8], made: &mut [u8]) -> Said {
+// `word MAIN COMMON LAST LIMIT KIND BITS WORD`: a word spelled from the lists of these numbers.
+pub fn word(given: &[u8], tells: &[usize; 9], made: &mut [u8], kept: &[u8]) -> Said {
     let mut places = [0usize; 98];
     match pack::survey(kept, &mut places) {
-        Surveyed::Accepted { languages, guesses } => spelled(
+        Surveyed::Accepted { languages, guesses } => by_lists(
             kept,
-            names_of(kept, guesses),
-            place_of(&places, languages, lists.first),
-            place_of(&places, languages, lists.second),
-            place_of(&places, languages, lists.third),
-            set_of(more.second, more.third),
-            word,
-            more.first as usize,
+            cases::part(kept, 1, guesses),
+            place_of(&places, languages, tells[1]),
+            place_of(&places, languages, tells[2]),
+            place_of(&places, languages, tells[3]),
+            set_of(tells[5], tells[6]),
+            cases::part(given, 0, tells[7]),
+            tells[4],
             made,
         ),
-        Surveyed::Refused(place) => Said::Five(place),
+        Surveyed::Refused(place) => Said::Count(cases::FIVE, place),
     }
-}
-
-// `word MAIN COMMON LAST LIMIT KIND BITS WORD`.
-pub fn said_of(rest: &[u8], given: &mut [u8], made: &mut [u8], kept: &[u8]) -> Said {
-    let lists = fields::three_decimals(rest, 0);
-    let more = fields::three_decimals(rest, lists.at);
-    let at = more.at;
-    let a = fields::one_hex(&rest[at..], given);
-    if lists.good && more.good && a.good {
-        let n = a.count;
-        return worded(kept, lists, more, &given[0..n], made);
-    }
-    Said::NoCase
 }

@@ -1,6 +1,5 @@
-// The face: rule files loaded, a pack checked, a name spelled, names a line each. What is refused, and with which number, is the paper's table.
-mod flat;
-
+// The face: rule files loaded, a pack checked, a name spelled, names a line each. What is refused, and with which number, is the paper's
+// table. Crate bm is the same for C.
 ghost use mathlib.Core.Path.{_≡_};
 ghost use lib.ListN.{length};
 ghost use Rattle.pack.specs.Packs.{packOf, verdictOf};
@@ -12,11 +11,6 @@ pub use engine::Lines;
 pub use engine::Settings;
 pub use engine::Spelled;
 pub use engine::Start;
-pub use flat::bm_check;
-pub use flat::bm_load;
-pub use flat::bm_spell;
-pub use flat::bm_spell_given;
-pub use flat::bm_spell_lines;
 pub use loader::Loaded;
 pub use pack::Checked;
 

@@ -12,12 +12,12 @@ use lib.Seq.{sets-eq, length-sets, take-at}
 use borrow.Author.Tests.{leb-true, le-leb, lt-ltb, eq-eqb, eqb-true, eqb-false}
 use Rattle.base.specs.Pick.{pick, pick-true, pick-inv, and-yes}
 use Rattle.name_parts.proofs.Laws.{clash}
-use Rattle.name_parts.specs.declared.prefixes.NameType.{NameType}
-use Rattle.name_parts.specs.declared.prefixes.NameType.the-variants.{Ashkenazi, Generic, Sephardic}
+use Rattle.prefixes.specs.declared.prefixes.NameType.{NameType}
+use Rattle.prefixes.specs.declared.prefixes.NameType.the-variants.{Ashkenazi, Generic, Sephardic}
 use Rattle.regex_optim.specs.declared.OptimizedRegex.{OptimizedRegex}
 use Rattle.regex_optim.specs.declared.OptimizedRegex.the-variants.{AllStringsMatcher, IsEmpty, Equals, StartsWith, EndsWith, EqualsChar, StartsWithChar, EndsWithChar, Outside}
-use Rattle.rule.specs.declared.answers.Expression.{Expression}
-use Rattle.rule.specs.declared.answers.Expression.the-variants.{Good, Malformed, Stranger}
+use Rattle.phonemes.specs.declared.answers.Expression.{Expression}
+use Rattle.phonemes.specs.declared.answers.Expression.the-variants.{Good, Malformed, Stranger}
 use Rattle.pack.specs.Packs.{Guess, Rule, Pack, accepted, packOf, all, guessesGood, isForm, isGood, ruleGood, listGood, listCount}
 use Rattle.pack_bytes.specs.Bytes.{namesBytes, packBytes, Each, none, more, GoodPack}
 use Rattle.pack_bytes.proofs.Laws.{packed}

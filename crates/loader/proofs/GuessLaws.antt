@@ -18,7 +18,7 @@ use Rattle.languages.specs.Names.{stringsOf}
 use Rattle.languages.specs.declared.names.Listed.{Listed}
 use Rattle.languages.specs.declared.names.Listed.the-variants.{Bit, Unlisted}
 use Rattle.languages.proofs.Laws.{is-listed, bit-held}
-use Rattle.rule.specs.Expressions.{plus, onFirst, cutAt, withBits, namesMask}
+use Rattle.phonemes.specs.Expressions.{plus, onFirst, cutAt, withBits, namesMask}
 use Rattle.lang.specs.Patterns.{inForms}
 use Rattle.name_parts.specs.Writing.{Put, cap}
 use Rattle.name_parts.proofs.Laws.{clash, put-none, put-then, put-long, put-place}

@@ -12,7 +12,7 @@ use Rattle.base.specs.Pick.{pick, pick-true, pick-false}
 use Rattle.languages.specs.Names.{stringsOf}
 use Rattle.name_parts.specs.Writing.{Put}
 use Rattle.name_parts.proofs.Laws.{put-then, clash}
-use Rattle.name_parts.specs.declared.prefixes.NameType.{NameType}
+use Rattle.prefixes.specs.declared.prefixes.NameType.{NameType}
 use Rattle.pack.specs.Packs.{Guess, Rule, Pack, namesGood}
 use Rattle.pack_bytes.specs.Bytes.{countBytes, namesBytes, guessBytes, listBytes, packBytes}
 use Rattle.held.specs.Tables.{bytesOf}

@@ -6,8 +6,8 @@ use lib.ListN.{length, take, drop}
 use borrow.Author.Tests.{le-leb, lt-leb}
 use Rattle.base.specs.Pick.{pick-true, pick-false}
 use Rattle.name_parts.specs.Writing.{Put}
-use Rattle.name_parts.specs.declared.prefixes.NameType.{NameType}
-use Rattle.name_parts.specs.declared.prefixes.NameType.the-variants.{Ashkenazi, Generic, Sephardic}
+use Rattle.prefixes.specs.declared.prefixes.NameType.{NameType}
+use Rattle.prefixes.specs.declared.prefixes.NameType.the-variants.{Ashkenazi, Generic, Sephardic}
 use Rattle.name_parts.proofs.Laws.{clash, put-then}
 use Rattle.pack.specs.Packs.{Guess}
 use Rattle.pack_bytes.specs.Bytes.{countBytes}

@@ -7,7 +7,7 @@ use lib.ListN.{length}
 use Rattle.base.specs.Pick.{pick}
 use Rattle.languages.specs.declared.names.Listed.{Listed}
 use Rattle.languages.specs.declared.names.Listed.the-variants.{Bit, Unlisted}
-use Rattle.rule.specs.Expressions.{cutAt, plus, namesMask}
+use Rattle.phonemes.specs.Expressions.{cutAt, plus, namesMask}
 use Rattle.lang.specs.Patterns.{inForms}
 use Rattle.pack.specs.Packs as packs
 use Rattle.rules_parser.specs.Fields.{partOf}

@@ -6,8 +6,8 @@ use lib.Dec.{leb}
 use lib.ListN.{length}
 use lib.Seq.{sets}
 use Rattle.base.specs.Pick.{pick}
-use Rattle.name_parts.specs.declared.prefixes.NameType.{NameType}
-use Rattle.name_parts.specs.declared.prefixes.NameType.the-variants.{Ashkenazi, Generic, Sephardic}
+use Rattle.prefixes.specs.declared.prefixes.NameType.{NameType}
+use Rattle.prefixes.specs.declared.prefixes.NameType.the-variants.{Ashkenazi, Generic, Sephardic}
 use Rattle.pack.specs.Packs.{Guess, Rule, Pack}
 use Rattle.pack_bytes.specs.Bytes.{namesBytes, packBytes}
 use Rattle.bundles.specs.Bundles.{File, Found, missing, found, readBundle, wellFormed, filesOf, fileNamed}

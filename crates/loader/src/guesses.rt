@@ -29,7 +29,7 @@ fn judge(names: &[u8], pattern: &[u8], joined: &[u8]) -> Judged
         return Judged::Fault { code: 18 };
     }
     if lang::check_pattern(pattern) {
-        match rule::names_mask(names, joined) {
+        match phonemes::names_mask(names, joined) {
             Listed::Bit(mask) => Judged::Mask { mask },
             Listed::Unlisted => Judged::Fault { code: 16 },
         }

@@ -13,7 +13,7 @@ ghost use Rattle.loader.specs.Walks.{kindOf, NamesTold, GuessesTold, fro
 use crate::guesses::Guessed;
 use crate::language_list::Names;
 use bundles::FileAt;
-use name_parts::NameType;
+use prefixes::NameType;
 use rule_lists::Written;
 
 // The pack's length, or the refusal: its code, its line (the length needed for 9), and the file's number in the bundle.

@@ -10,9 +10,9 @@ use Rattle.languages.specs.Names.{strings, stringsOf, stringAt}
 use Rattle.languages.specs.declared.names.Next.{Next}
 use Rattle.languages.specs.declared.names.Next.the-variants as next
 use Rattle.languages.proofs.Laws.{string-whole, string-cut, strings-all}
-use Rattle.name_parts.specs.declared.prefixes.NameType.{NameType}
-use Rattle.name_parts.specs.declared.prefixes.NameType.the-variants.{Ashkenazi, Generic, Sephardic}
-use Rattle.name_parts.proofs.PrefixLaws.{none-left, one-left, part-order, part-fits, walk-less}
+use Rattle.prefixes.specs.declared.prefixes.NameType.{NameType}
+use Rattle.prefixes.specs.declared.prefixes.NameType.the-variants.{Ashkenazi, Generic, Sephardic}
+use Rattle.prefixes.proofs.PrefixLaws.{none-left, one-left, part-order, part-fits, walk-less}
 use Rattle.pack.specs.Packs.{Rule}
 use Rattle.pack_bytes.specs.Bytes.{listBytes}
 use Rattle.pack_bytes.proofs.Laws.{bytes-append}

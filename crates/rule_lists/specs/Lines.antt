@@ -8,9 +8,9 @@ use Rattle.regex_optim.specs.Contexts.{leftForm, rightForm, kindOf}
 use Rattle.regex_optim.specs.declared.OptimizedRegex.{OptimizedRegex}
 use Rattle.regex_optim.specs.declared.OptimizedRegex.the-variants.{AllStringsMatcher, IsEmpty, Equals, StartsWith, EndsWith, EqualsChar, StartsWithChar, EndsWithChar, Outside}
 use Rattle.rule.specs.Matching.{firstCode}
-use Rattle.rule.specs.Expressions.{checkedOf}
-use Rattle.rule.specs.declared.answers.Expression.{Expression}
-use Rattle.rule.specs.declared.answers.Expression.the-variants.{Good, Malformed, Stranger}
+use Rattle.phonemes.specs.Expressions.{checkedOf}
+use Rattle.phonemes.specs.declared.answers.Expression.{Expression}
+use Rattle.phonemes.specs.declared.answers.Expression.the-variants.{Good, Malformed, Stranger}
 use Rattle.pack.specs.Packs.{Rule, rule}
 use Rattle.held.specs.Files.{Line, passed, is-rule, include, bad}
 use Rattle.rules_parser.specs.Fields.{partOf}

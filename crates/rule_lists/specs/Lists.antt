@@ -1,8 +1,8 @@
 -- The lists of a pack in order, from the files of a bundle (01, Bundle and pack; What the desk gets).
 use Prim.Native.Nat.{ℕ}
 use mathlib.Core.List.{List, [], _∷_, _++_}
-use Rattle.name_parts.specs.declared.prefixes.NameType.{NameType}
-use Rattle.name_parts.specs.declared.prefixes.NameType.the-variants.{Ashkenazi, Generic, Sephardic}
+use Rattle.prefixes.specs.declared.prefixes.NameType.{NameType}
+use Rattle.prefixes.specs.declared.prefixes.NameType.the-variants.{Ashkenazi, Generic, Sephardic}
 use Rattle.pack.specs.Packs.{Rule}
 use Rattle.bundles.specs.Bundles.{File, Found, missing, found, fileNamed}
 use Rattle.held.specs.Met.{finished}

@@ -2,8 +2,8 @@
 ghost use mathlib.Core.Path.{_≡_};
 ghost use Rattle.pack.specs.Packs.{rule};
 ghost use Rattle.rule_lists.specs.Lines.{lengthFault, contextFault, expressionFault, ruleFault, rowOf, rowAt};
+use phonemes::Expression;
 use regex_optim::OptimizedRegex;
-use rule::Expression;
 use rules_parser::FileKind;
 use rules_parser::Item;
 use rules_parser::Text;
@@ -80,7 +80,7 @@ fn rule_fault(names: &[u8], pattern: &[u8], left: &[u8], right: &[u8], expressio
     if after != 0 {
         return after;
     }
-    expression_fault(rule::check_expression(expression, names))
+    expression_fault(phonemes::check_expression(expression, names))
 }
 
 // The rule of these texts of s, whose line ends at `next`.

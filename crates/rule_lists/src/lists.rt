@@ -14,7 +14,7 @@ use crate::walk::Collected;
 use crate::writing::Written;
 use bundles::FileAt;
 use languages::Next;
-use name_parts::NameType;
+use prefixes::NameType;
 
 // Writes the list of a listed file.
 fn write_list(

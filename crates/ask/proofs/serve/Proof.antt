@@ -1,23 +1,22 @@
-use Prim.Native.Nat.{_≤_}
 use mathlib.Core.Path.{_≡_}
 use lib.ListN.{length}
-use Rattle.ask.specs.Lines.{Stands}
 use borrow.Author.Needs.{needs}
 use Rattle.ask.proofs.serve.Statement.{statement}
 use Rattle.ask.proofs.serve.Tie as tie
 use Rattle.ask.proofs.serve.Reads as reads
 use Rattle.ask.proofs.serve.Lts as lts
-use Rattle.ask.proofs.answer.Reads as answer-reads
-use Rattle.ask.proofs.input.next.Reads as next-reads
-use Rattle.ask.proofs.input.start.Reads as start-reads
-use Rattle.ask.proofs.out.flush.Reads as flush-reads
+use Rattle.ask.proofs.turn.Reads as turn-reads
+use Rattle.cases.proofs.next.Reads as next-reads
+use Rattle.cases.proofs.start.Reads as start-reads
+use Rattle.cases.proofs.part.Reads as part-reads
+use Rattle.cases.proofs.flush.Reads as flush-reads
 
 abbrev Inv-loop : tie.InvT-loop
-Inv-loop buf₀ given₀ made₀ pack₀ bundle₀ out₀ s₀ held₀ turns₀ buf given made pack bundle out s held turns =
-    Stands s (length buf) × (held .pack ≤ length pack) × (held .bundle ≤ length bundle) × (held .used ≤ length out) × (length buf ≡ length buf₀) × (length given ≡ length given₀) × (length made ≡ length made₀) × (length pack ≡ length pack₀) × (length bundle ≡ length bundle₀) × (length out ≡ length out₀)
+Inv-loop block₀ line₀ given₀ made₀ pack₀ bundle₀ out₀ s₀ held₀ turns₀ block line given made pack bundle out s held turns =
+    (length block ≡ length block₀) × (length line ≡ length line₀) × (length given ≡ length given₀) × (length made ≡ length made₀) × (length pack ≡ length pack₀) × (length bundle ≡ length bundle₀) × (length out ≡ length out₀)
 
 abbrev μ-loop : tie.MeasureT-loop
-μ-loop buf₀ given₀ made₀ pack₀ bundle₀ out₀ s₀ held₀ turns₀ buf given made pack bundle out s held turns =
+μ-loop block₀ line₀ given₀ made₀ pack₀ bundle₀ out₀ s₀ held₀ turns₀ block line given made pack bundle out s held turns =
     turns
 
 start-requires : tie.Need-start-requires Inv-loop μ-loop
@@ -29,17 +28,11 @@ next-requires c κs = search needs
 loop-holds : tie.Need-loop-holds Inv-loop μ-loop
 loop-holds c = search needs
 
-sub-answer : tie.Need-sub-answer Inv-loop μ-loop
-sub-answer c = search needs
+part-requires : tie.Need-part-requires Inv-loop μ-loop
+part-requires c κs = search needs
 
-part-answer-start : tie.Need-part-answer-start Inv-loop μ-loop
-part-answer-start c = search needs
-
-part-answer-end : tie.Need-part-answer-end Inv-loop μ-loop
-part-answer-end c = search needs
-
-answer-requires : tie.Need-answer-requires Inv-loop μ-loop
-answer-requires c κs = search needs
+turn-requires : tie.Need-turn-requires Inv-loop μ-loop
+turn-requires c κs = search needs
 
 next-requires-2 : tie.Need-next-requires-2 Inv-loop μ-loop
 next-requires-2 c κs = search needs
@@ -74,6 +67,9 @@ same-length-5 c = search needs
 same-length-6 : tie.Need-same-length-6 Inv-loop μ-loop
 same-length-6 c = search needs
 
+same-length-7 : tie.Need-same-length-7 Inv-loop μ-loop
+same-length-7 c = search needs
+
 returns : tie.Need-returns Inv-loop μ-loop
 returns c = search needs
 
@@ -86,10 +82,8 @@ serve-spec =
     start-requires
     next-requires
     loop-holds
-    sub-answer
-    part-answer-start
-    part-answer-end
-    answer-requires
+    part-requires
+    turn-requires
     next-requires-2
     sub-turns
     loop-less
@@ -101,4 +95,5 @@ serve-spec =
     same-length-4
     same-length-5
     same-length-6
+    same-length-7
     returns)

@@ -5,7 +5,7 @@ use Rattle.loader.proofs.guesses.judge.Tie as tie
 use Rattle.loader.proofs.guesses.judge.Reads as reads
 use Rattle.loader.proofs.guesses.judge.Lts as lts
 use Rattle.lang.proofs.check_pattern.Reads as check-pattern-reads
-use Rattle.rule.proofs.names_mask.Reads as names-mask-reads
+use Rattle.phonemes.proofs.names_mask.Reads as names-mask-reads
 
 returns : tie.Need-returns
 returns c = search (judge-laws, needs)

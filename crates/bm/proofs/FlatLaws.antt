@@ -1,0 +1,143 @@
+-- The face for C, from the promises below it. Assumes nothing.
+use mathlib.Core.Path.{_≡_, refl, sym, ap, _∙_}
+use mathlib.Core.Bool.{Bool, true, false}
+use mathlib.Core.List.{List}
+use Prim.Native.Nat.{ℕ, _≤_, _<_}
+use lib.ListN.{length, set}
+use borrow.Author.Tests.{lt-ltb, le-ltb}
+use mir.Val.{boolByte}
+use Rattle.base.specs.Pick.{pick-yes, pick-no}
+use Rattle.base.proofs.One.{one}
+use Rattle.choices.specs.Texts.{Text}
+use Rattle.pack.specs.Packs.{packOf, verdictOf}
+use Rattle.pack.specs.declared.sections.Checked.{Checked}
+use Rattle.pack.specs.declared.sections.Checked.the-variants as checked
+use Rattle.rule_lists.specs.Outcomes as loading
+use Rattle.loader.specs.Loading as load
+use Rattle.loader.specs.Loading.{Numbers, answer, AnswerIs}
+use Rattle.loader.specs.declared.loading.Loaded.{Loaded}
+use Rattle.loader.specs.declared.loading.Loaded.the-variants as loaded
+use Rattle.engine.specs.Calls.{Outcome, SpellIs, numbersOf}
+use Rattle.engine.specs.Lines.{lineFor, LinesIs}
+use Rattle.engine.specs.declared.call.Settings.{Settings}
+use Rattle.engine.specs.declared.call.Start.{Start}
+use Rattle.engine.specs.declared.lines.Lines.{Lines}
+use Rattle.engine.specs.declared.spelling.Spelled.{Spelled}
+use Rattle.engine.specs.declared.spelling.Spelled.the-variants.{Done, Refused}
+use Rattle.bm.specs.Flat.{flagBit, numbered, TailIs, SpellFlat, checkNumbers, CheckFlat, LinesFlat, placed, LoadFlat}
+
+bit-is : (f : Bool) → boolByte f ≡ flagBit f
+unfolding flagBit
+bit-is true = refl
+bit-is false = refl
+
+-- ---- the numbers of an answer
+
+pub tail-done : (s : Spelled) (tail : List ℕ) (n : ℕ) (f : Bool) → s ≡ Done n f → TailIs s tail (set (set tail 0 n) 1 (boolByte f)) 0
+unfolding numbersOf numbered
+tail-done s tail n f e = rw (e, bit-is f) (record { code = refl; numbers = refl })
+
+pub tail-refused : (s : Spelled) (tail : List ℕ) (k p : ℕ) → s ≡ Refused k p → TailIs s tail (set (set tail 0 p) 1 0) k
+unfolding numbersOf numbered flagBit
+tail-refused s tail k p e = rw e (record { code = refl; numbers = refl })
+
+-- ---- a name
+
+pub spell-short : (x : Outcome) (out tail : List ℕ) → length tail < 2 → SpellFlat x out out tail tail 255
+spell-short x out tail h =
+    let t = lt-ltb (length tail) 2 h in
+    record { code = pick-yes _ _ _ _ t refl; buffer = pick-yes _ _ _ _ t refl; numbers = pick-yes _ _ _ _ t refl }
+
+pub spell-flat : (x : Outcome) (out out′ tail tail′ : List ℕ) (s : Spelled) (r : ℕ) → 2 ≤ length tail → SpellIs x out s out′ → TailIs s tail tail′ r → SpellFlat x out out′ tail tail′ r
+spell-flat x out out′ tail tail′ s r h w q =
+    let t = le-ltb (length tail) 2 h in
+    record {
+      code = pick-no _ _ _ _ t (q .code ∙ ap (λ (a : Spelled). numbersOf a .code) (w .result));
+      buffer = pick-no _ _ _ _ t (w .buffer);
+      numbers = pick-no _ _ _ _ t (q .numbers ∙ ap (λ (a : Spelled). numbered (numbersOf a) tail) (w .result));
+    }
+
+-- ---- a pack
+
+pub check-short : (s tail : List ℕ) → length tail < 1 → CheckFlat s tail tail 255
+check-short s tail h = let t = lt-ltb (length tail) 1 h in record { code = pick-yes _ _ _ _ t refl; numbers = pick-yes _ _ _ _ t refl }
+
+module _ (s tail : List ℕ) (a : Checked) (h : 1 ≤ length tail) (e : a ≡ verdictOf (packOf s)) where
+  pub check-accepted : a ≡ checked.Accepted → CheckFlat s tail (set tail 0 0) 0
+  unfolding checkNumbers
+  check-accepted q =
+      let t = le-ltb (length tail) 1 h in
+      let v : checked.Accepted ≡ verdictOf (packOf s) = sym q ∙ e in
+      record {
+        code = pick-no _ _ _ _ t (ap (λ (x : Checked). checkNumbers x .code) v);
+        numbers = pick-no _ _ _ _ t (ap (λ (x : Checked). set tail 0 (checkNumbers x .place)) v);
+      }
+
+  pub check-refused : (p : ℕ) → a ≡ checked.Refused p → CheckFlat s tail (set tail 0 p) 5
+  unfolding checkNumbers
+  check-refused p q =
+      let t = le-ltb (length tail) 1 h in
+      let v : checked.Refused p ≡ verdictOf (packOf s) = sym q ∙ e in
+      record {
+        code = pick-no _ _ _ _ t (ap (λ (x : Checked). checkNumbers x .code) v);
+        numbers = pick-no _ _ _ _ t (ap (λ (x : Checked). set tail 0 (checkNumbers x .place)) v);
+      }
+
+-- ---- a block of names
+
+pub lines-short : (f : Text → Text) (block out tail : List ℕ) → length tail < 2 → LinesFlat f block out out tail tail 255
+lines-short f block out tail h =
+    let t = lt-ltb (length tail) 2 h in
+    record { code = pick-yes _ _ _ _ t refl; buffer = pick-yes _ _ _ _ t refl; numbers = pick-yes _ _ _ _ t refl }
+
+pub lines-flat : (c : Settings) (start start′ : Start) (s block out out′ tail : List ℕ) (r : Lines) → 2 ≤ length tail → start ≡ start′ → LinesIs (lineFor c start s (length out)) block out r out′
+    → LinesFlat (lineFor c start′ s (length out)) block out out′ tail (set (set tail 0 (r .read)) 1 (r .written)) 0
+lines-flat c start start′ s block out out′ tail r h e w =
+    let t = le-ltb (length tail) 2 h in
+    rw (← e) (record {
+      code = pick-no _ _ _ _ t refl;
+      buffer = pick-no _ _ _ _ t (w .buffer);
+      numbers = pick-no _ _ _ _ t (ap (λ (x : Lines). set (set tail 0 (x .read)) 1 (x .written)) (w .result));
+    })
+
+-- ---- a bundle
+
+pub load-short : (x : loading.Outcome (List ℕ)) (out tail : List ℕ) → length tail < 2 → LoadFlat x out out tail tail 255
+load-short x out tail h =
+    let t = lt-ltb (length tail) 2 h in
+    record { code = pick-yes _ _ _ _ t refl; buffer = pick-yes _ _ _ _ t refl; numbers = pick-yes _ _ _ _ t refl }
+
+module _ (x : loading.Outcome (List ℕ)) (out out′ tail : List ℕ) (s : Loaded) (h : 2 ≤ length tail) (w : AnswerIs x out s out′) where
+  load-numbers : (n : Numbers) → load.numbersOf s ≡ n → LoadFlat x out out′ tail (placed n tail) (n .code)
+  load-numbers n e =
+      let t = le-ltb (length tail) 2 h in
+      let v : n ≡ load.numbersOf (answer x (length out)) = sym e ∙ ap load.numbersOf (w .result) in
+      record {
+        code = pick-no _ _ _ _ t (ap (λ (a : Numbers). a .code) v);
+        buffer = pick-no _ _ _ _ t (w .buffer);
+        numbers = pick-no _ _ _ _ t (ap (λ (a : Numbers). placed a tail) v);
+      }
+
+  pub load-done : (n : ℕ) → s ≡ loaded.Done n → LoadFlat x out out′ tail (set (set tail 0 n) 1 0) 0
+  unfolding load.numbersOf placed
+  load-done n e = load-numbers (record { code = 0; place = n; file = 0 }) (ap load.numbersOf e)
+
+  pub load-refused : (c p f : ℕ) → s ≡ loaded.Refused c p f → LoadFlat x out out′ tail (set (set tail 0 p) 1 f) c
+  unfolding load.numbersOf placed
+  load-refused c p f e = load-numbers (record { code = c; place = p; file = f }) (ap load.numbersOf e)
+
+pub ruleset flat-laws = (load-short, load-done, load-refused, tail-done, tail-refused, spell-short, spell-flat, check-short, check-accepted, check-refused, lines-short, lines-flat)
+
+-- ---- one answer, one content of each lent buffer
+
+pub spell-flat-one : {x : Outcome} {out tail o o′ t t′ : List ℕ} {r r′ : ℕ} → SpellFlat x out o tail t r → SpellFlat x out o′ tail t′ r′ → (r ≡ r′) × (o ≡ o′) × (t ≡ t′)
+spell-flat-one a b = (one (a .code) (b .code), one (a .buffer) (b .buffer), one (a .numbers) (b .numbers))
+
+pub check-flat-one : {s tail t t′ : List ℕ} {r r′ : ℕ} → CheckFlat s tail t r → CheckFlat s tail t′ r′ → (r ≡ r′) × (t ≡ t′)
+check-flat-one a b = (one (a .code) (b .code), one (a .numbers) (b .numbers))
+
+pub lines-flat-one : {f : Text → Text} {block out tail o o′ t t′ : List ℕ} {r r′ : ℕ} → LinesFlat f block out o tail t r → LinesFlat f block out o′ tail t′ r′ → (r ≡ r′) × (o ≡ o′) × (t ≡ t′)
+lines-flat-one a b = (one (a .code) (b .code), one (a .buffer) (b .buffer), one (a .numbers) (b .numbers))
+
+pub load-flat-one : {x : loading.Outcome (List ℕ)} {out tail o o′ t t′ : List ℕ} {r r′ : ℕ} → LoadFlat x out o tail t r → LoadFlat x out o′ tail t′ r′ → (r ≡ r′) × (o ≡ o′) × (t ≡ t′)
+load-flat-one a b = (one (a .code) (b .code), one (a .buffer) (b .buffer), one (a .numbers) (b .numbers))
