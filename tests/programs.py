@@ -76,8 +76,11 @@ def needed(prefix, files):
 # ---- trying
 
 class Trial:
-    def __init__(self):
+    """What differs, over a way to run the programs."""
+
+    def __init__(self, run=program):
         self.folders = self.wrong = 0
+        self.program = run
 
     def demand(self, holds, *what):
         if not holds:
@@ -97,7 +100,7 @@ class Trial:
             for path in (out, pack):
                 with open(path, "wb") as file:
                     file.write(OLD)
-            told = program("bundle", random.choice((prefix, str(number))), rules, out)
+            told = self.program("bundle", random.choice((prefix, str(number))), rules, out)
             wanted = second.bundle_bytes(needed(prefix, files))
             made = open(out, "rb").read()
             if len(wanted) > MOST or int.from_bytes(wanted[:2], "big") > 512:
@@ -105,7 +108,7 @@ class Trial:
                 return None
             self.demand(told[:2] == (0, "") and made == wanted, what, told, len(made), len(wanted))
             answer = second.load(number, wanted, MOST)
-            told = program("load", prefix, out, pack)
+            told = self.program("load", prefix, out, pack)
             made = open(pack, "rb").read()
             if answer[0] == 0:
                 self.demand(told == (0, "0 %d\n" % len(answer[1]), "") and made == answer[1], what, told, answer[0])

@@ -133,6 +133,7 @@ def order(one, other):
     return "less" if one < other else "greater" if one > other else "equal"
 
 
+@functools.lru_cache(1 << 16)
 def readable_text(data):
     """A rule or guessing text, or 12 (01, Letters: "any UTF-8 without U+0000 to U+001F, U+007F or the
     double quote; else 12")."""
@@ -451,7 +452,7 @@ class Reader:
     """Reads counts (big-endian) and strings behind their length byte; bytes that run out are a 5."""
 
     def __init__(self, data):
-        self.data, self.at = data, 0
+        self.data, self.at = bytes(data), 0
 
     def bytes(self, count):
         taken = self.data[self.at:self.at + count]
