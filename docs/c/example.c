@@ -1,9 +1,9 @@
 /* The keys of the names given as arguments, by a pack: example PACK NAME..
-   Build: rt staticlib beider_morse, then cc -o example docs/c/example.c target/staticlib/libbeider_morse.a */
+   Build: rt staticlib bm, then cc -o example docs/c/example.c target/staticlib/libbm.a */
 #include <inttypes.h>
 #include <stdio.h>
 #include <string.h>
-#include "beider_morse.h"
+#include "bm.h"
 
 int main(int argc, char **argv)
 {
