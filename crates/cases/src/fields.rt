@@ -115,7 +115,7 @@ fn told(kind: u8, text: &[u8], into: &mut [u8], used: usize) -> usize {
 
 // Reads a field for each kind, and answers whether each is of its kind and no field is left. Fields are counted from 1, and bytes
 // tell where they end in given, so that those of field i start where field i - 1 tells, if that is of bytes too or none.
-pub fn read(kinds: &[u8], rest: &[u8], given: &mut [u8], tells: &mut [usize; 9]) -> bool {
+pub(crate) fn read(kinds: &[u8], rest: &[u8], given: &mut [u8], tells: &mut [usize; 9]) -> bool {
     let mut at: usize = 0;
     let mut used: usize = 0;
     let mut i: usize = 0;
@@ -144,7 +144,7 @@ pub fn bytes_of<'a>(given: &'a [u8], tells: &[usize; 9], others: usize) -> &'a [
 }
 
 // The set that a number tells.
-pub fn set_of(told: usize) -> LanguageSet {
+pub(crate) fn set_of(told: usize) -> LanguageSet {
     match told {
         ANY => LanguageSet::Any,
         NONE => LanguageSet::NoLanguages,

@@ -7,7 +7,7 @@ use languages::Listed;
 use languages::Single;
 
 // The word of a set: `some` is that of one with some languages.
-pub fn set_word(s: LanguageSet, some: usize) -> usize {
+pub(crate) fn set_word(s: LanguageSet, some: usize) -> usize {
     match s {
         LanguageSet::Any => said::ANY,
         LanguageSet::NoLanguages => said::NONE,
@@ -16,7 +16,7 @@ pub fn set_word(s: LanguageSet, some: usize) -> usize {
 }
 
 // The number behind that word.
-pub fn set_bits(s: LanguageSet) -> usize {
+pub(crate) fn set_bits(s: LanguageSet) -> usize {
     match s {
         LanguageSet::SomeLanguages(bits) => bits as usize,
         _ => said::NO_NUMBER,
@@ -24,12 +24,12 @@ pub fn set_bits(s: LanguageSet) -> usize {
 }
 
 // A set.
-pub fn set(s: LanguageSet, some: usize) -> Said {
+pub(crate) fn set(s: LanguageSet, some: usize) -> Said {
     Said::Count(set_word(s, some), set_bits(s))
 }
 
 // `single SET`: its one language, or `-`.
-pub fn single(s: LanguageSet) -> Said {
+pub(crate) fn single(s: LanguageSet) -> Said {
     match s.single() {
         Single::Language(n) => Said::Count(said::PLAIN, n as usize),
         Single::NotSingle => said::word(said::DASH),
@@ -37,7 +37,7 @@ pub fn single(s: LanguageSet) -> Said {
 }
 
 // `listed HEX HEX`: the bit of the second, a name, in the first, a list of names, or `-`.
-pub fn listed(names: &[u8], name: &[u8]) -> Said {
+pub(crate) fn listed(names: &[u8], name: &[u8]) -> Said {
     match languages::find_language(names, name) {
         Listed::Bit(bit) => Said::Count(said::PLAIN, bit as usize),
         Listed::Unlisted => said::word(said::DASH),
@@ -45,7 +45,7 @@ pub fn listed(names: &[u8], name: &[u8]) -> Said {
 }
 
 // `subtract BITS BITS`: the first without the second.
-pub fn subtract(a: usize, b: usize) -> Said {
+pub(crate) fn subtract(a: usize, b: usize) -> Said {
     let bits = languages::subtract(fields::low(a), fields::low(b));
     Said::Count(said::PLAIN, bits as usize)
 }

@@ -3,7 +3,7 @@ ghost use Prim.Native.Nat.{_≤_};
 ghost use lib.ListN.{length};
 
 // The place of a text in a list, from 0, and how many the list has where it has no such text.
-pub fn place_of(list: &[u8], text: &[u8]) -> usize {
+pub(crate) fn place_of(list: &[u8], text: &[u8]) -> usize {
     let mut at: usize = 0;
     let mut place: usize = 0;
     while at < list.len() {
@@ -27,7 +27,7 @@ fn behind(list: &[u8], at: usize) -> usize
 }
 
 // The text at a place of a list, and an empty one where the list has fewer.
-pub fn text_at(list: &[u8], place: usize) -> &[u8] {
+pub(crate) fn text_at(list: &[u8], place: usize) -> &[u8] {
     let mut at: usize = 0;
     let mut left = place;
     while left > 0 {

@@ -6,7 +6,7 @@ use pack::Checked;
 use pack::Surveyed;
 
 // `check`: 0, or 5 with the place.
-pub fn check(kept: &[u8]) -> Said {
+pub(crate) fn check(kept: &[u8]) -> Said {
     match pack::check_pack(kept) {
         Checked::Accepted => Said::Count(said::PLAIN, 0),
         Checked::Refused(place) => Said::Count(said::FIVE, place),
@@ -14,7 +14,7 @@ pub fn check(kept: &[u8]) -> Said {
 }
 
 // `guess NAME`: the languages that a pack guesses for a name, or 5 with the place.
-pub fn guess(kept: &[u8], name: &[u8]) -> Said {
+pub(crate) fn guess(kept: &[u8], name: &[u8]) -> Said {
     let mut places = [0usize; 1];
     match pack::survey(kept, &mut places) {
         Surveyed::Accepted { languages, guesses } => {
@@ -26,7 +26,7 @@ pub fn guess(kept: &[u8], name: &[u8]) -> Said {
 }
 
 // `pack HEX`, `bundle HEX`: kept for the lines that follow, unless it is too long.
-pub fn keep(a: &[u8]) -> Said {
+pub(crate) fn keep(a: &[u8]) -> Said {
     if a.len() <= 98304 {
         return Said::Nothing;
     }

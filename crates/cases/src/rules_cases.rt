@@ -5,7 +5,7 @@ use phonemes::Expression;
 use regex_optim::OptimizedRegex;
 
 // `left CONTEXT TEXT`, `right CONTEXT TEXT`: the context's form, and whether it fits the text before or after a place, or 15.
-pub fn form(form: OptimizedRegex, fits: bool) -> Said {
+pub(crate) fn form(form: OptimizedRegex, fits: bool) -> Said {
     let word = match form {
         OptimizedRegex::AllStringsMatcher => said::ALL_STRINGS,
         OptimizedRegex::IsEmpty => said::IS_EMPTY,
@@ -21,7 +21,7 @@ pub fn form(form: OptimizedRegex, fits: bool) -> Said {
 }
 
 // `expr EXPRESSION NAMES`: the alternatives of an expression, or 14 or 16.
-pub fn expression(e: &[u8], names: &[u8]) -> Said {
+pub(crate) fn expression(e: &[u8], names: &[u8]) -> Said {
     match phonemes::check_expression(e, names) {
         Expression::Good(count) => Said::Alternatives(count),
         Expression::Malformed => Said::Count(said::PLAIN, 14),
@@ -30,7 +30,7 @@ pub fn expression(e: &[u8], names: &[u8]) -> Said {
 }
 
 // `guessing PATTERN NAME`: whether a guessing pattern matches a name, or 15.
-pub fn guessing(pattern: &[u8], name: &[u8]) -> Said {
+pub(crate) fn guessing(pattern: &[u8], name: &[u8]) -> Said {
     if lang::check_pattern(pattern) {
         return said::flag(lang::matches(pattern, name));
     }
@@ -45,7 +45,13 @@ fn is_outside(form: OptimizedRegex) -> bool {
 }
 
 // `rule PATTERN LEFT RIGHT TEXT PLACE`: whether a rule of these strings matches at a place, or 15 for a context outside the forms.
-pub fn matched(pattern: &[u8], left: &[u8], right: &[u8], text: &[u8], place: usize) -> Said {
+pub(crate) fn matched(
+    pattern: &[u8],
+    left: &[u8],
+    right: &[u8],
+    text: &[u8],
+    place: usize,
+) -> Said {
     if is_outside(regex_optim::left_form(left)) {
         return Said::Count(said::PLAIN, 15);
     }

@@ -74,7 +74,7 @@ pub fn word(word: usize) -> Said {
 }
 
 // Whether something is so, as 1 or 0.
-pub fn flag(is: bool) -> Said {
+pub(crate) fn flag(is: bool) -> Said {
     Said::Count(PLAIN, is as usize)
 }
 
