@@ -112,5 +112,3 @@ module _ {c : Text} {a : Arena} {from on to : ℕ} {b : Arena} {row : List ℕ} 
           done = rw here (q .is ∙ ap (insert new) (v .done));
           short = rw (here, le-ltb 128 (length (take (e - 0) row′ ++ c)) (rw length-append appending-fits)) (v .short);
         }
-
-pub ruleset appending-laws = (appending-start, appending-end, index-in, count-in, appending-long, appending-fits, appending-next)

@@ -103,8 +103,6 @@ module _ {expr alts : List ℕ} {m : ℕ} (are : AltsIn expr alts m) (j : ℕ) (
   pub alt-code : IsCode (langsOf (getD alts j 0))
   alt-code = are .each j h .code
 
-pub ruleset alts-laws = (alt-long, alt-order, alt-end, alt-code)
-
 -- entering what is left now is entering all of it at first
 pub record Offering (limit : ℕ) (e : Entry) (expr alts : List ℕ) (m : ℕ) (l₀ : List Entry) (x₀ x : Arena) (to k j : ℕ) : Type 0 where
   pub rooms : Rooms x
@@ -161,8 +159,6 @@ module _ {limit : ℕ} {e : Entry} {expr alts : List ℕ} {m : ℕ} {l₀ : List
     unfolding KeptBy outcomeBy
     offering-long er = record { rooms = q .rooms; kept = tt; is = λ rest. rw er at (on rest); others = only-on }
 
-pub ruleset offering-laws = (offering-start, offering-stop, offering-end, offering-next, offering-long)
-
 -- ---- the loop over the old texts
 
 -- entering what is left now is entering all of it at first
@@ -214,5 +210,3 @@ module _ {limit : ℕ} {alts : List Alternative} {a : Arena} {from on to : ℕ} 
     pub applying-long : r ≡ TooLong → AppliedAt a c to TooLong (apply limit alts (entriesAt a from on))
     unfolding KeptBy outcomeBy
     applying-long er = record { rooms = q .rooms; kept = tt; is = rw er at after; others = on-at .others }
-
-pub ruleset applying-laws = (applying-start, applying-stop, applying-end, applying-next, applying-long)

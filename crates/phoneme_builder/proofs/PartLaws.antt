@@ -19,7 +19,6 @@ use Rattle.choices.specs.Apply.{Entry, insert, start}
 use Rattle.choices.specs.Choices.{Increasing}
 use Rattle.phoneme_builder.specs.Buffers.{entry, entryAt, entries, textAt, All<, RowIn, IsSet, SetIs, Room, part, Arena, arena, Rooms, entriesAt, SetAt, entryIn, Stayed, Only, TextIn, textIn, LangsIn, langsIn, GrownAt, CopiedIs, put}
 use Rattle.phoneme_builder.proofs.PutLaws.{put-there}
-use Rattle.phoneme_builder.proofs.Answers.{now-at, now-held-at, long-at, into-at, into-is-at, many-at}
 use Rattle.phoneme_builder.proofs.FindLaws.{getD-map-lt, order-long, slot-below, row-in}
 
 -- ---- one set
@@ -244,9 +243,6 @@ abbrev pub changed : Arena → ℕ → List ℕ → List ℕ → List ℕ → Li
 changed a k s l g o = arena (spliced 32896 k (a .store) s) (spliced 257 k (a .lens) l) (spliced 257 k (a .langs) g) (spliced 256 k (a .ord) o)
 
 module _ (a : Arena) (k : ℕ) where
-  pub lent-room : Rooms a → k < 4 → Room (lent 32896 k (a .store)) (lent 257 k (a .lens)) (lent 257 k (a .langs)) (lent 256 k (a .ord))
-  lent-room r known = rw (lent-is 32896 k (a .store), lent-is 257 k (a .lens), lent-is 257 k (a .langs), lent-is 256 k (a .ord)) (part-room r known)
-
   module _ (n : ℕ) where
     pub lent-set : SetAt a k n → IsSet (lent 32896 k (a .store)) (lent 257 k (a .lens)) (lent 257 k (a .langs)) (lent 256 k (a .ord)) n
     lent-set is = rw (lent-is 32896 k (a .store), lent-is 257 k (a .lens), lent-is 257 k (a .langs), lent-is 256 k (a .ord)) (is .set)
@@ -307,10 +303,6 @@ module _ {a : Arena} {k : ℕ} {s l g o : List ℕ} (r : Rooms a) (known : k < 4
 pub begun : (a b : Arena) (k n : ℕ) (x : LanguageSet) → GrownAt a b k n (insert (entry ([] ++ []) x) (entriesAt a k 0)) → GrownAt a b k n (start x)
 unfolding insert
 begun a b k n x q = record { rooms = q .rooms; set = q .set; is = q .is ∙ ap (insert (entry [] x)) (none-entries a k); others = q .others }
-
-pub ruleset lend-laws = (lent-set, grown)
-
-pub ruleset begin-laws = (none-at, begun)
 
 -- ---- the functions that read a text
 
@@ -395,7 +387,3 @@ module _ {a b : Arena} {from n to : ℕ} {row : List ℕ} (w : Walk a from n to 
       pub walk-text : (row′ : List ℕ) (e : ℕ) → CopiedIs (textIn (b .store) (b .lens) (b .ord) from i) row′ e
           → drop i (entriesAt a from n) ≡ entry (take (e - 0) row′) (decoded x) ∷ drop (i + 1) (entriesAt a from n)
       walk-text row′ e c = rw (sub-zero, ← w .texts, entries-from (w .source) i h, entry-in b from i, ← c .text, ← ex)
-
-pub ruleset walk-laws = (walk-text-in, walk-langs-in, walk-code)
-
-pub ruleset arena-laws = (stayed-set, stayed-entries, stayed-entry, stayed-refl, stayed-trans, only-refl, only-stay, only-trans, only-left, only-right, none-at, none-entries, few-at, length-at, entries-from, entry-in, text-in, langs-in, code-in, now-at, now-held-at, long-at, into-at, into-is-at, many-at)

@@ -102,8 +102,6 @@ module _ (a : Arena) (limit from n to : ℕ) (word : Text) (place step : ℕ) (e
     unfolding TurnKept turnedBy after
     letter-long q = record { rooms = d .rooms; kept = tt; is = λ rest. run-is rest _ (long-at d q); others = d .others }
 
-pub ruleset letter-laws = (letter-kept, letter-into, letter-long)
-
 -- ---- the turn at a place
 
 pub expression-short : {s : List ℕ} {word : Text} {place : ℕ} {x : Rule} {step start end : ℕ} → RuleIn s word place x step start end → length (take (end - start) (drop start s)) < 256
@@ -143,8 +141,6 @@ module _ (a b : Arena) (last : Bool) (limit from n to : ℕ) (names : List ℕ) 
     pub turn-long : r ≡ TooLong → TurnedAt a b last limit from n to word place (turnOn names m word place) turned.TooLong
     unfolding TurnKept turnedBy applied
     turn-long e = record { rooms = d .rooms; kept = tt; is = λ rest. rule-run rest _ (long-at d e); others = d .others }
-
-pub ruleset turn-laws = (turn-letter, turn-rule, turn-long)
 
 -- ---- the loop of turns
 
@@ -292,5 +288,3 @@ module _ {a₀ : Arena} {x y : ℕ} {last : Bool} {limit : ℕ} {names : List �
     pub running-skip : (step : ℕ) → r ≡ turned.Kept step → StepIn word place step
     unfolding TurnKept
     running-skip step e = let kept : (b ≡ a) × StepIn word place step = rw e at (t .kept) in kept .1
-
-pub ruleset running-laws = (running-start, running-end, running-to, running-apart, running-into, running-kept, running-long, running-step, running-skip)

@@ -28,7 +28,7 @@ use Rattle.phoneme_builder.specs.declared.unite.United.the-variants.{Int
 use Rattle.phoneme_builder.proofs.FindLaws.{texts-long, texts-at, slot-below}
 use Rattle.phoneme_builder.proofs.EnterLaws.{increasing-entries, told, enter-le, enter-free}
 use Rattle.phoneme_builder.proofs.AddLaws.{old-entries, write-held, write-set, write-row, new-text, new-entry, entered-is}
-use Rattle.phoneme_builder.proofs.PartLaws.{entries-long, length-at, entriesLent, lent-entries, changed, Back, back-rooms, back-only, back-is, lent-set, Walk, walk-start, walk-next, walk-text}
+use Rattle.phoneme_builder.proofs.PartLaws.{entries-long, length-at, entriesLent, lent-entries, changed, Back, back-rooms, back-only, back-is, Walk, walk-start, walk-next, walk-text}
 use Rattle.phoneme_builder.proofs.Answers.{into-at}
 use Rattle.phoneme_builder.proofs.OrderLaws.{find-none, find-there, find-equal, at-lt, merge-slots}
 
@@ -221,8 +221,6 @@ module _ {z : LanguageSet} {a : Arena} {from nn to n : ℕ} {b : Arena} {row : L
     unfolding HeldBy spellingBy
     uniting-full er = record { rooms = q .rooms; done = record { kept = tt; is = λ rest. rw er at (after rest) }; others = on-at .others }
 
-pub ruleset uniting-laws = (uniting-start, uniting-end, uniting-next, uniting-full)
-
 -- ---- set `to` lent
 
 pub united-to : {a : Arena} {to : ℕ} {s l g o : List ℕ} → Rooms a → to < 4 → Back a to s l g o → (n : ℕ) (z : LanguageSet) (xs : List Entry) (r : United)
@@ -232,5 +230,3 @@ united-to {a} {to} rooms known back n z xs r q = record {
   done = back-is rooms known back (λ (s l g o : List ℕ). UnitedIs z xs (entriesAt a to n) r s l g o) (rw (lent-entries a to n) at q);
   others = back-only rooms known back;
 }
-
-pub ruleset united-laws = (lent-set, united-to)
