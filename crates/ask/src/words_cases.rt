@@ -90,16 +90,12 @@ fn spelled(
     limit: usize,
     made: &mut [u8],
 ) -> Said {
-    let mut store = [0u8; 131584];
-    let mut lens = [0u8; 1028];
-    let mut langs = [0u64; 1028];
-    let mut ord = [0u8; 1024];
+    let mut store = [0u8; 131072];
+    let mut marks = [0u64; 1024];
     let mut alts = [0u64; 256];
     match phoneme_builder::word(
         &mut store,
-        &mut lens,
-        &mut langs,
-        &mut ord,
+        &mut marks,
         &mut alts,
         kept,
         names,

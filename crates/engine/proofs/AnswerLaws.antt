@@ -2,18 +2,17 @@
 use mathlib.Core.Path.{_≡_, refl, sym, ap, ap₂, _∙_}
 use mathlib.Core.Bool.{Bool, true, false}
 use mathlib.Core.List.{List, [], _∷_, map}
-use Prim.Native.Nat.{ℕ, zero, suc, _-_, _*_, _≤_, _<_, min}
+use Prim.Native.Nat.{ℕ, zero, suc, _-_, _*_, _+_, _≤_, _<_, min}
 use native.Mathlib.Nat.{zero-add}
 use native.Mathlib.Omega.{arith}
 use lib.Dec.{eqb, leb, ltb}
-use lib.ListN.{length, getD, take, drop, replicate, length-take, length-map, length-replicate, getD-replicate, List·getD-eq-default}
+use lib.ListN.{length, getD, take, drop, replicate, length-take, length-replicate, getD-replicate, List·getD-eq-default}
 use lib.Seq.{sets, take-at, sets-eq, length-sets}
 use borrow.Author.Tests.{eq-eqb, ne-eqb, le-leb, lt-leb, leb-true, leb-false, ltb-true, ltb-false}
-use Rattle.base.specs.Pick.{pick, pick-yes, pick-no, pick-true, pick-false, pick-all, and-inv}
+use Rattle.base.specs.Pick.{pick, pick-true, pick-false, pick-all, and-inv}
 use Rattle.base.proofs.One.{one}
-use Rattle.lower_case.specs.Lower.{lowerText, loweredAnswer, loweredBuffer, LoweredInto}
+use Rattle.lower_case.specs.Lower.{lowerText, loweredBuffer, LoweredInto}
 use Rattle.lower_case.specs.declared.lower_case.Lowered.{Lowered}
-use Rattle.lower_case.specs.declared.lower_case.Lowered.the-variants as lowered
 use Rattle.lower_case.proofs.LowerLaws.{lower-text-length}
 use Rattle.name_parts.specs.Writing.{cap, Put}
 use Rattle.name_parts.specs.Words.{oneWord}
@@ -21,14 +20,14 @@ use Rattle.name_parts.specs.Joining.{spaced}
 use Rattle.prefixes.specs.declared.prefixes.NameType.{NameType}
 use Rattle.prefixes.specs.declared.prefixes.Prefix.{Prefix}
 use Rattle.prefixes.specs.declared.prefixes.Prefix.the-variants.{Parted, Whole}
-use Rattle.name_parts.proofs.Laws.{clash, slice-room}
+use Rattle.name_parts.proofs.Laws.{clash, slice-room, spaced-long}
 use Rattle.pack.specs.Packs.{refused, packOf}
 use Rattle.pack.specs.Guessing.{guessed, guessedAt}
 use Rattle.pack.proofs.Laws.{languages-few, guess-told, guess-below}
 use Rattle.choices.specs.Texts.{Text}
 use Rattle.engine.specs.Spelling.{Spelt, bad, good, onePart, partedAs, spelledName}
-use Rattle.engine.specs.Calls.{settingsKnown, kindKnown, haveLanguages, stepsBy, stepsOf, spelledBy, Outcome, refusedBy, key, outcomeOf, onPack, checkedThen, callOf, toldOf, filledBy, SpellIs}
-use Rattle.engine.specs.Walks.{packIn, Blank, AtDesk, DeskIs, Ready, Scratch, callFor, FoundIs, FineName, stepsAt, startAt, codeOf, ToldBy, Told, wholeBy, ToldWhole, answeredBy, wholeAnd}
+use Rattle.engine.specs.Calls.{settingsKnown, kindKnown, haveLanguages, stepsBy, stepsOf, spelledBy, Outcome, refusedBy, outcomeOf, onPack, checkedThen, callOf, toldOf, filledBy, SpellIs}
+use Rattle.engine.specs.Walks.{packIn, Blank, AtDesk, DeskIs, Ready, Scratch, callFor, FoundIs, stepsAt, startAt, codeOf, ToldBy, Told, wholeBy, ToldWhole, answeredBy, wholeAnd, KeptAll, none, over, copied, KeptIs}
 use Rattle.engine.specs.declared.call.Call.{Call}
 use Rattle.engine.specs.declared.encode.Ends.{Ends}
 use Rattle.engine.specs.declared.spelling.Spelled.{Spelled}
@@ -81,41 +80,6 @@ module _ {a : Ends} {room : ℕ} {o o′ : List ℕ} (h : room < cap) where
 
 -- ---- what is written
 
-done-by : (t : Text) (f : Bool) (room w : ℕ) (flag b : Bool) → leb (length t) room ≡ b → pick b (Done (length t) f) (Refused 9 (min (length t) 4294967295)) ≡ Done w flag
-    → (length t ≤ room) × (length t ≡ w)
-unfolding pick
-done-by t f room w flag true e q = (leb-true _ _ e, cc)
-done-by t f room w flag false e q = clash (cc)
-
-refused-by : (t : Text) (f : Bool) (room c p : ℕ) (b : Bool) → leb (length t) room ≡ b → pick b (Done (length t) f) (Refused 9 (min (length t) 4294967295)) ≡ Refused c p → leb (length t) room ≡ false
-unfolding pick
-refused-by t f room c p true e q = clash (cc)
-refused-by t f room c p false e q = e
-
-filled-done : (x : Spelt) {o o′ : List ℕ} {w : ℕ} {flag : Bool} {r : Ends} → toldOf (outcomeOf x) (length o) ≡ Done w flag → Told x o o′ 0 r → o′ ≡ filledBy (outcomeOf x) o
-unfolding outcomeOf toldOf filledBy ToldBy
-filled-done (bad k) e q = clash (cc)
-filled-done (good t f) {o = o} e q =
-    let k = done-by t f (length o) _ _ _ refl e .0 in
-    pick-yes _ _ _ _ (le-leb _ _ k) (q .is .0 .wrote (omega arith))
-
--- what was held apart, whole, and is copied
-filled-copy : (x : Spelt) {o o′ u u′ : List ℕ} {w p : ℕ} {flag : Bool} {r : Ends} → toldOf (outcomeOf x) (length o) ≡ Done w flag → Told x u u′ 0 r → w ≤ length u
-    → Put o o′ 0 p (take (w - 0) (drop 0 u′)) → o′ ≡ filledBy (outcomeOf x) o
-unfolding outcomeOf toldOf filledBy ToldBy
-filled-copy (bad k) e q h z = clash (cc)
-filled-copy (good t f) {o = o} {u = u} {u′ = u′} {w = w} e q h z =
-    let k = done-by t f (length o) w _ _ refl e in
-    let n : w - 0 ≡ length t = omega (arith, k .1) in
-    let whole : take (w - 0) u′ ≡ t =
-    ap₂ take n (q .is .0 .wrote (omega (arith, k .1))) ∙ rw (sets-eq t u 0 (omega (arith, k .1))) (take-at t _ (length t) refl) in
-    pick-yes _ _ _ _ (le-leb _ _ (k .0)) (z .wrote ∙ ap (sets o 0) whole)
-
-filled-refused : (x : Outcome) {o : List ℕ} {c p : ℕ} → toldOf x (length o) ≡ Refused c p → o ≡ filledBy x o
-unfolding toldOf filledBy
-filled-refused (refusedBy k place) e = refl
-filled-refused (key t f) {o = o} e = pick-no _ _ _ _ (refused-by t f (length o) _ _ _ refl e) refl
-
 whole-filled : (x : Spelt) (o : List ℕ) → wholeBy x o 0 ≡ filledBy (outcomeOf x) o
 unfolding wholeBy outcomeOf filledBy
 whole-filled (bad k) o = refl
@@ -126,86 +90,118 @@ unfolding wholeBy
 whole-long (bad k) o = refl
 whole-long (good t f) o = pick-all (λ (l : List ℕ). length l ≡ length o) _ _ _ (length-sets o 0 t) refl
 
--- a name spelled apart, into u, and what is said of it
-module _ {x : Spelt} {u u′ : List ℕ} {a : Ends} {ans : Spelled} (o : List ℕ) (h : length o * 1 < cap) (m : Told x u u′ 0 a) (e : ans ≡ answeredBy a (length o)) where
-  told-ans : ans ≡ toldOf (outcomeOf x) (length o)
-  told-ans = e ∙ answered-by (slice-room o h) x m
-
-  module _ {w : ℕ} {flag : Bool} (q : ans ≡ Done w flag) {o′ : List ℕ} where
-    pub parts-copied : {n p : ℕ} → length u ≡ n → w ≤ n → Put o o′ 0 p (take (w - 0) (drop 0 u′)) → SpellIs (outcomeOf x) o (Done w flag) o′
-    parts-copied k l z = record { result = sym q ∙ told-ans; buffer = filled-copy x (sym told-ans ∙ q) m (omega arith) z }
-
-    pub parts-again : {r : Ends} → Told x o o′ 0 r → SpellIs (outcomeOf x) o (Done w flag) o′
-    parts-again t = record { result = sym q ∙ told-ans; buffer = filled-done x (sym told-ans ∙ q) t }
-
-  pub parts-refused : {c p : ℕ} → ans ≡ Refused c p → SpellIs (outcomeOf x) o (Refused c p) o
-  parts-refused q = record { result = sym q ∙ told-ans; buffer = filled-refused (outcomeOf x) (sym told-ans ∙ q) }
-
 -- a name that is one word is spelled once
 module _ (s : List ℕ) (call : Call) (name : Text) (t : Bool) (et : t ≡ wholeAnd (partedAs (call .kind) name) (pick (call .concat) true (oneWord name))) where
-  plain-here : partedAs (call .kind) name ≡ Whole → pick (call .concat) true (oneWord name) ≡ true
-      → spelledName (stepsAt s call) (startAt s call name) name ≡ onePart (stepsAt s call) (startAt s call name) name
+  pub single-told : {a : Ends} {o o′ : List ℕ} → t ≡ true → ToldWhole (onePart (stepsAt s call) (startAt s call name) name) o o′ 0 a
+      → ToldWhole (spelledName (stepsAt s call) (startAt s call name) name) o o′ 0 a
   unfolding stepsAt stepsBy
-  plain-here q u = name-plain (stepsAt s call) (startAt s call name) name q u
-
-  pub single-told : {a : Ends} {ans : Spelled} {o o′ : List ℕ} → length o * 1 < cap → t ≡ true
-      → ToldWhole (onePart (stepsAt s call) (startAt s call name) name) o o′ 0 a → ans ≡ answeredBy a (length o′)
-      → SpellIs (outcomeOf (spelledName (stepsAt s call) (startAt s call name) name)) o ans o′
-  single-told {o = o} {o′ = o′} h y w e =
+  single-told y w =
       let whole = single-inv _ _ (sym et ∙ y) in
-      let here : spelledName (stepsAt s call) (startAt s call name) name ≡ onePart (stepsAt s call) (startAt s call name) name = plain-here (whole .0) (whole .1) in
-      let same : length o′ ≡ length o = ap length (w .whole) ∙ whole-long _ o in
-      rw here (record {
-        result = e ∙ ap (answeredBy _) same ∙ answered-by (slice-room o h) _ (w .told);
-        buffer = w .whole ∙ whole-filled _ o;
-      })
+      rw (name-plain (stepsAt s call) (startAt s call name) name (whole .0) (whole .1)) w
+
+-- what `keep` tells
+module _ (a : Ends) (apart o : List ℕ) where
+  pub kept-copied : {o′ : List ℕ} {p : ℕ} → a .code ≡ 0 → a .at ≤ length o → a .at ≤ length apart → Put o o′ 0 p (take (a .at - 0) (drop 0 apart)) → KeptIs a apart o o′ true
+  unfolding KeptIs
+  kept-copied e h k w =
+      let n : a .at - 0 ≡ a .at = omega arith in
+      copied e h k (w .wrote ∙ ap (λ (m : ℕ). sets o 0 (take m apart)) n)
+
+  pub kept-long : a .code ≡ 0 → a .at ≤ length o → KeptIs a apart o o false
+  unfolding KeptIs
+  kept-long e h = (e, h, refl)
+
+  pub kept-over : length o < a .at → KeptIs a apart o o true
+  unfolding KeptIs
+  kept-over h = over h refl
+
+  pub kept-none : (a .code ≡ 0 → ⊥) → KeptIs a apart o o true
+  unfolding KeptIs
+  kept-none h = none h refl
+
+-- a name spelled apart, into u, and kept: it is told as a whole
+module _ {u u′ o : List ℕ} {a : Ends} (room : length o < cap) where
+  kept-by : {o₁ : List ℕ} (x : Spelt) → Told x u u′ 0 a → KeptAll a u′ o o₁ → ToldWhole x o o₁ 0 a
+  unfolding codeOf ToldBy wholeBy
+  kept-by (bad k) m (none h e) = record { told = record { code = m .code; is = m .is }; whole = e }
+  kept-by (bad k) m (over h e) = record { told = record { code = m .code; is = m .is }; whole = e }
+  kept-by (bad k) m (copied c h l e) = let no-way : ⊥ = omega (arith, m .code, m .is, c) in absurd no-way
+  kept-by (good t f) m (none h e) = absurd (h (m .code))
+  kept-by (good t f) m (over h e) =
+      let past : length o < 0 + length t = omega (arith, h, m .is .0 .ends) in
+      record {
+        told = record {
+          code = m .code;
+          is = (
+            record { ends = m .is .0 .ends; wrote = λ (l : 0 + length t ≤ length o). let no-way : ⊥ = omega (arith, past, l) in absurd no-way; same = ap length e; room = room },
+            m .is .1,
+          );
+        };
+        whole = e ∙ sym (pick-false _ _ _ (lt-leb _ _ past));
+      }
+  kept-by (good t f) m (copied c h l e) =
+      let long : a .at ≡ length t = omega (arith, m .is .0 .ends, h, room) in
+      let text : take (a .at) u′ ≡ t = ap₂ take long (m .is .0 .wrote (omega (arith, long, l, m .is .0 .same))) ∙ rw (sets-eq t u 0 (omega (arith, long, l, m .is .0 .same))) (take-at t _ (length t) refl) in
+      let stands = e ∙ ap (sets o 0) text in
+      let fits : 0 + length t ≤ length o = omega (arith, long, h) in
+      record {
+        told = record { code = m .code; is = (record { ends = m .is .0 .ends; wrote = λ k. stands; same = ap length stands ∙ length-sets o 0 t; room = room }, m .is .1) };
+        whole = stands ∙ sym (pick-true _ _ _ (le-leb _ _ fits));
+      }
+
+  again-by : {o₂ : List ℕ} {b : Ends} (x : Spelt) → Told x u u′ 0 a → a .code ≡ 0 → a .at ≤ length o → Told x o o₂ 0 b → ToldWhole x o o₂ 0 b
+  unfolding codeOf ToldBy wholeBy
+  again-by (bad k) m c h q = let no-way : ⊥ = omega (arith, m .code, m .is, c) in absurd no-way
+  again-by (good t f) m c h q =
+      let fits : 0 + length t ≤ length o = omega (arith, m .is .0 .ends, h, room) in
+      record { told = q; whole = q .is .0 .wrote fits ∙ sym (pick-true _ _ _ (le-leb _ _ fits)) }
+
+module _ {x : Spelt} {u u′ o o₁ : List ℕ} {a : Ends} {t : Bool} (h : length o * 1 < cap) (m : Told x u u′ 0 a) (k : KeptIs a u′ o o₁ t) where
+  pub kept-told : t ≡ true → ToldWhole x o o₁ 0 a
+  unfolding KeptIs
+  kept-told y = let all : KeptAll a u′ o o₁ = rw y at k in kept-by (slice-room o h) x m all
+
+  pub again-told : {o₂ : List ℕ} {b : Ends} → t ≡ false → Told x o₁ o₂ 0 b → ToldWhole x o o₂ 0 b
+  unfolding KeptIs
+  again-told n q =
+      let w : (a .code ≡ 0) × (a .at ≤ length o) × (o₁ ≡ o) = rw n at k in
+      again-by (slice-room o h) x m (w .0) (w .1) (rw (w .2) at q)
+
+-- what is told as a whole is a call's answer
+answer-told : (x : Spelt) {a : Ends} {ans : Spelled} {o o′ : List ℕ} → length o * 1 < cap → ToldWhole x o o′ 0 a → ans ≡ answeredBy a (length o′) → SpellIs (outcomeOf x) o ans o′
+answer-told x {o = o} h w e =
+    record { result = e ∙ ap (answeredBy _) (ap length (w .whole) ∙ whole-long x o) ∙ answered-by (slice-room o h) x (w .told); buffer = w .whole ∙ whole-filled x o }
 
 take-map : {A B : Type 0} (n : ℕ) (l : List A) (f : A → B) → take n (map f l) ≡ map f (take n l)
 take-map zero l f = refl
 take-map (suc n) [] f = refl
 take-map (suc n) (x ∷ l) f = ap (λ (r : List _). f x ∷ r) (take-map n l f)
 
--- ---- a name lower-cased in a local array, and its hyphens there made spaces
+-- ---- a name lower-cased at the front of a buffer, and its hyphens there made spaces
 
 module _ (name o o₁ : List ℕ) (r : Lowered) (h : length name ≤ 96) (room : length o ≡ 96) (w : LoweredInto name o r o₁) where
   lower-fits : length (lowerText name) ≤ length o
   lower-fits = omega (arith, lower-text-length name)
 
-  lowered-is : r ≡ lowered.Done (length (lowerText name))
-  unfolding loweredAnswer
-  lowered-is = w .result ∙ pick-true _ _ _ (le-leb _ _ lower-fits)
+  lowered-is : o₁ ≡ sets o 0 (lowerText name)
+  unfolding loweredBuffer
+  lowered-is = w .buffer ∙ pick-true _ _ _ (le-leb _ _ lower-fits)
 
-  pub never-full : r ≡ lowered.NoRoom → ⊥
-  never-full e = let same = sym lowered-is ∙ e in clash (cc)
+  pub lowered-in : length name ≤ length o₁
+  lowered-in = omega (arith, ap length lowered-is, length-sets o 0 (lowerText name))
 
-  module _ (n : ℕ) (e : r ≡ lowered.Done n) where
-    lowered-size : n ≡ length (lowerText name)
-    lowered-size = let same = sym e ∙ lowered-is in cc
+  pub lowered-part : take (length name - 0) (drop 0 o₁) ≡ lowerText name
+  lowered-part =
+      let n : length name - 0 ≡ length (lowerText name) = omega (arith, lower-text-length name) in
+      ap₂ take n lowered-is ∙ rw (sets-eq (lowerText name) o 0 (omega (arith, lower-fits))) (take-at (lowerText name) _ (length (lowerText name)) refl)
 
-    pub lowered-in : n ≤ length o₁
-    unfolding loweredBuffer
-    lowered-in =
-        let same : length o₁ ≡ length o = ap length (w .buffer) ∙ pick-all (λ (l : List ℕ). length l ≡ length o) _ _ _ (length-sets o 0 (lowerText name)) refl in
-        omega (arith, lowered-size, lower-fits)
+  module _ (o₂ : List ℕ) (e₂ : o₂ ≡ spaced o₁) where
+    pub spaced-in : length name ≤ length o₂
+    spaced-in = omega (arith, lowered-in, ap length e₂, spaced-long o₁)
 
-    pub lowered-part : take (n - 0) (drop 0 o₁) ≡ lowerText name
-    unfolding loweredBuffer
-    lowered-part =
-        let k : n - 0 ≡ length (lowerText name) = omega (arith, lowered-size) in
-        let stored : o₁ ≡ sets o 0 (lowerText name) = w .buffer ∙ pick-true _ _ _ (le-leb _ _ lower-fits) in
-        ap₂ take k stored ∙ rw (sets-eq (lowerText name) o 0 (omega (arith, lower-fits))) (take-at (lowerText name) _ (length (lowerText name)) refl)
-
-    module _ (o₂ : List ℕ) (e₂ : o₂ ≡ spaced o₁) where
-      pub spaced-in : n ≤ length o₂
-      unfolding spaced
-      spaced-in = omega (arith, lowered-in, ap length e₂, length-map o₁ (λ (b : ℕ). pick (eqb b 45) 32 b))
-
-      pub spaced-part : take (n - 0) (drop 0 o₂) ≡ spaced (lowerText name)
-      unfolding spaced
-      spaced-part = ap (take (n - 0)) e₂ ∙ take-map (n - 0) o₁ _ ∙ ap (map (λ (b : ℕ). pick (eqb b 45) 32 b)) lowered-part
-
-      pub spaced-short : length (take (n - 0) (drop 0 o₂)) ≤ 96
-      spaced-short = omega (arith, length-take (n - 0) o₂, lowered-size, lower-text-length name)
+    pub spaced-part : take (length name - 0) (drop 0 o₂) ≡ spaced (lowerText name)
+    unfolding spaced
+    spaced-part = ap (take (length name - 0)) e₂ ∙ take-map (length name - 0) o₁ _ ∙ ap (map (λ (b : ℕ). pick (eqb b 45) 32 b)) lowered-part
 
 -- ---- a call on a good pack
 
@@ -213,7 +209,7 @@ known-kind : (c : Settings) (start : Start) → settingsKnown c start ≡ true �
 unfolding settingsKnown
 known-kind c start e = and-inv _ _ (and-inv _ _ (and-inv _ _ (and-inv _ _ e .1) .1) .1) .1
 
-module _ (s places : List ℕ) (c : Settings) (start : Start) (languages guesses other : ℕ) (name low : Text) (desk : AtDesk s places languages guesses other)
+module _ (s places : List ℕ) (c : Settings) (start : Start) (languages guesses other : ℕ) (low : Text) (desk : AtDesk s places languages guesses other)
     (call : Call) (e : call ≡ callFor c start languages guesses other (guessedAt s guesses languages low)) where
   few-here : languages ≤ 32
   few-here = omega (arith, desk .languages-are, languages-few s (packIn s) guesses (desk .is) (desk .guesses-are))
@@ -221,28 +217,20 @@ module _ (s places : List ℕ) (c : Settings) (start : Start) (languages guesses
   guess-here : guessedAt s guesses languages low ≡ guessed (length (packIn s .names)) (packIn s .guesses) low
   guess-here = ap (λ (n : ℕ). guessedAt s guesses n low) (desk .languages-are) ∙ guess-told s (packIn s) guesses (desk .is) (desk .guesses-are) low
 
-  pub call-ready : FineName c start languages name → Ready s places call
+  call-ready : settingsKnown c start ≡ true → haveLanguages languages start ≡ true → Ready s places call
   unfolding callFor
-  call-ready fine =
-      let limits = known-limits c start (fine .known) in
+  call-ready known have =
+      let limits = known-limits c start known in
       rw e (record {
         desk = desk;
         few = limits .0;
         known = limits .1;
-        below = calls.start-below start (guessedAt s guesses languages low) languages few-here (fine .have) (known-kind c start (fine .known)) (guess-below s guesses languages low _ refl few-here);
+        below = calls.start-below start (guessedAt s guesses languages low) languages few-here have (known-kind c start known) (guess-below s guesses languages low _ refl few-here);
       })
 
   spelled-is : spelledName (stepsAt s call) (startAt s call (spaced low)) (spaced low) ≡ spelledBy (stepsOf s (packIn s) c) start low
   unfolding callFor stepsAt startAt stepsOf stepsBy spelledBy pick
   spelled-is = rw (e, guess-here)
-
-  pub call-spelled : {o o′ : List ℕ} {r : Spelled} (t : Text) → t ≡ spaced low → SpellIs (outcomeOf (spelledName (stepsAt s call) (startAt s call t) t)) o r o′
-      → SpellIs (outcomeOf (spelledBy (stepsOf s (packIn s) c) start low)) o r o′
-  call-spelled t et q = rw (et, spelled-is) at q
-
-pub call-low : (s low low′ : List ℕ) (c : Settings) (start : Start) (languages guesses other : ℕ) (call : Call) → low ≡ low′
-    → call ≡ callFor c start languages guesses other (guessedAt s guesses languages low) → call ≡ callFor c start languages guesses other (guessedAt s guesses languages low′)
-call-low s low low′ c start languages guesses other call h e = rw h at e
 
 -- ---- the refusals in their order
 
@@ -257,6 +245,13 @@ desk-at s places d l g a w e = rw e at w
 desk-no : (s places : List ℕ) (d : Desk) (p : ℕ) → DeskIs s places d → d ≡ Shut p → packOf s ≡ refused p
 unfolding DeskIs
 desk-no s places d p w e = rw e at w
+
+module _ (c : Settings) (start : Start) (name : Text) (r : Named) (found : FoundIs (checkedThen c start name) r) (e : r ≡ Fine) where
+  pub name-short : length name ≤ 96
+  name-short = fine-name c start name r found e .1
+
+  pub part-short : (o : List ℕ) → length (take (length name - 0) (drop 0 o)) ≤ 96
+  part-short o = omega (arith, length-take (length name - 0) o, name-short)
 
 module _ (c : Settings) (start : Start) (s places : List ℕ) (name : Text) (r : Named) (found : FoundIs (checkedThen c start name) r) where
   pub at-wrong : (o : List ℕ) (k p : ℕ) → r ≡ Wrong k p → SpellIs (callOf c start s name) o (Refused k p) o
@@ -282,20 +277,27 @@ module _ (c : Settings) (start : Start) (s places : List ℕ) (name : Text) (r :
         pub at-none : (o : List ℕ) → t ≡ false → SpellIs (callOf c start s name) o (Refused 6 0) o
         at-none o y = refused-told o (on-pack ∙ pick-false _ _ _ y)
 
-        pub fine-at : t ≡ true → FineName c start languages name
-        fine-at y =
-            let w = fine-name c start name r found e in
-            record { known = w .0; have = sym et ∙ y; short = w .1; formed = w .2; within = w .3 }
+        -- spelled by the call of the lower-cased name, which stands in a buffer
+        module _ (y : t ≡ true) (low : Text) (el : low ≡ lowerText name) (call : Call) (ec : call ≡ callFor c start languages guesses other (guessedAt s guesses languages low)) where
+          pub at-ready : Ready s places call
+          at-ready = call-ready s places c start languages guesses other low desk call ec (fine-name c start name r found e .0) (sym et ∙ y)
 
-        pub at-open : {o o′ : List ℕ} {a : Spelled} → t ≡ true → SpellIs (outcomeOf (spelledBy (stepsOf s (packIn s) c) start (lowerText name))) o a o′ → SpellIs (callOf c start s name) o a o′
-        at-open y q = rw (on-pack ∙ pick-true _ _ _ y) q
+          pub at-open : (text : Text) → text ≡ spaced (lowerText name) → {a : Ends} {ans : Spelled} {o o′ : List ℕ} → length o * 1 < cap
+              → ToldWhole (spelledName (stepsAt s call) (startAt s call text) text) o o′ 0 a → ans ≡ answeredBy a (length o′) → SpellIs (callOf c start s name) o ans o′
+          at-open text ex h q ea =
+              let here : text ≡ spaced low = ex ∙ ap spaced (sym el) in
+              let is : callOf c start s name ≡ outcomeOf (spelledName (stepsAt s call) (startAt s call text) text) =
+              on-pack ∙ pick-true _ _ _ y ∙ ap (λ (x : Text). outcomeOf (spelledBy (stepsOf s (packIn s) c) start x)) (sym el)
+              ∙ ap outcomeOf (sym (spelled-is s places c start languages guesses other low desk call ec))
+              ∙ ap (λ (x : Text). outcomeOf (spelledName (stepsAt s call) (startAt s call x) x)) (sym here) in
+              rw is (answer-told (spelledName (stepsAt s call) (startAt s call text) text) h q ea)
 
 -- the promise of a call allows one answer and one content of the buffer
 pub spell-one : {x : Outcome} {out o o′ : List ℕ} {r r′ : Spelled} → SpellIs x out r o → SpellIs x out r′ o′ → (r ≡ r′) × (o ≡ o′)
 spell-one a b = (one (a .result) (b .result), one (a .buffer) (b .buffer))
 
-pub scratch-new : Scratch 131584 1028 1028 1024
-scratch-new = record { store-is = refl; lens-is = refl; langs-is = refl; ord-is = refl }
+pub scratch-new : (a b : ℕ) → a ≡ 131072 → b ≡ 1024 → Scratch (length (replicate {A = ℕ} a 0)) (length (replicate {A = ℕ} b 0))
+scratch-new a b ea eb = record { store-is = length-replicate {A = ℕ} a 0 ∙ ea; marks-is = length-replicate {A = ℕ} b 0 ∙ eb }
 
 pub blank-new : (n : ℕ) → n ≡ 12642 → Blank (replicate n 0)
 blank-new n e = record { long = length-replicate n 0 ∙ e; clear = λ j. zero-by j _ refl }

@@ -31,10 +31,11 @@ use Rattle.pack.specs.Places.{textBytes, placesOf, surveyedOf, SurveyIs}
 use Rattle.pack.specs.declared.sections.Surveyed.{Surveyed}
 use Rattle.pack.specs.declared.sections.Surveyed.the-variants as surveyed
 use Rattle.pack.proofs.Laws.{is-pack, languages-few, guesses-within, names-strings, places-counted, SurveyedPack, surveyed-pack}
+use Rattle.prefixes.specs.declared.prefixes.NameType.{NameType}
 use Rattle.choices.specs.Texts.{Text}
 use Rattle.choices.proofs.TextLaws.{clash}
-use Rattle.engine.specs.Calls.{kindKnown, settingsKnown, haveLanguages, startSet, Outcome, refusedBy, key, unless, onPack, lettersThen, checkedThen, callOf}
-use Rattle.engine.specs.Walks.{packBy, packIn, ByTable, Blank, Placed, DeskIs, foundBy, FoundIs}
+use Rattle.engine.specs.Calls.{kindKnown, settingsKnown, haveLanguages, typeOf, startSet, Outcome, refusedBy, key, unless, onPack, lettersThen, checkedThen, callOf}
+use Rattle.engine.specs.Walks.{packBy, packIn, ByTable, Blank, Placed, DeskIs, callFor, foundBy, FoundIs}
 use Rattle.engine.specs.declared.call.Settings.{Settings}
 use Rattle.engine.specs.declared.call.Start.{Start}
 use Rattle.engine.specs.declared.call.Start.the-variants.{Guessed, Given}
@@ -222,6 +223,23 @@ module _ (s t t′ : List ℕ) (r : Surveyed) (w : SurveyIs s t r t′) where
 
 pub ruleset desk-laws = (desk-shut, names-start, names-end, any-there, lists-many, thrice-fits, lists-fit, desk-placed, desk-open)
 
+-- ---- a call of known settings
+
+pub call-made : (c : Settings) (start : Start) (languages guesses other : ℕ) (guess set : LanguageSet) (kind : NameType) → kind ≡ typeOf (c .«name_type») → set ≡ startSet start guess
+    → record {
+      kind = kind;
+      rules = c .«rule_type»;
+      concat = eqb (c .concat) 1;
+      limit = c .limit;
+      languages = languages;
+      guesses = guesses;
+      any = other;
+      fresh = false;
+      set = set;
+    } ≡ callFor c start languages guesses other guess
+unfolding callFor
+call-made c start languages guesses other guess set kind ek es = rw (ek, es) refl
+
 -- ---- the refusals before the pack
 
 module _ (name : Text) where
@@ -260,23 +278,19 @@ pub ruleset found-laws = (found-long, found-ill, found-outside, found-none, foun
 
 -- ---- what that tells
 
-fine-by : (t u : Bool) (x y : Found) → key [] false ≡ pick t (pick u (refusedBy 3 0) (unless 1 x (unless 2 y (key [] false)))) (refusedBy 4 0)
-    → (t ≡ true) × (u ≡ false) × (x ≡ Nothing) × (y ≡ Nothing)
-unfolding pick unless
-fine-by false u x y e = clash (cc)
-fine-by true true x y e = clash (cc)
-fine-by true false (At p) y e = clash (cc)
-fine-by true false Nothing (At p) e = clash (cc)
-fine-by true false Nothing Nothing e = (refl, refl, refl, refl)
+fine-by : (t u : Bool) (x : Outcome) → key [] false ≡ pick t (pick u (refusedBy 3 0) x) (refusedBy 4 0) → (t ≡ true) × (u ≡ false)
+unfolding pick
+fine-by false u x e = clash (cc)
+fine-by true true x e = clash (cc)
+fine-by true false x e = (refl, refl)
 
 module _ (c : Settings) (start : Start) where
-  -- a name that is fine has none of these refusals
-  pub fine-name : (name : Text) (r : Named) → FoundIs (checkedThen c start name) r → r ≡ Fine
-      → (settingsKnown c start ≡ true) × (length name ≤ 96) × (firstIll name ≡ Nothing) × (firstOutside name ≡ Nothing)
+  -- a name that is fine has known settings, and is short
+  pub fine-name : (name : Text) (r : Named) → FoundIs (checkedThen c start name) r → r ≡ Fine → (settingsKnown c start ≡ true) × (length name ≤ 96)
   unfolding checkedThen lettersThen foundBy
   fine-name name r w e =
-      let all = fine-by _ _ (firstIll name) (firstOutside name) (sym (ap (λ (x : Named). foundBy x (key [] false)) e) ∙ w .is (key [] false)) in
-      (all .0, ltb-false _ _ (all .1), all .2, all .3)
+      let all = fine-by _ _ _ (sym (ap (λ (x : Named). foundBy x (key [] false)) e) ∙ w .is (key [] false)) in
+      (all .0, ltb-false _ _ (all .1))
 
   module _ (s : List ℕ) (name : Text) (r : Named) where
     call-by : (x : Named) → FoundIs (checkedThen c start name) r → r ≡ x → callOf c start s name ≡ foundBy x (onPack c start s name (packOf s))

@@ -22,7 +22,7 @@ use Rattle.prefixes.specs.declared.prefixes.NameType.{NameType}
 use Rattle.prefixes.specs.declared.prefixes.NameType.the-variants.{Ashkenazi, Generic, Sephardic}
 use Rattle.prefixes.specs.declared.prefixes.Prefix.{Prefix}
 use Rattle.prefixes.specs.declared.prefixes.Prefix.the-variants.{Parted, Whole}
-use Rattle.name_parts.proofs.Laws.{clash, split-within, rest-shorter, joined-shorter, joined-short, put-fits, put-long, slice-room}
+use Rattle.name_parts.proofs.Laws.{clash, split-within, rest-shorter, joined-shorter, joined-short, word-part, put-fits, put-long, slice-room}
 use Rattle.pack.specs.Packs.{listCount}
 use Rattle.pack.specs.Places.{textBytes}
 use Rattle.pack.specs.Guessing.{guessed, guessedAt}
@@ -147,8 +147,8 @@ module _ (s places : List ℕ) (call : Call) (w : Ready s places call) where
       abbrev spelled-word : Lists → Spelling
       spelled-word x = wordOf (call .limit) (take (call .guesses - 1) (drop 1 s)) (matcher s places (x .main)) (matcher s places (x .common)) (matcher s places (x .own)) set word
 
-      abbrev fitting : Lists → ℕ → ℕ → ℕ → ℕ → Bool
-      fitting x a b c d = and (leb (call .limit) 256) (and (areBuffers a b c d 256) (areLists (length places) (x .main) (x .common) (x .own)))
+      abbrev fitting : Lists → ℕ → ℕ → Bool
+      fitting x a b = and (leb (call .limit) 256) (and (areBuffers a b 256) (areLists (length places) (x .main) (x .common) (x .own)))
 
       word-is : stepsAt s call .word set word ≡ speltBy (spelled-word (listsOf call l))
       unfolding stepsAt stepsBy wordBy listsOf
@@ -157,23 +157,23 @@ module _ (s places : List ℕ) (call : Call) (w : Ready s places call) where
           let found = w .desk .table .found in
           rw (language-is, names, found (3 * l) main-in, found _ common-in, found _ own-in, w .desk .languages-are)
 
-      fits : (a b c d : ℕ) → Scratch a b c d → fitting (listsOf call l) a b c d ≡ true
+      fits : (a b : ℕ) → Scratch a b → fitting (listsOf call l) a b ≡ true
       unfolding areBuffers areLists listsOf
-      fits a b c d x =
+      fits a b x =
           and-yes _ _ (le-leb _ _ (w .few))
           (and-yes _ _
-          (and-yes _ _ (eq-eqb _ _ (x .store-is)) (and-yes _ _ (eq-eqb _ _ (x .lens-is)) (and-yes _ _ (eq-eqb _ _ (x .langs-is)) (and-yes _ _ (eq-eqb _ _ (x .ord-is)) refl))))
+          (and-yes _ _ (eq-eqb _ _ (x .store-is)) (and-yes _ _ (eq-eqb _ _ (x .marks-is)) refl))
           (and-yes _ _ (eq-eqb _ _ (w .desk .table .long))
           (and-yes _ _ (lt-ltb _ _ (few-lists main-in)) (and-yes _ _ (lt-ltb _ _ (few-lists common-in)) (lt-ltb _ _ (few-lists own-in))))))
 
-      pub one-told : {o o′ : List ℕ} {at : ℕ} {r : Ends} {answer : Worded} (lists : Lists) (a b c d : ℕ) → lists ≡ listsOf call l → Scratch a b c d → length o * 1 < cap
-          → WordIs (and (leb (call .limit) 256) (and (areBuffers a b c d 256) (areLists (length places) (lists .main) (lists .common) (lists .own))))
+      pub one-told : {o o′ : List ℕ} {at : ℕ} {r : Ends} {answer : Worded} (lists : Lists) (a b : ℕ) → lists ≡ listsOf call l → Scratch a b → length o * 1 < cap
+          → WordIs (and (leb (call .limit) 256) (and (areBuffers a b 256) (areLists (length places) (lists .main) (lists .common) (lists .own))))
           (wordOf (call .limit) (take (call .guesses - 1) (drop 1 s)) (matcher s places (lists .main)) (matcher s places (lists .common)) (matcher s places (lists .own)) set word)
           o o′ at answer
           → EndedIs answer at r → ToldWhole (stepsAt s call .word set word) o o′ at r
-      one-told {o = o} lists a b c d e x room q ended =
-          let fit = fits a b c d x in
-          let v : WordIs (fitting (listsOf call l) a b c d) (spelled-word (listsOf call l)) _ _ _ _ = rw e at q in
+      one-told {o = o} lists a b e x room q ended =
+          let fit = fits a b x in
+          let v : WordIs (fitting (listsOf call l) a b) (spelled-word (listsOf call l)) _ _ _ _ = rw e at q in
           rw word-is (word-told (slice-room o room) (spelled-word (listsOf call l)) _ (v .result ∙ pick-true _ _ _ fit) (v .buffer ∙ pick-true _ _ _ fit) ended)
 
 -- ---- a name by its parts
@@ -195,21 +195,18 @@ module _ (kind : NameType) (name : Text) (x : Prefix) (e : x ≡ partedAs kind n
   pub joined-part : length (joinedName keep skip name) < length name
   joined-part = joined-shorter name keep skip split-here
 
-module _ (s : List ℕ) (call : Call) where
-  pub plain-joined : {o o′ : List ℕ} {at : ℕ} {r : Ends} (name w : Text) (set : LanguageSet) → call .concat ≡ true → set ≡ startAt s call name → w ≡ joinedWords (call .kind) name
-      → ToldWhole (stepsAt s call .word set w) o o′ at r → ToldWhole (onePart (stepsAt s call) (startAt s call name) name) o o′ at r
-  unfolding onePart stepsAt stepsBy
-  plain-joined name w set t es ew q =
-      let same : pick (call .concat) (stepsAt s call .word (startAt s call name) (joinedWords (call .kind) name)) (stepsAt s call .word (startAt s call name) (wordAt name 0))
-      ≡ stepsAt s call .word set w = pick-true _ _ _ t ∙ rw (es, ew) in
-      rw same q
+pick-ap : {A B : Type 0} (f : A → B) (t : Bool) (a b : A) → pick t (f a) (f b) ≡ f (pick t a b)
+unfolding pick
+pick-ap f true a b = refl
+pick-ap f false a b = refl
 
-  pub plain-only : {o o′ : List ℕ} {at : ℕ} {r : Ends} (name w : Text) (set : LanguageSet) → call .concat ≡ false → set ≡ startAt s call name → w ≡ wordAt name 0
+module _ (s : List ℕ) (call : Call) where
+  pub plain-told : {o o′ : List ℕ} {at : ℕ} {r : Ends} (name w : Text) (set : LanguageSet) → set ≡ startAt s call name → w ≡ pick (call .concat) (joinedWords (call .kind) name) (wordAt name 0)
       → ToldWhole (stepsAt s call .word set w) o o′ at r → ToldWhole (onePart (stepsAt s call) (startAt s call name) name) o o′ at r
   unfolding onePart stepsAt stepsBy
-  plain-only name w set t es ew q =
+  plain-told name w set es ew q =
       let same : pick (call .concat) (stepsAt s call .word (startAt s call name) (joinedWords (call .kind) name)) (stepsAt s call .word (startAt s call name) (wordAt name 0))
-      ≡ stepsAt s call .word set w = pick-false _ _ _ t ∙ rw (es, ew) in
+      ≡ stepsAt s call .word set w = pick-ap (stepsAt s call .word (startAt s call name)) (call .concat) (joinedWords (call .kind) name) (wordAt name 0) ∙ rw (es, ew) in
       rw same q
 
   -- what a name spelled afresh tells
@@ -319,5 +316,14 @@ module _ {o o′ t : List ℕ} {n : ℕ} (x : Put o o′ 0 n t) (h : length t �
       let k : n - 0 ≡ n = omega arith in
       ap (λ (m : ℕ). take m o′) k ∙ put-fits x (omega (arith, room)) .1
 
-pub words-short : (kind : NameType) (name : Text) → length name ≤ 96 → length (joinedWords kind name) ≤ 96
-words-short kind name h = omega (arith, joined-short kind name)
+pub word-short : (concat : Bool) (kind : NameType) (name : Text) → length name ≤ 96 → length (pick concat (joinedWords kind name) (wordAt name 0)) ≤ 96
+word-short concat kind name h =
+    pick-all (λ (l : List ℕ). length l ≤ 96) concat (joinedWords kind name) (wordAt name 0) (omega (arith, joined-short kind name)) (omega (arith, word-part name 0))
+
+-- the word that a name is spelled as
+module _ {o o′ : List ℕ} {n : ℕ} (concat : Bool) (kind : NameType) (name : Text) where
+  pub word-joined : concat ≡ true → Put o o′ 0 n (joinedWords kind name) → Put o o′ 0 n (pick concat (joinedWords kind name) (wordAt name 0))
+  word-joined t w = rw (pick-true concat (joinedWords kind name) (wordAt name 0) t) w
+
+  pub word-only : {w : Text} → concat ≡ false → w ≡ wordAt name 0 → Put o o′ 0 n w → Put o o′ 0 n (pick concat (joinedWords kind name) (wordAt name 0))
+  word-only t e w = rw (pick-false concat (joinedWords kind name) (wordAt name 0) t, ← e) w

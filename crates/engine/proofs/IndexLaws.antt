@@ -1,20 +1,19 @@
 -- The table of rules: noting a rule, the loop over a list, and the loop over the lists. A rule whose pattern begins with a byte of
 -- another kind than the word's never matches, so the rules between the first and the last of a kind are enough. Assumes nothing.
-use mathlib.Core.Path.{_≡_, refl, sym, ap, ap₂, subst, _∙_}
+use mathlib.Core.Path.{_≡_, refl, sym, ap, subst, _∙_}
 use mathlib.Core.Bool.{Bool, true, false}
 use mathlib.Core.List.{List, [], _∷_, _++_, append-assoc, append-nil}
-use Prim.Native.Nat.{ℕ, zero, suc, _+_, _-_, _*_, _/_, _%_, _≤_, _<_, zero-le}
+use Prim.Native.Nat.{ℕ, suc, _+_, _-_, _*_, _/_, _%_, _≤_, _<_, zero-le}
 use native.Mathlib.Nat.{add-zero}
 use native.Mathlib.Omega.{arith}
 use lib.Dec.{eqb}
 use lib.ListN.{length, getD, take, drop, set, length-set, length-append, length-take, length-drop}
 use lib.Seq.{getD-set-same, getD-set-other, getD-take, getD-drop}
-use borrow.Author.Tests.{le-ltb, eqb-true, eqb-false, eq-eqb, ne-eqb, ltb-true, ltb-false}
+use borrow.Author.Tests.{eqb-true, eqb-false, eq-eqb, ne-eqb, ltb-true, ltb-false}
 use lib.Dec.{ltb}
 use Rattle.base.specs.Pick.{pick, pick-true, pick-false, pick-all, and-first}
 use Rattle.texts.specs.Parts.{prefixOf}
 use Rattle.rule.specs.Matching.{ruleMatches}
-use Rattle.rule.proofs.MatchLaws.{match-past}
 use Rattle.choices.specs.Texts.{Text}
 use Rattle.pack.specs.Reading.{got}
 use Rattle.pack.specs.Packs.{Rule, readRule, listCount}

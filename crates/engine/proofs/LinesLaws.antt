@@ -7,6 +7,7 @@ use Prim.Native.Nat.{ℕ, zero, suc, _+_, _-_, _/_, _%_, _≤_, _<_, min, max, z
 use native.Mathlib.Nat.{zero-add, sub-zero}
 use native.Mathlib.Decide.{decLe}
 use native.Mathlib.Omega.{arith}
+use mir.Val.{boolByte}
 use lib.Dec.{eqb, leb}
 use lib.ListN.{length, set, take, drop, length-append, length-take, length-drop, take-append-drop, length-set}
 use lib.Seq.{sets, set-comm, set-append-left, length-sets, drop-drop}
@@ -29,7 +30,7 @@ use Rattle.phoneme_builder.specs.Sets.{Spelling, refusal, texts, united}
 use Rattle.phoneme_builder.specs.Passes.{Matcher, Ran, tooLong, ran, raised, onRan, finalText, finalFrom, finalPass, then, mainOf, wordOf}
 use Rattle.engine.specs.Spelling.{Spelt, bad, good, Steps, both, hyphened, andWords, eachWord, onePart, byWords, byPrefix, nameBy, nameFrom, spelledName}
 use Rattle.engine.specs.Calls.{speltBy, wordBy, stepsBy, stepsOf, spelledBy, Outcome, refusedBy, key, outcomeOf, unless, onPack, lettersThen, checkedThen, callOf, toldOf, filledBy, SpellIs, numbersOf}
-use Rattle.engine.specs.Lines.{decimalBy, decimal, flagDigit, answerLine, refusalLine, lineBy, most, room, textOf, lineOf, lineFor, linesFrom, wholeLines, Taken, andTaken, noneTaken, takeLines, taken, LinesIs, LineAt, headOf, DoneIs, partFilled, PartIs, waitsFor, RefusedIs}
+use Rattle.engine.specs.Lines.{decimalBy, decimal, flagDigit, answerLine, refusalLine, lineBy, most, room, textOf, lineOf, lineFor, linesFrom, wholeLines, Taken, andTaken, noneTaken, takeLines, taken, LinesIs, LineAt, headOf, DoneIs, waitsFor, RefusedIs}
 use Rattle.engine.proofs.EncodeLaws.{rest-is}
 use Rattle.engine.specs.declared.call.Settings.{Settings}
 use Rattle.engine.specs.declared.call.Start.{Start}
@@ -153,13 +154,17 @@ module _ (code place size : ℕ) (o : List ℕ) (at : ℕ) (t : Bool) (w : t ≡
 
 -- ---- the line of an answer
 
-pub head-up : (flag : Bool) (o o′ : List ℕ) (at r : ℕ) → flag ≡ true → Put o o′ at r (48 ∷ 32 ∷ 49 ∷ 32 ∷ []) → Put o o′ at r (headOf flag)
+head-by : (flag : Bool) → 48 ∷ 32 ∷ (48 + boolByte flag) ∷ 32 ∷ [] ≡ headOf flag
 unfolding headOf flagDigit
-head-up flag o o′ at r e x = rw e x
+head-by true = refl
+head-by false = refl
 
-pub head-down : (flag : Bool) (o o′ : List ℕ) (at r : ℕ) → flag ≡ false → Put o o′ at r (48 ∷ 32 ∷ 48 ∷ 32 ∷ []) → Put o o′ at r (headOf flag)
-unfolding headOf flagDigit
-head-down flag o o′ at r e x = rw e x
+pub head-is : (flag : Bool) {o o′ : List ℕ} {at r : ℕ} → Put o o′ at r (48 ∷ 32 ∷ (48 + boolByte flag) ∷ 32 ∷ []) → Put o o′ at r (headOf flag)
+head-is flag x = rw (← head-by flag) x
+
+pub digit-small : (flag : Bool) → 48 + boolByte flag ≤ 49
+digit-small true = omega arith
+digit-small false = omega arith
 
 module _ (written : ℕ) (flag : Bool) (size : ℕ) (o : List ℕ) (at : ℕ) (h : (at ≤ size) × (size ≤ length o)) where
   pub done-fits : (o₁ o₂ : List ℕ) (p r : ℕ) → 5 ≤ size - at → written ≤ size - at - 5 → Put o o₁ at p (headOf flag) → Put o₁ o₂ (at + 4 + written) r (10 ∷ [])
@@ -222,11 +227,28 @@ sets-part (suc a) k (x ∷ o) t h l = ap (λ (m : List ℕ). x ∷ m) (sets-part
 back-same : (a k : ℕ) (o : List ℕ) → take a o ++ (take k (drop a o) ++ drop k (drop a o)) ≡ o
 back-same a k o = ap (λ (l : List ℕ). take a o ++ l) (take-append-drop k (drop a o)) ∙ take-append-drop a o
 
+alike-long : (x y z u : List ℕ) → length y ≡ length z → length (x ++ (y ++ u)) ≡ length (x ++ (z ++ u))
+alike-long x y z u e = omega (arith, e, length-append x (y ++ u), length-append y u, length-append x (z ++ u), length-append z u)
+
 filled-by : (a k : ℕ) (o t : List ℕ) (b : Bool) → a + k ≤ length o → leb (length t) k ≡ b
     → take a o ++ (pick b (sets (take k (drop a o)) 0 t) (take k (drop a o)) ++ drop k (drop a o)) ≡ pick b (sets o a t) o
 unfolding pick
 filled-by a k o t true l e = sets-part a k o t (leb-true _ _ e) l
 filled-by a k o t false l e = back-same a k o
+
+filled-long : (x : Outcome) (o : List ℕ) → length (filledBy x o) ≡ length o
+unfolding filledBy
+filled-long (refusedBy code place) o = refl
+filled-long (key t f) o = pick-all (λ (l : List ℕ). length l ≡ length o) _ _ _ (length-sets o 0 t) refl
+
+-- a call's answer in a part of a buffer
+unfoldable partFilled : Outcome → ℕ → ℕ → List ℕ → List ℕ
+partFilled (refusedBy k place) a space out = out
+partFilled (key t f) a space out = pick (leb (length t) space) (sets out a t) out
+
+record PartIs (x : Outcome) (a space : ℕ) (out : List ℕ) (r : Spelled) (out′ : List ℕ) : Type 0 where
+  result : r ≡ toldOf x space
+  buffer : out′ ≡ partFilled x a space out
 
 part-filled : (x : Outcome) (a k : ℕ) (o : List ℕ) → a + k ≤ length o → take a o ++ (filledBy x (take k (drop a o)) ++ drop k (drop a o)) ≡ partFilled x a k o
 unfolding filledBy partFilled
@@ -235,7 +257,7 @@ part-filled (key t f) a k o l =
     let long : length (take k (drop a o)) ≡ k = omega (arith, length-take k (drop a o), length-drop a o) in
     ap (λ (n : ℕ). take a o ++ (pick (leb (length t) n) (sets (take k (drop a o)) 0 t) (take k (drop a o)) ++ drop k (drop a o))) long ∙ filled-by a k o t _ l refl
 
-pub part-back : (x : Outcome) (a e : ℕ) (o : List ℕ) (r : Spelled) (m : List ℕ) → (a ≤ e) × (e ≤ length o)
+part-back : (x : Outcome) (a e : ℕ) (o : List ℕ) (r : Spelled) (m : List ℕ) → (a ≤ e) × (e ≤ length o)
     → SpellIs x (take (e - a) (drop a o)) r m → PartIs x a (e - a) o r (take a o ++ (m ++ drop (e - a) (drop a o)))
 part-back x a e o r m h p = record {
   result = p .result ∙ ap (toldOf x) (omega (arith, h .0, h .1, length-take (e - a) (drop a o), length-drop a o));
@@ -482,14 +504,24 @@ module _ (o : List ℕ) (at size a e : ℕ) (h : (at ≤ size) × (size ≡ min 
   lent : Lent o at size a e
   lent = record { within = h .0; size-is = h .1; front-is = f; end-is = g }
 
-  module _ (settings : Settings) (start : Start) (pack name o₁ o₂ : List ℕ) (r : Spelled) (next : ℕ) (p : PartIs (callOf settings start pack name) a (e - a) o r o₁) where
+  pub lent-long : {x : Outcome} {r : Spelled} {m : List ℕ} → SpellIs x (take (e - a) (drop a o)) r m → length (take a o ++ (m ++ drop (e - a) (drop a o))) ≡ length o
+  lent-long {x} {r} {m} p =
+      alike-long (take a o) m (take (e - a) (drop a o)) (drop (e - a) (drop a o)) (ap length (p .buffer) ∙ filled-long x (take (e - a) (drop a o))) ∙ ap length (back-same a (e - a) o)
+
+  module _ (settings : Settings) (start : Start) (pack name m o₂ : List ℕ) (r : Spelled) (next : ℕ) (p : SpellIs (callOf settings start pack name) (take (e - a) (drop a o)) r m) where
+    abbrev o₁ : List ℕ
+    o₁ = take a o ++ (m ++ drop (e - a) (drop a o))
+
+    part-here : PartIs (callOf settings start pack name) a (e - a) o r o₁
+    part-here = part-back _ a e o r m (lent-order, lent-within) p
+
     pub put-done : (written : ℕ) (flag : Bool) → r ≡ Done written flag → DoneIs written flag size o₁ o₂ at next → LineAt (lineFor settings start pack (length o) name) size o o₂ at next
     unfolding lineFor
-    put-done written flag q d = line-done lent (answered-of _ a (e - a) o o₁ r written flag p q) d
+    put-done written flag q d = line-done lent (answered-of _ a (e - a) o o₁ r written flag part-here q) d
 
     pub put-refused : (code place : ℕ) → r ≡ Refused code place → RefusedIs code place size o₁ o₂ at next → LineAt (lineFor settings start pack (length o) name) size o o₂ at next
     unfolding lineFor
-    put-refused code place q d = line-refused lent (refused-of _ a (e - a) o o₁ r code place (call-below settings start pack name) p q) d
+    put-refused code place q d = line-refused lent (refused-of _ a (e - a) o o₁ r code place (call-below settings start pack name) part-here q) d
 
 -- ---- the lines of a block
 
@@ -649,4 +681,4 @@ module _ (code place size : ℕ) where
   unfolding waitsFor
   waits-other e = and-none _ _ _ (ne-eqb _ _ e) refl
 
-pub ruleset lines-laws = (slice-room, put-long, digit-one, digit-more, refused-waits, refused-fits, refused-stops, head-up, head-down, done-fits, done-small, done-narrow, part-back, waits-room, waits-small, waits-other)
+pub ruleset lines-laws = (slice-room, put-long, digit-one, digit-more, refused-waits, refused-fits, refused-stops, done-fits, done-small, done-narrow, waits-room, waits-small, waits-other)

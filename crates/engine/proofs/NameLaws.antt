@@ -2,7 +2,7 @@
 use mathlib.Core.Path.{_≡_, refl, _∙_}
 use mathlib.Core.Bool.{false}
 use mathlib.Core.List.{List}
-use Prim.Native.Nat.{ℕ, _-_, _*_, _≤_, _<_, zero-le}
+use Prim.Native.Nat.{ℕ, _+_, _-_, _*_, _≤_, _<_, zero-le}
 use native.Mathlib.Omega.{arith}
 use lib.ListN.{length, take, drop}
 use Rattle.base.specs.Pick.{pick}
@@ -22,8 +22,22 @@ use Rattle.engine.proofs.ToldLaws.{WordsTold, words-start, words-end, w
 use Rattle.engine.proofs.EncodeLaws.{rest-is, rest-short, joined-part, front-is}
 
 -- the buffers keep their sizes
-pub scratch-kept : {a b c d a′ b′ c′ d′ : ℕ} → Scratch a b c d → a′ ≡ a → b′ ≡ b → c′ ≡ c → d′ ≡ d → Scratch a′ b′ c′ d′
-scratch-kept x ea eb ec ed = record { store-is = ea ∙ x .store-is; lens-is = eb ∙ x .lens-is; langs-is = ec ∙ x .langs-is; ord-is = ed ∙ x .ord-is }
+pub scratch-kept : {a b a′ b′ : ℕ} → Scratch a b → a′ ≡ a → b′ ≡ b → Scratch a′ b′
+scratch-kept x ea eb = record { store-is = ea ∙ x .store-is; marks-is = eb ∙ x .marks-is }
+
+-- the measures: twice a name's length and one, and twice the length for its words
+module _ {m n : ℕ} (h : m < n) where
+  pub name-falls : {t : ℕ} → n * 2 + 1 ≡ t → m * 2 + 1 < t
+  name-falls e = omega (arith, e)
+
+  pub word-falls : {t : ℕ} → n * 2 ≡ t → m * 2 + 1 < t
+  word-falls e = omega (arith, e)
+
+  pub still-short : n ≤ 96 → m ≤ 96
+  still-short k = omega arith
+
+pub words-fall : (n : ℕ) {t : ℕ} → n * 2 + 1 ≡ t → n * 2 < t
+words-fall n e = omega (arith, e)
 
 -- ---- a name with a prefix: both parts are shorter
 
@@ -51,29 +65,25 @@ module _ (s : List ℕ) (call again : Call) (e : again ≡ afreshOf call) where
 -- ---- words
 
 -- the invariant of the loop: the words so far are told, and every buffer has its size
-pub record WordsHeld (f : Text → Spelt) (name : Text) (o₀ o : List ℕ) (at p : ℕ) (all : Ends) (a₀ b₀ c₀ d₀ a b c d : ℕ) : Type 0 where
+pub record WordsHeld (f : Text → Spelt) (name : Text) (o₀ o : List ℕ) (at p : ℕ) (all : Ends) (a₀ b₀ a b : ℕ) : Type 0 where
   pub told : WordsTold f name o₀ o at p all
   pub within : p ≤ length name
   pub store-same : a ≡ a₀
-  pub lens-same : b ≡ b₀
-  pub langs-same : c ≡ c₀
-  pub ord-same : d ≡ d₀
+  pub marks-same : b ≡ b₀
   pub out-same : length o ≡ length o₀
 
-pub held-start : (f : Text → Spelt) (name : Text) (o : List ℕ) (at a b c d : ℕ) → at ≤ cap → length o * 1 < cap → WordsHeld f name o o at 0 (record { at = at; flag = false; code = 0 }) a b c d a b c d
-held-start f name o at a b c d h r = record {
+pub held-start : (f : Text → Spelt) (name : Text) (o : List ℕ) (at a b : ℕ) → at ≤ cap → length o * 1 < cap → WordsHeld f name o o at 0 (record { at = at; flag = false; code = 0 }) a b a b
+held-start f name o at a b h r = record {
   told = words-start f name o at h (slice-room o r);
   within = zero-le;
   store-same = refl;
-  lens-same = refl;
-  langs-same = refl;
-  ord-same = refl;
+  marks-same = refl;
   out-same = refl;
 }
 
-module _ {f : Text → Spelt} {name : Text} {o₀ o : List ℕ} {at p : ℕ} {all : Ends} {a₀ b₀ c₀ d₀ a b c d : ℕ} (k : WordsHeld f name o₀ o at p all a₀ b₀ c₀ d₀ a b c d) where
-  pub held-scratch : Scratch a₀ b₀ c₀ d₀ → Scratch a b c d
-  held-scratch x = scratch-kept x (k .store-same) (k .lens-same) (k .langs-same) (k .ord-same)
+module _ {f : Text → Spelt} {name : Text} {o₀ o : List ℕ} {at p : ℕ} {all : Ends} {a₀ b₀ a b : ℕ} (k : WordsHeld f name o₀ o at p all a₀ b₀ a b) where
+  pub held-scratch : Scratch a₀ b₀ → Scratch a b
+  held-scratch x = scratch-kept x (k .store-same) (k .marks-same)
 
   module _ (w : Text) (ew : w ≡ wordAt name p) where
     pub held-end : length w ≡ 0 → Told (eachWord f (wordsOf name)) o₀ o at all
@@ -90,14 +100,12 @@ module _ {f : Text → Spelt} {name : Text} {o₀ o : List ℕ} {at p : ℕ} {al
         pub held-place : q ≤ cap
         held-place = words-place w ew some h (k .told)
 
-        pub held-turn : {o₂ : List ℕ} {b′ r : Ends} {p′ a₁ b₁ c₁ d₁ : ℕ} → Told (f w) o₁ o₂ q b′ → r ≡ bothOf all b′ (b′ .at) → p′ ≡ pastWord name p
-            → a₁ ≡ a → b₁ ≡ b → c₁ ≡ c → d₁ ≡ d → length o₂ ≡ length o → WordsHeld f name o₀ o₂ at p′ r a₀ b₀ c₀ d₀ a₁ b₁ c₁ d₁
-        held-turn {p′ = p′} tb e ep ea eb ec ed eo = record {
+        pub held-turn : {o₂ : List ℕ} {b′ r : Ends} {p′ a₁ b₁ : ℕ} → Told (f w) o₁ o₂ q b′ → r ≡ bothOf all b′ (b′ .at) → p′ ≡ pastWord name p
+            → a₁ ≡ a → b₁ ≡ b → length o₂ ≡ length o → WordsHeld f name o₀ o₂ at p′ r a₀ b₀ a₁ b₁
+        held-turn {p′ = p′} tb e ep ea eb eo = record {
           told = words-turn w ew some h tb e (k .told) p′ ep;
           within = rw ep (past-within name p (a-word name p w ew some));
           store-same = ea ∙ k .store-same;
-          lens-same = eb ∙ k .lens-same;
-          langs-same = ec ∙ k .langs-same;
-          ord-same = ed ∙ k .ord-same;
+          marks-same = eb ∙ k .marks-same;
           out-same = eo ∙ k .out-same;
         }

@@ -120,15 +120,6 @@ pub record DoneIs (written : ℕ) (flag : Bool) (size : ℕ) (o o′ : List ℕ)
   pub fits : written + 5 ≤ size - at → (next ≡ at + 4 + written + 1) × (o′ ≡ sets (sets o at (headOf flag)) (at + 4 + written) (10 ∷ []))
   pub stops : size - at < written + 5 → (next ≡ at) × (o′ ≡ o)
 
--- a call's answer in a part of a buffer
-unfoldable pub partFilled : Outcome → ℕ → ℕ → List ℕ → List ℕ
-partFilled (refusedBy k place) a space out = out
-partFilled (key t f) a space out = pick (leb (length t) space) (sets out a t) out
-
-pub record PartIs (x : Outcome) (a space : ℕ) (out : List ℕ) (r : Spelled) (out′ : List ℕ) : Type 0 where
-  pub result : r ≡ toldOf x space
-  pub buffer : out′ ≡ partFilled x a space out
-
 -- an answer that has no room here, but has in the whole buffer
 unfoldable pub waitsFor : ℕ → ℕ → ℕ → Bool
 waitsFor code place size = and (eqb code 9) (leb (place + 5) size)

@@ -4,14 +4,12 @@ use Prim.Native.Nat.{ℕ, _+_, _-_, _*_, _/_, _≤_, _<_, min}
 use mathlib.Core.Bool.{Bool, true, false}
 use mathlib.Core.List.{List, [], _∷_}
 use lib.Dec.{eqb, leb}
-use lib.ListN.{length, getD, set}
+use lib.ListN.{length, getD, set, take}
 use lib.Seq.{sets}
 use Rattle.base.specs.Pick.{pick}
 use Rattle.languages.specs.Sets.{BitsBelow}
 use Rattle.languages.specs.Names.{namePlace}
 use Rattle.languages.specs.declared.sets.LanguageSet.{LanguageSet}
-use Rattle.letters.specs.Reading.{firstIll, firstOutside}
-use Rattle.letters.specs.declared.utf8.Found.the-variants.{Nothing}
 use Rattle.name_parts.specs.Writing.{cap, Put}
 use Rattle.prefixes.specs.declared.prefixes.Prefix.{Prefix}
 use Rattle.prefixes.specs.declared.prefixes.Prefix.the-variants as prefix
@@ -23,7 +21,7 @@ use Rattle.phoneme_builder.specs.Tables.{matcher}
 use Rattle.phoneme_builder.specs.declared.words.Worded.{Worded}
 use Rattle.phoneme_builder.specs.declared.words.Worded.the-variants.{Done, TooLong, TooMany, Unfit}
 use Rattle.engine.specs.Spelling.{Spelt, bad, good, Steps, or}
-use Rattle.engine.specs.Calls.{listOf, stepsBy, startSet, typeOf, settingsKnown, haveLanguages, Outcome, refusedBy}
+use Rattle.engine.specs.Calls.{listOf, stepsBy, startSet, typeOf, Outcome, refusedBy}
 use Rattle.engine.specs.declared.spelling.Spelled.{Spelled}
 use Rattle.engine.specs.declared.spelling.Spelled.the-variants as spelled
 use Rattle.engine.specs.declared.call.Settings.{Settings}
@@ -106,11 +104,9 @@ unfoldable pub startAt : List ℕ → Call → Text → LanguageSet
 startAt s c t = pick (c .fresh) (stepsAt s c .guess t) (c .set)
 
 -- the sizes of the buffers that are lent for the work
-pub record Scratch (store lens langs ord : ℕ) : Type 0 where
-  pub store-is : store ≡ 131584
-  pub lens-is : lens ≡ 1028
-  pub langs-is : langs ≡ 1028
-  pub ord-is : ord ≡ 1024
+pub record Scratch (store marks : ℕ) : Type 0 where
+  pub store-is : store ≡ 131072
+  pub marks-is : marks ≡ 1024
 
 -- the numbers of a language's lists
 unfoldable pub listsOf : Call → ℕ → Lists
@@ -208,13 +204,16 @@ foundBy (Wrong code place) rest = refusedBy code place
 pub record FoundIs (f : Outcome → Outcome) (r : Named) : Type 0 where
   pub is : (rest : Outcome) → foundBy r rest ≡ f rest
 
--- no refusal but 7, 8 and 9 is left
-pub record FineName (c : Settings) (start : Start) (languages : ℕ) (name : Text) : Type 0 where
-  pub known : settingsKnown c start ≡ true
-  pub have : haveLanguages languages start ≡ true
-  pub short : length name ≤ 96
-  pub formed : firstIll name ≡ Nothing
-  pub within : firstOutside name ≡ Nothing
+-- an answer held apart, written where it fits; or not, as it is a refusal or has no room
+pub data KeptAll (a : Ends) (apart o o′ : List ℕ) : Type 0 where
+  none : (a .code ≡ 0 → ⊥) → o′ ≡ o → KeptAll a apart o o′
+  over : length o < a .at → o′ ≡ o → KeptAll a apart o o′
+  copied : a .code ≡ 0 → a .at ≤ length o → a .at ≤ length apart → o′ ≡ sets o 0 (take (a .at) apart) → KeptAll a apart o o′
+
+-- the same; or that it fits, but is too long to be held apart
+unfoldable pub KeptIs : Ends → List ℕ → List ℕ → List ℕ → Bool → Type 0
+KeptIs a apart o o′ true = KeptAll a apart o o′
+KeptIs a apart o o′ false = (a .code ≡ 0) × (a .at ≤ length o) × (o′ ≡ o)
 
 -- an answer of so many bytes, or that they have no room
 unfoldable pub answeredBy : Ends → ℕ → Spelled

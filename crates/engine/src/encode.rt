@@ -5,13 +5,14 @@ ghost use mathlib.Core.List.{_∷_};
 ghost use Prim.Native.Nat.{_+_, _≤_, _<_, min};
 ghost use lib.ListN.{length};
 ghost use Rattle.base.specs.Pick.{pick};
-ghost use Rattle.languages.specs.Sets.{singleOf, BitsBelow};
-ghost use Rattle.name_parts.specs.Words.{oneWord, wordsOf};
+ghost use Rattle.languages.specs.Sets.{singleOf};
+ghost use Rattle.name_parts.specs.Words.{oneWord, wordsOf, wordAt};
+ghost use Rattle.name_parts.specs.Joining.{joinedWords};
 ghost use Rattle.name_parts.specs.Writing.{cap, Put};
 ghost use Rattle.pack.specs.Guessing.{guessedAt};
 ghost use Rattle.engine.specs.Spelling.{partedAs, or, spelledName, onePart, eachWord, afreshBy};
-ghost use Rattle.engine.specs.Calls.{languageBy, languageOf, wordBy};
-ghost use Rattle.engine.specs.Walks.{packIn, Ready, Scratch, stepsAt, startAt, listsOf, EndedIs, Told, ToldWhole, bothOf, HyphenAt};
+ghost use Rattle.engine.specs.Calls.{languageBy};
+ghost use Rattle.engine.specs.Walks.{Ready, Scratch, stepsAt, startAt, listsOf, EndedIs, Told, ToldWhole, bothOf, HyphenAt};
 use crate::call::Call;
 use crate::call::afresh;
 use languages::LanguageSet;
@@ -100,50 +101,6 @@ fn ended(answer: Worded, at: usize) -> Ends
     }
 }
 
-// A word spelled with a set, into `out` from `at` on where it fits as a whole.
-fn spell_one(
-    store: &mut [u8],
-    lens: &mut [u8],
-    langs: &mut [u64],
-    ord: &mut [u8],
-    pack: &[u8],
-    places: &[usize],
-    call: Call,
-    set: LanguageSet,
-    word: &[u8],
-    out: &mut [u8],
-    at: usize,
-) -> Ends
-    requires { ⌜ Scratch (length (now store)) (length (now lens)) (length (now langs)) (length (now ord)) ⌝ }
-    requires { ⌜ Ready (now pack) (now places) call ⌝ }
-    requires { ⌜ BitsBelow (call .languages) set ⌝ }
-    ensures { λ r. ⌜ ToldWhole (stepsAt (now (pack .entry)) call .word set (now (word .entry))) (now (out .entry)) (now (out .exit)) at r ⌝ }
-{
-    let guesses = call.guesses;
-    let l = language_of(set, call.any);
-    let lists = lists_of(call, l);
-    let mut alts = [0u64; 256];
-    let answer = phoneme_builder::word(
-        store,
-        lens,
-        langs,
-        ord,
-        &mut alts,
-        pack,
-        &pack[1..guesses],
-        places,
-        lists.main,
-        lists.common,
-        lists.own,
-        set,
-        word,
-        call.limit,
-        out,
-        at,
-    );
-    ended(answer, at)
-}
-
 // The set that a name starts with.
 fn start_of(pack: &[u8], call: Call, name: &[u8]) -> LanguageSet
     ensures { λ r. ⌜ r ≡ pick (call .fresh) (guessedAt (now (pack .entry)) (call .guesses) (call .languages) (now (name .entry))) (call .set) ⌝ }
@@ -166,12 +123,22 @@ pub(crate) fn is_plain(call: Call, name: &[u8]) -> bool
     }
 }
 
-// That word spelled: the words joined, or the only one.
+// That word, the words joined or the only one, at the front of `word`. Returns its length.
+fn put_word(call: Call, name: &[u8], word: &mut [u8]) -> usize
+    ensures { λ r. ⌜ Put (now (word .entry)) (now (word .exit)) 0 r (pick (call .concat) (joinedWords (call .kind) (now (name .entry))) (wordAt (now (name .entry)) 0)) ⌝ }
+{
+    if call.concat {
+        let kind = call.kind;
+        name_parts::join_words(kind, name, word)
+    } else {
+        name_parts::copy(name_parts::next_word(name, 0), word, 0)
+    }
+}
+
+// That word spelled, into `out` from `at` on where it fits as a whole.
 pub(crate) fn spell_plain(
     store: &mut [u8],
-    lens: &mut [u8],
-    langs: &mut [u64],
-    ord: &mut [u8],
+    marks: &mut [u64],
     pack: &[u8],
     places: &[usize],
     call: Call,
@@ -179,33 +146,34 @@ pub(crate) fn spell_plain(
     out: &mut [u8],
     at: usize,
 ) -> Ends
-    requires { ⌜ Scratch (length (now store)) (length (now lens)) (length (now langs)) (length (now ord)) ⌝ }
+    requires { ⌜ Scratch (length (now store)) (length (now marks)) ⌝ }
     requires { ⌜ Ready (now pack) (now places) call ⌝ }
     requires { ⌜ length (now name) ≤ 96 ⌝ }
     ensures { λ r. ⌜ ToldWhole (onePart (stepsAt (now (pack .entry)) call) (startAt (now (pack .entry)) call (now (name .entry))) (now (name .entry))) (now (out .entry)) (now (out .exit)) at r ⌝ }
 {
+    let guesses = call.guesses;
     let set = start_of(pack, call, name);
-    if call.concat {
-        let kind = call.kind;
-        let mut joined = [0u8; 96];
-        let n = name_parts::join_words(kind, name, &mut joined);
-        spell_one(
-            store,
-            lens,
-            langs,
-            ord,
-            pack,
-            places,
-            call,
-            set,
-            &joined[0..n],
-            out,
-            at,
-        )
-    } else {
-        let w = name_parts::next_word(name, 0);
-        spell_one(store, lens, langs, ord, pack, places, call, set, w, out, at)
-    }
+    let lists = lists_of(call, language_of(set, call.any));
+    let mut word = [0u8; 96];
+    let n = put_word(call, name, &mut word);
+    let mut alts = [0u64; 256];
+    let answer = phoneme_builder::word(
+        store,
+        marks,
+        &mut alts,
+        pack,
+        &pack[1..guesses],
+        places,
+        lists.main,
+        lists.common,
+        lists.own,
+        set,
+        &word[0..n],
+        call.limit,
+        out,
+        at,
+    );
+    ended(answer, at)
 }
 
 // Where a name is parted: only Generic ones are.
@@ -262,9 +230,7 @@ fn both(first: Ends, second: Ends, at: usize) -> Ends
 // words.
 pub(crate) fn spell_name(
     store: &mut [u8],
-    lens: &mut [u8],
-    langs: &mut [u64],
-    ord: &mut [u8],
+    marks: &mut [u64],
     pack: &[u8],
     places: &[usize],
     call: Call,
@@ -272,7 +238,7 @@ pub(crate) fn spell_name(
     out: &mut [u8],
     at: usize,
 ) -> Ends
-    requires { ⌜ Scratch (length (now store)) (length (now lens)) (length (now langs)) (length (now ord)) ⌝ }
+    requires { ⌜ Scratch (length (now store)) (length (now marks)) ⌝ }
     requires { ⌜ Ready (now pack) (now places) call ⌝ }
     requires { ⌜ length (now name) ≤ 96 ⌝ }
     requires { ⌜ at ≤ cap ⌝ }
@@ -285,39 +251,17 @@ pub(crate) fn spell_name(
             let mut joined = [0u8; 96];
             let n = name_parts::join_prefix(name, keep, skip, &mut joined);
             let p = name_parts::push(out, at, b'(');
-            let a = spell_name(
-                store,
-                lens,
-                langs,
-                ord,
-                pack,
-                places,
-                again,
-                &name[skip..],
-                out,
-                p,
-            );
+            let a = spell_name(store, marks, pack, places, again, &name[skip..], out, p);
             let q = middle(out, a.at);
-            let b = spell_name(
-                store,
-                lens,
-                langs,
-                ord,
-                pack,
-                places,
-                again,
-                &joined[0..n],
-                out,
-                q,
-            );
+            let b = spell_name(store, marks, pack, places, again, &joined[0..n], out, q);
             let end = name_parts::push(out, b.at, b')');
             both(b, a, end)
         }
         Prefix::Whole => {
             if is_plain(call, name) {
-                spell_plain(store, lens, langs, ord, pack, places, call, name, out, at)
+                spell_plain(store, marks, pack, places, call, name, out, at)
             } else {
-                spell_words(store, lens, langs, ord, pack, places, call, name, out, at)
+                spell_words(store, marks, pack, places, call, name, out, at)
             }
         }
     }
@@ -326,9 +270,7 @@ pub(crate) fn spell_name(
 // Each word of a name spelled afresh, a hyphen between them.
 fn spell_words(
     store: &mut [u8],
-    lens: &mut [u8],
-    langs: &mut [u64],
-    ord: &mut [u8],
+    marks: &mut [u64],
     pack: &[u8],
     places: &[usize],
     call: Call,
@@ -336,7 +278,7 @@ fn spell_words(
     out: &mut [u8],
     at: usize,
 ) -> Ends
-    requires { ⌜ Scratch (length (now store)) (length (now lens)) (length (now langs)) (length (now ord)) ⌝ }
+    requires { ⌜ Scratch (length (now store)) (length (now marks)) ⌝ }
     requires { ⌜ Ready (now pack) (now places) call ⌝ }
     requires { ⌜ length (now name) ≤ 96 ⌝ }
     requires { ⌜ at ≤ cap ⌝ }
@@ -356,7 +298,7 @@ fn spell_words(
             return all;
         }
         let q = hyphen(out, all.at, p);
-        let b = spell_name(store, lens, langs, ord, pack, places, again, w, out, q);
+        let b = spell_name(store, marks, pack, places, again, w, out, q);
         all = both(all, b, b.at);
         p = name_parts::past_word(name, p);
     }

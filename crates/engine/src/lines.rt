@@ -3,9 +3,9 @@ ghost use mathlib.Core.Path.{_≡_};
 ghost use Prim.Native.Nat.{_+_, _-_, _≤_, min, max};
 ghost use lib.ListN.{length};
 ghost use Rattle.name_parts.specs.Writing.{Put};
-ghost use Rattle.engine.specs.Calls.{callOf, numbersOf};
+ghost use Rattle.engine.specs.Calls.{numbersOf};
 ghost use Rattle.engine.specs.Walks.{DeskIs, Scratch};
-ghost use Rattle.engine.specs.Lines.{most, decimal, refusalLine, lineFor, LinesIs, LineAt, headOf, DoneIs, PartIs, waitsFor, RefusedIs};
+ghost use Rattle.engine.specs.Lines.{most, decimal, refusalLine, lineFor, LinesIs, LineAt, headOf, DoneIs, waitsFor, RefusedIs};
 ghost use Rattle.engine.specs.declared.spelling.Spelled.the-variants.{Refused};
 use crate::call::Desk;
 use crate::call::Settings;
@@ -75,11 +75,8 @@ fn refused_line(code: u8, place: usize, out: &mut [u8], at: usize, size: usize) 
 fn put_head(flag: bool, out: &mut [u8], at: usize) -> usize
     ensures { λ r. ⌜ Put (now (out .entry)) (now (out .exit)) at r (headOf flag) ⌝ }
 {
-    if flag {
-        name_parts::copy(b"0 1 ", out, at)
-    } else {
-        name_parts::copy(b"0 0 ", out, at)
-    }
+    let head = [b'0', b' ', b'0' + flag as u8, b' '];
+    name_parts::copy(&head, out, at)
 }
 
 // What stands before and behind an answer in its place, 4 bytes behind `at`: the place behind it, or the place itself.
@@ -95,42 +92,6 @@ fn done_line(written: usize, flag: bool, out: &mut [u8], at: usize, size: usize)
         }
     }
     at
-}
-
-// A name spelled into a part of the buffer.
-fn spell_part(
-    store: &mut [u8],
-    lens: &mut [u8],
-    langs: &mut [u64],
-    ord: &mut [u8],
-    pack: &[u8],
-    places: &[usize],
-    desk: Desk,
-    settings: Settings,
-    start: Start,
-    name: &[u8],
-    out: &mut [u8],
-    a: usize,
-    e: usize,
-) -> Spelled
-    requires { ⌜ Scratch (length (now store)) (length (now lens)) (length (now langs)) (length (now ord)) ⌝ }
-    requires { ⌜ DeskIs (now pack) (now places) desk ⌝ }
-    requires { ⌜ (a ≤ e) × (e ≤ length (now out)) ⌝ }
-    ensures { λ r. ⌜ PartIs (callOf settings start (now (pack .entry)) (now (name .entry))) a (e - a) (now (out .entry)) r (now (out .exit)) ⌝ }
-{
-    spell_at(
-        store,
-        lens,
-        langs,
-        ord,
-        pack,
-        places,
-        desk,
-        settings,
-        start,
-        name,
-        &mut out[a..e],
-    )
 }
 
 // Where an answer begins, four bytes behind `at`.
@@ -152,9 +113,7 @@ fn end_of(a: usize, size: usize) -> usize
 // The line of one name, where it fits: the place behind it, or the place itself.
 fn put_line(
     store: &mut [u8],
-    lens: &mut [u8],
-    langs: &mut [u64],
-    ord: &mut [u8],
+    marks: &mut [u64],
     pack: &[u8],
     places: &[usize],
     desk: Desk,
@@ -165,27 +124,23 @@ fn put_line(
     at: usize,
     size: usize,
 ) -> usize
-    requires { ⌜ Scratch (length (now store)) (length (now lens)) (length (now langs)) (length (now ord)) ⌝ }
+    requires { ⌜ Scratch (length (now store)) (length (now marks)) ⌝ }
     requires { ⌜ DeskIs (now pack) (now places) desk ⌝ }
     requires { ⌜ (at ≤ size) × (size ≡ min (length (now out)) most) ⌝ }
     ensures { λ r. ⌜ LineAt (lineFor settings start (now (pack .entry)) (length (now (out .entry))) (now (name .entry))) size (now (out .entry)) (now (out .exit)) at r ⌝ }
 {
     let a = front_of(at, size);
     let e = end_of(a, size);
-    match spell_part(
+    match spell_at(
         store,
-        lens,
-        langs,
-        ord,
+        marks,
         pack,
         places,
         desk,
         settings,
         start,
         name,
-        out,
-        a,
-        e,
+        &mut out[a..e],
     ) {
         Spelled::Done { written, flag } => done_line(written, flag, out, at, size),
         Spelled::Refused { code, place } => refused_line(code, place, out, at, size),
@@ -202,9 +157,7 @@ fn size_of(n: usize) -> usize
 // The lines of whole names, as many as fit, at a desk.
 fn put_lines(
     store: &mut [u8],
-    lens: &mut [u8],
-    langs: &mut [u64],
-    ord: &mut [u8],
+    marks: &mut [u64],
     pack: &[u8],
     places: &[usize],
     desk: Desk,
@@ -213,7 +166,7 @@ fn put_lines(
     block: &[u8],
     out: &mut [u8],
 ) -> Lines
-    requires { ⌜ Scratch (length (now store)) (length (now lens)) (length (now langs)) (length (now ord)) ⌝ }
+    requires { ⌜ Scratch (length (now store)) (length (now marks)) ⌝ }
     requires { ⌜ DeskIs (now pack) (now places) desk ⌝ }
     ensures { λ r. ⌜ LinesIs (lineFor settings start (now (pack .entry)) (length (now (out .entry)))) (now (block .entry)) (now (out .entry)) r (now (out .exit)) ⌝ }
 {
@@ -228,9 +181,7 @@ fn put_lines(
         }
         let next = put_line(
             store,
-            lens,
-            langs,
-            ord,
+            marks,
             pack,
             places,
             desk,
@@ -261,15 +212,11 @@ pub fn spell_lines(
 {
     let mut places = [0usize; 12642];
     let desk = open(pack, &mut places);
-    let mut store = [0u8; 131584];
-    let mut lens = [0u8; 1028];
-    let mut langs = [0u64; 1028];
-    let mut ord = [0u8; 1024];
+    let mut store = [0u8; 131072];
+    let mut marks = [0u64; 1024];
     put_lines(
         &mut store,
-        &mut lens,
-        &mut langs,
-        &mut ord,
+        &mut marks,
         pack,
         &places,
         desk,

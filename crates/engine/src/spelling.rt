@@ -4,12 +4,10 @@ ghost use mathlib.Core.Bool.{true};
 ghost use Prim.Native.Nat.{_≤_};
 ghost use lib.ListN.{length};
 ghost use Rattle.base.specs.Pick.{pick};
-ghost use Rattle.lower_case.specs.Lower.{lowerText};
-ghost use Rattle.letters.specs.Reading.{firstIll, firstOutside};
 ghost use Rattle.name_parts.specs.Words.{oneWord};
 ghost use Rattle.engine.specs.Spelling.{spelledName, partedAs};
-ghost use Rattle.engine.specs.Calls.{settingsKnown, haveLanguages, stepsOf, spelledBy, outcomeOf, lettersThen, checkedThen, callOf, SpellIs};
-ghost use Rattle.engine.specs.Walks.{packIn, AtDesk, DeskIs, Ready, Scratch, stepsAt, startAt, FoundIs, answeredBy, wholeAnd, FineName};
+ghost use Rattle.engine.specs.Calls.{lettersThen, checkedThen, callOf, SpellIs};
+ghost use Rattle.engine.specs.Walks.{DeskIs, Ready, Scratch, stepsAt, startAt, ToldWhole, FoundIs, answeredBy, wholeAnd, KeptIs};
 use crate::call::Call;
 use crate::call::Desk;
 use crate::call::Settings;
@@ -24,7 +22,6 @@ use crate::encode::part_of;
 use crate::encode::spell_name;
 use crate::encode::spell_plain;
 use letters::Found;
-use lower_case::Lowered;
 use prefixes::Prefix;
 
 // How many bytes were written, and the flag; or the number of a refusal and its place (01, What the desk gets).
@@ -106,113 +103,56 @@ fn is_single(call: Call, name: &[u8]) -> bool
     }
 }
 
-// A name of several parts: spelled apart, and then written where it fits; what is too long to be held apart is spelled again.
-fn spell_parts(
-    store: &mut [u8],
-    lens: &mut [u8],
-    langs: &mut [u64],
-    ord: &mut [u8],
-    pack: &[u8],
-    places: &[usize],
-    call: Call,
-    name: &[u8],
-    out: &mut [u8],
-) -> Spelled
-    requires { ⌜ Scratch (length (now store)) (length (now lens)) (length (now langs)) (length (now ord)) ⌝ }
-    requires { ⌜ Ready (now pack) (now places) call ⌝ }
-    requires { ⌜ length (now name) ≤ 96 ⌝ }
-    ensures { λ r. ⌜ SpellIs (outcomeOf (spelledName (stepsAt (now (pack .entry)) call) (startAt (now (pack .entry)) call (now (name .entry))) (now (name .entry)))) (now (out .entry)) r (now (out .exit)) ⌝ }
+// An answer held apart, written where it fits. False where it fits, but is too long to be held apart.
+fn keep(a: Ends, apart: &[u8], out: &mut [u8]) -> bool
+    ensures { λ r. ⌜ KeptIs a (now (apart .entry)) (now (out .entry)) (now (out .exit)) r ⌝ }
 {
-    let mut apart = [0u8; 16384];
-    let a = spell_name(
-        store,
-        lens,
-        langs,
-        ord,
-        pack,
-        places,
-        call,
-        name,
-        &mut apart,
-        0,
-    );
-    match answer(a, out.len()) {
-        Spelled::Done { written, flag } => {
-            if written <= 16384 {
-                name_parts::copy(&apart[0..written], out, 0);
-                Spelled::Done { written, flag }
-            } else {
-                spell_name(store, lens, langs, ord, pack, places, call, name, out, 0);
-                Spelled::Done { written, flag }
+    let n = a.at;
+    if a.code == 0 {
+        if n <= out.len() {
+            if n <= apart.len() {
+                name_parts::copy(&apart[0..n], out, 0);
+                return true;
             }
+            return false;
         }
-        Spelled::Refused { code, place } => Spelled::Refused { code, place },
     }
+    true
 }
 
-// A lower-cased name, its hyphens now spaces. What is spelled as one word is spelled once: it is written as a whole or not at all.
+// A lower-cased name, its hyphens now spaces, written as a whole or not at all. What is spelled as one word is spelled once; parts are
+// spelled apart first, and what is too long to be held apart is spelled again.
 fn spell_lowered(
     store: &mut [u8],
-    lens: &mut [u8],
-    langs: &mut [u64],
-    ord: &mut [u8],
+    marks: &mut [u64],
     pack: &[u8],
     places: &[usize],
     call: Call,
     name: &[u8],
     out: &mut [u8],
-) -> Spelled
-    requires { ⌜ Scratch (length (now store)) (length (now lens)) (length (now langs)) (length (now ord)) ⌝ }
+) -> Ends
+    requires { ⌜ Scratch (length (now store)) (length (now marks)) ⌝ }
     requires { ⌜ Ready (now pack) (now places) call ⌝ }
     requires { ⌜ length (now name) ≤ 96 ⌝ }
-    ensures { λ r. ⌜ SpellIs (outcomeOf (spelledName (stepsAt (now (pack .entry)) call) (startAt (now (pack .entry)) call (now (name .entry))) (now (name .entry)))) (now (out .entry)) r (now (out .exit)) ⌝ }
+    ensures { λ r. ⌜ ToldWhole (spelledName (stepsAt (now (pack .entry)) call) (startAt (now (pack .entry)) call (now (name .entry))) (now (name .entry))) (now (out .entry)) (now (out .exit)) 0 r ⌝ }
 {
     if is_single(call, name) {
-        let a = spell_plain(store, lens, langs, ord, pack, places, call, name, out, 0);
-        answer(a, out.len())
+        return spell_plain(store, marks, pack, places, call, name, out, 0);
+    }
+    let mut apart = [0u8; 16384];
+    let a = spell_name(store, marks, pack, places, call, name, &mut apart, 0);
+    if keep(a, &apart, out) {
+        a
     } else {
-        spell_parts(store, lens, langs, ord, pack, places, call, name, out)
+        spell_name(store, marks, pack, places, call, name, out, 0)
     }
 }
 
-// A name that is fine, on a good pack.
-fn spell_in(
-    store: &mut [u8],
-    lens: &mut [u8],
-    langs: &mut [u64],
-    ord: &mut [u8],
-    pack: &[u8],
-    places: &[usize],
-    languages: usize,
-    guesses: usize,
-    any: usize,
-    settings: Settings,
-    start: Start,
-    name: &[u8],
-    out: &mut [u8],
-) -> Spelled
-    requires { ⌜ Scratch (length (now store)) (length (now lens)) (length (now langs)) (length (now ord)) ⌝ }
-    requires { ⌜ AtDesk (now pack) (now places) languages guesses any ⌝ }
-    requires { ⌜ FineName settings start languages (now name) ⌝ }
-    ensures { λ r. ⌜ SpellIs (outcomeOf (spelledBy (stepsOf (now (pack .entry)) (packIn (now (pack .entry))) settings) start (lowerText (now (name .entry))))) (now (out .entry)) r (now (out .exit)) ⌝ }
-{
-    let mut low = [0u8; 96];
-    match lower_case::lower_into(name, &mut low) {
-        Lowered::Done(n) => {
-            let call = call_of(settings, start, pack, languages, guesses, any, &low[0..n]);
-            name_parts::part_hyphens(&mut low);
-            spell_lowered(store, lens, langs, ord, pack, places, call, &low[0..n], out)
-        }
-        Lowered::NoRoom => Spelled::Refused { code: 3, place: 0 },
-    }
-}
-
-// Any name, with any settings, at a desk: the checks in the order 4, 3, 1, 2, 5, 6, and then the answer.
+// Any name, with any settings, at a desk: the checks in the order 4, 3, 1, 2, 5, 6; then it is lower-cased, guessed, and spelled with
+// its hyphens made spaces.
 pub(crate) fn spell_at(
     store: &mut [u8],
-    lens: &mut [u8],
-    langs: &mut [u64],
-    ord: &mut [u8],
+    marks: &mut [u64],
     pack: &[u8],
     places: &[usize],
     desk: Desk,
@@ -221,7 +161,7 @@ pub(crate) fn spell_at(
     name: &[u8],
     out: &mut [u8],
 ) -> Spelled
-    requires { ⌜ Scratch (length (now store)) (length (now lens)) (length (now langs)) (length (now ord)) ⌝ }
+    requires { ⌜ Scratch (length (now store)) (length (now marks)) ⌝ }
     requires { ⌜ DeskIs (now pack) (now places) desk ⌝ }
     ensures { λ r. ⌜ SpellIs (callOf settings start (now (pack .entry)) (now (name .entry))) (now (out .entry)) r (now (out .exit)) ⌝ }
 {
@@ -233,21 +173,13 @@ pub(crate) fn spell_at(
                 any,
             } => {
                 if have_languages(start, languages) {
-                    spell_in(
-                        store,
-                        lens,
-                        langs,
-                        ord,
-                        pack,
-                        places,
-                        languages,
-                        guesses,
-                        any,
-                        settings,
-                        start,
-                        name,
-                        out,
-                    )
+                    let n = name.len();
+                    let mut low = [0u8; 96];
+                    lower_case::lower_into(name, &mut low);
+                    let call = call_of(settings, start, pack, languages, guesses, any, &low[0..n]);
+                    name_parts::part_hyphens(&mut low);
+                    let a = spell_lowered(store, marks, pack, places, call, &low[0..n], out);
+                    answer(a, out.len())
                 } else {
                     Spelled::Refused { code: 6, place: 0 }
                 }
@@ -264,15 +196,11 @@ pub fn spell(settings: Settings, start: Start, pack: &[u8], name: &[u8], out: &m
 {
     let mut places = [0usize; 12642];
     let desk = open(pack, &mut places);
-    let mut store = [0u8; 131584];
-    let mut lens = [0u8; 1028];
-    let mut langs = [0u64; 1028];
-    let mut ord = [0u8; 1024];
+    let mut store = [0u8; 131072];
+    let mut marks = [0u64; 1024];
     spell_at(
         &mut store,
-        &mut lens,
-        &mut langs,
-        &mut ord,
+        &mut marks,
         pack,
         &places,
         desk,

@@ -1,19 +1,18 @@
 -- What the functions of a pass tell of the pack's bytes and of the lent tables.
 use Prim.Native.Nat.{ℕ, suc, _+_, _-_, _≤_, _<_, max}
 use mathlib.Core.Path.{_≡_}
-use mathlib.Core.Bool.{Bool, true, false}
+use mathlib.Core.Bool.{Bool, true}
 use mathlib.Core.List.{List, [], _∷_, map}
 use mathlib.Core.Logic.{_⊎_}
 use lib.Dec.{eqb, leb}
 use lib.Seq.{sets}
 use Rattle.base.specs.Pick.{pick, and}
 use lib.ListN.{length, take, drop}
-use Rattle.languages.specs.declared.sets.LanguageSet.{LanguageSet}
 use Rattle.choices.specs.Texts.{Text}
-use Rattle.choices.specs.Apply.{Entry, start}
+use Rattle.choices.specs.Apply.{Entry}
 use Rattle.phoneme_builder.specs.Sets.{Spelling, refusal, texts}
-use Rattle.phoneme_builder.specs.Passes.{offered, Match, none, by, Turn, Ran, tooLong, ran, flagged, run, raised, onRan, joined}
-use Rattle.phoneme_builder.specs.Buffers.{AltsIn, alternatives, Held, textsOf, part, Arena, SetAt, entriesAt, textIn, Stayed, Only, CopiedIs, Rooms, GrownAt}
+use Rattle.phoneme_builder.specs.Passes.{offered, Match, none, by, Turn, Ran, tooLong, ran, flagged, run, raised, joined}
+use Rattle.phoneme_builder.specs.Buffers.{AltsIn, alternatives, IsSet, textsOf, part, Arena, SetAt, entriesAt, Stayed, Only, Rooms}
 use Rattle.phoneme_builder.specs.declared.pass.Turned.{Turned}
 use Rattle.phoneme_builder.specs.declared.pass.Turned.the-variants as turned
 use Rattle.phoneme_builder.specs.declared.pass.Passed.{Passed}
@@ -100,11 +99,6 @@ pub record Apart (old result x y : ℕ) : Type 0 where
   pub result-y : result ≡ y → ⊥
   pub x-y : x ≡ y → ⊥
 
--- set x begun with one empty text of the languages g, and the i-th text of set `old` copied to the front of d
-pub record StartedAt (a b : Arena) (old i x : ℕ) (g : LanguageSet) (d : List ℕ) (r : ℕ) : Type 0 where
-  pub begun : GrownAt a b x 1 (start g)
-  pub copied : CopiedIs (textIn (a .store) (a .lens) (a .ord) old i) d r
-
 unfoldable pub FinalKept : Finished → Arena → ℕ → Type 0
 FinalKept (finished.Into k flag) b to = SetAt b to k
 FinalKept finished.TooLong b to = Unit {0}
@@ -142,14 +136,13 @@ raisedBy up finished.TooMany = finished.TooMany
 -- ---- the answer
 
 -- the n texts of set 0 lie within the buffers
-pub record TextsIn (store lens ord : List ℕ) (n : ℕ) : Type 0 where
-  pub long-store : length store ≡ 131584
-  pub long-lens : length lens ≡ 1028
-  pub long-ord : length ord ≡ 1024
-  pub held : Held (part 32896 0 store) (part 257 0 lens) (part 256 0 ord) n
+pub record TextsIn (store marks : List ℕ) (n : ℕ) : Type 0 where
+  pub long-store : length store ≡ 131072
+  pub long-marks : length marks ≡ 1024
+  pub set : IsSet (part 32768 0 store) (part 256 0 marks) n
 
-unfoldable pub textsIn : List ℕ → List ℕ → List ℕ → ℕ → List Text
-textsIn store lens ord n = textsOf (part 32896 0 store) (part 257 0 lens) (part 256 0 ord) n
+unfoldable pub textsIn : List ℕ → List ℕ → ℕ → List Text
+textsIn store marks n = textsOf (part 32768 0 store) (part 256 0 marks) n
 
 -- the bytes of texts, with a bar behind each
 unfoldable pub barred : List Text → ℕ
@@ -165,8 +158,8 @@ pub record GivenIs (ts : List Text) (out out′ : List ℕ) (at r : ℕ) : Type 
   pub buffer : out′ ≡ placed out at (joined ts)
 
 -- the sizes of the buffers that `word` works with: four sets, and the alternatives of an expression, of which there are at most 256
-unfoldable pub areBuffers : ℕ → ℕ → ℕ → ℕ → ℕ → Bool
-areBuffers store lens langs ord alts = and (eqb store 131584) (and (eqb lens 1028) (and (eqb langs 1028) (and (eqb ord 1024) (eqb alts 256))))
+unfoldable pub areBuffers : ℕ → ℕ → ℕ → Bool
+areBuffers store marks alts = and (eqb store 131072) (and (eqb marks 1024) (eqb alts 256))
 
 -- the texts of a set
 abbrev pub spellings : List Entry → List Text

@@ -1,17 +1,10 @@
 // The alternatives of an expression, read once for each apply.
 ghost use mathlib.Core.Path.{_≡_};
-ghost use Prim.Native.Nat.{_+_, _*_, _<_};
+ghost use Prim.Native.Nat.{_<_};
 ghost use lib.ListN.{length};
 ghost use Rattle.phoneme_builder.specs.Walks.{AltsAre};
+use crate::marks::packed;
 use phonemes::Alternative;
-
-// An alternative as one number: its languages, where it starts and where it ends.
-fn packed(set: u64, start: usize, end: usize) -> u64
-    requires { ⌜ (set < 17179869184) × (start < 256) × (end < 256) ⌝ }
-    ensures { λ r. ⌜ r ≡ set * 65536 + start * 256 + end ⌝ }
-{
-    set * 65536 + (start as u64) * 256 + end as u64
-}
 
 // The alternatives of e, in the table. Returns how many there are.
 pub(crate) fn alternatives(e: &[u8], names: &[u8], alts: &mut [u64]) -> usize

@@ -3,6 +3,7 @@ mod append;
 mod apply;
 mod expressions;
 mod finals;
+mod marks;
 mod matching;
 mod pass;
 mod set;

@@ -4,7 +4,6 @@ ghost use Prim.Native.Nat.{_≤_, _<_, _-_, max};
 ghost use lib.ListN.{length};
 ghost use Rattle.phoneme_builder.specs.Tables.{matcher, ListIn};
 ghost use Rattle.phoneme_builder.specs.Walks.{MatchIs};
-use crate::set::wide;
 use pack::RuleAt;
 
 // The rule that matches: how far its pattern reaches, and where its expression stands in the pack.
@@ -15,6 +14,12 @@ pub(crate) enum Matched {
         end: usize,
     },
     Nothing,
+}
+
+fn wide(x: u8) -> usize
+    ensures { λ r. ⌜ r ≡ x ⌝ }
+{
+    x as usize
 }
 
 // At least one byte is passed.

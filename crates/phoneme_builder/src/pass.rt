@@ -65,9 +65,7 @@ fn char_bytes(word: &[u8], place: usize) -> usize
 fn letter_turn(
     last: bool,
     store: &mut [u8],
-    lens: &mut [u8],
-    langs: &mut [u64],
-    ord: &mut [u8],
+    marks: &mut [u64],
     from: usize,
     n: usize,
     to: usize,
@@ -75,16 +73,16 @@ fn letter_turn(
     place: usize,
     limit: usize,
 ) -> Turned
-    requires { ⌜ Rooms (arena (now store) (now lens) (now langs) (now ord)) ⌝ }
-    requires { ⌜ SetAt (arena (now store) (now lens) (now langs) (now ord)) from n ⌝ }
+    requires { ⌜ Rooms (arena (now store) (now marks)) ⌝ }
+    requires { ⌜ SetAt (arena (now store) (now marks)) from n ⌝ }
     requires { ⌜ (to < 4) × (from ≡ to → ⊥) ⌝ }
     requires { ⌜ place < length (now word) ⌝ }
-    ensures { λ r. ⌜ TurnedAt (arena (now (store .entry)) (now (lens .entry)) (now (langs .entry)) (now (ord .entry))) (arena (now (store .exit)) (now (lens .exit)) (now (langs .exit)) (now (ord .exit))) last limit from n to (now (word .entry)) place (turnOn [] none (now (word .entry)) place) r ⌝ }
+    ensures { λ r. ⌜ TurnedAt (arena (now (store .entry)) (now (marks .entry))) (arena (now (store .exit)) (now (marks .exit))) last limit from n to (now (word .entry)) place (turnOn [] none (now (word .entry)) place) r ⌝ }
 {
     let step = char_bytes(word, place);
     if last {
         let end = place + step;
-        match append(store, lens, langs, ord, from, n, to, &word[place..end]) {
+        match append(store, marks, from, n, to, &word[place..end]) {
             Applied::Now(k) => Turned::Into {
                 texts: k,
                 step,
@@ -100,9 +98,7 @@ fn letter_turn(
 // A rule's expression applied.
 fn apply_rule(
     store: &mut [u8],
-    lens: &mut [u8],
-    langs: &mut [u64],
-    ord: &mut [u8],
+    marks: &mut [u64],
     alts: &mut [u64],
     from: usize,
     n: usize,
@@ -111,24 +107,22 @@ fn apply_rule(
     names: &[u8],
     limit: usize,
 ) -> Applied
-    requires { ⌜ Rooms (arena (now store) (now lens) (now langs) (now ord)) ⌝ }
-    requires { ⌜ SetAt (arena (now store) (now lens) (now langs) (now ord)) from n ⌝ }
+    requires { ⌜ Rooms (arena (now store) (now marks)) ⌝ }
+    requires { ⌜ SetAt (arena (now store) (now marks)) from n ⌝ }
     requires { ⌜ (to < 4) × (from ≡ to → ⊥) ⌝ }
     requires { ⌜ length (now alts) ≡ 256 ⌝ }
     requires { ⌜ (length (now expr) < 256) × (limit ≤ 256) ⌝ }
-    ensures { λ r. ⌜ AppliedAt (arena (now (store .entry)) (now (lens .entry)) (now (langs .entry)) (now (ord .entry))) (arena (now (store .exit)) (now (lens .exit)) (now (langs .exit)) (now (ord .exit))) to r (apply limit (offered (now (names .entry)) (now (expr .entry))) (entriesAt (arena (now (store .entry)) (now (lens .entry)) (now (langs .entry)) (now (ord .entry))) from n)) ⌝ }
+    ensures { λ r. ⌜ AppliedAt (arena (now (store .entry)) (now (marks .entry))) (arena (now (store .exit)) (now (marks .exit))) to r (apply limit (offered (now (names .entry)) (now (expr .entry))) (entriesAt (arena (now (store .entry)) (now (marks .entry))) from n)) ⌝ }
 {
     let m = alternatives(expr, names, alts);
-    apply(store, lens, langs, ord, from, n, to, expr, alts, m, limit)
+    apply(store, marks, from, n, to, expr, alts, m, limit)
 }
 
 // The turn at a place of a word: from set `from` with n texts into set `to`.
 fn turn(
     last: bool,
     store: &mut [u8],
-    lens: &mut [u8],
-    langs: &mut [u64],
-    ord: &mut [u8],
+    marks: &mut [u64],
     alts: &mut [u64],
     from: usize,
     n: usize,
@@ -141,13 +135,13 @@ fn turn(
     place: usize,
     limit: usize,
 ) -> Turned
-    requires { ⌜ Rooms (arena (now store) (now lens) (now langs) (now ord)) ⌝ }
-    requires { ⌜ SetAt (arena (now store) (now lens) (now langs) (now ord)) from n ⌝ }
+    requires { ⌜ Rooms (arena (now store) (now marks)) ⌝ }
+    requires { ⌜ SetAt (arena (now store) (now marks)) from n ⌝ }
     requires { ⌜ (to < 4) × (from ≡ to → ⊥) ⌝ }
     requires { ⌜ length (now alts) ≡ 256 ⌝ }
     requires { ⌜ ListIn (now table) list × (limit ≤ 256) ⌝ }
     requires { ⌜ place < length (now word) ⌝ }
-    ensures { λ r. ⌜ TurnedAt (arena (now (store .entry)) (now (lens .entry)) (now (langs .entry)) (now (ord .entry))) (arena (now (store .exit)) (now (lens .exit)) (now (langs .exit)) (now (ord .exit))) last limit from n to (now (word .entry)) place (turnOn (now (names .entry)) (matcher (now (pack .entry)) (now (table .entry)) list (now (word .entry)) place) (now (word .entry)) place) r ⌝ }
+    ensures { λ r. ⌜ TurnedAt (arena (now (store .entry)) (now (marks .entry))) (arena (now (store .exit)) (now (marks .exit))) last limit from n to (now (word .entry)) place (turnOn (now (names .entry)) (matcher (now (pack .entry)) (now (table .entry)) list (now (word .entry)) place) (now (word .entry)) place) r ⌝ }
 {
     match first_match(pack, table, list, word, place) {
         Matched::By {
@@ -156,9 +150,7 @@ fn turn(
             end,
         } => match apply_rule(
             store,
-            lens,
-            langs,
-            ord,
+            marks,
             alts,
             from,
             n,
@@ -174,19 +166,7 @@ fn turn(
             },
             Applied::TooLong => Turned::TooLong,
         },
-        Matched::Nothing => letter_turn(
-            last,
-            store,
-            lens,
-            langs,
-            ord,
-            from,
-            n,
-            to,
-            word,
-            place,
-            limit,
-        ),
+        Matched::Nothing => letter_turn(last, store, marks, from, n, to, word, place, limit),
     }
 }
 
@@ -194,9 +174,7 @@ fn turn(
 pub(crate) fn run(
     last: bool,
     store: &mut [u8],
-    lens: &mut [u8],
-    langs: &mut [u64],
-    ord: &mut [u8],
+    marks: &mut [u64],
     alts: &mut [u64],
     x: usize,
     n: usize,
@@ -208,12 +186,12 @@ pub(crate) fn run(
     word: &[u8],
     limit: usize,
 ) -> Passed
-    requires { ⌜ Rooms (arena (now store) (now lens) (now langs) (now ord)) ⌝ }
-    requires { ⌜ SetAt (arena (now store) (now lens) (now langs) (now ord)) x n ⌝ }
+    requires { ⌜ Rooms (arena (now store) (now marks)) ⌝ }
+    requires { ⌜ SetAt (arena (now store) (now marks)) x n ⌝ }
     requires { ⌜ (y < 4) × (x ≡ y → ⊥) ⌝ }
     requires { ⌜ length (now alts) ≡ 256 ⌝ }
     requires { ⌜ ListIn (now table) list × (limit ≤ 256) ⌝ }
-    ensures { λ r. ⌜ PassedAt (arena (now (store .entry)) (now (lens .entry)) (now (langs .entry)) (now (ord .entry))) (arena (now (store .exit)) (now (lens .exit)) (now (langs .exit)) (now (ord .exit))) x y (run last limit (turnsOf (now (names .entry)) (matcher (now (pack .entry)) (now (table .entry)) list) (now (word .entry))) (entriesAt (arena (now (store .entry)) (now (lens .entry)) (now (langs .entry)) (now (ord .entry))) x n)) r ⌝ }
+    ensures { λ r. ⌜ PassedAt (arena (now (store .entry)) (now (marks .entry))) (arena (now (store .exit)) (now (marks .exit))) x y (run last limit (turnsOf (now (names .entry)) (matcher (now (pack .entry)) (now (table .entry)) list) (now (word .entry))) (entriesAt (arena (now (store .entry)) (now (marks .entry))) x n)) r ⌝ }
 {
     let mut from = x;
     let mut to = y;
@@ -224,9 +202,7 @@ pub(crate) fn run(
         match turn(
             last,
             store,
-            lens,
-            langs,
-            ord,
+            marks,
             alts,
             from,
             texts,

@@ -1,14 +1,16 @@
-// A set of at most 256 texts of 128 bytes: rows at slots, and the slots in the order of the texts.
-// A text that may enter is written into the free slot behind the others, and then looked up.
-// Four sets stand side by side in the same buffers, by number: 257 rows of 128 bytes, 257 lengths and languages, 256 slots each.
+// A set of at most 256 texts of 128 bytes: the texts stand in rows, and the marks of the texts, in their order, say which row and how long.
+// A text that may enter is written into the row behind the others, and then looked up.
+// Four sets stand side by side in the same buffers, by number: 256 rows of 128 bytes and 256 marks each.
 ghost use mathlib.Core.Path.{_≡_};
 ghost use mathlib.Core.List.{_++_};
-ghost use Prim.Native.Nat.{_+_, _≤_, _<_};
-ghost use lib.ListN.{length, take};
-ghost use Rattle.letters.specs.Order.{orderOf};
+ghost use Prim.Native.Nat.{_+_, _*_, _≤_, _<_};
+ghost use lib.ListN.{length, take, drop};
 ghost use Rattle.languages.specs.Coded.{decoded, IsCode};
 ghost use Rattle.choices.specs.Apply.{insert, start};
-ghost use Rattle.phoneme_builder.specs.Buffers.{findL, insAt, entry, put, textAt, textsOf, entries, RowIn, Held, IsSet, SetIs, SlotIn, Written, Entered, arena, Rooms, SetAt, entriesAt, TextIn, textIn, LangsIn, langsIn, CopiedIs, GrownAt};
+ghost use Rattle.phoneme_builder.specs.Buffers.{findL, insAt, entry, put, firstOf, secondOf, textOf, textsOf, entries, IsSet, SetIs, arena, Rooms, SetAt, entriesAt, TextIn, textIn, LangsIn, langsIn, CopiedIs, GrownAt};
+use crate::marks::first_of;
+use crate::marks::packed;
+use crate::marks::second_of;
 
 // Where a text stands, or where it would go.
 pub(crate) enum Found {
@@ -16,41 +18,24 @@ pub(crate) enum Found {
     Free(usize),
 }
 
-pub(crate) fn wide(x: u8) -> usize
-    ensures { λ r. ⌜ r ≡ x ⌝ }
+// The text that a mark names.
+fn row<'a>(store: &'a [u8], x: u64) -> &'a [u8]
+    requires { ⌜ firstOf x * 128 + secondOf x ≤ length (now store) ⌝ }
+    ensures { λ r. ⌜ now r ≡ textOf (now (store .entry)) x ⌝ }
 {
-    x as usize
-}
-
-// The text in slot s.
-pub(crate) fn row<'a>(store: &'a [u8], lens: &[u8], s: usize) -> &'a [u8]
-    requires { ⌜ RowIn (now store) (now lens) s ⌝ }
-    ensures { λ r. ⌜ now r ≡ textAt (now (store .entry)) (now (lens .entry)) s ⌝ }
-{
-    let a = s * 128;
-    let e = a + wide(lens[s]);
+    let a = first_of(x) * 128;
+    let e = a + second_of(x);
     &store[a..e]
 }
 
-// The texts in slots s and q, compared.
-fn cmp_rows(store: &[u8], lens: &[u8], s: usize, q: usize) -> letters::Order
-    requires { ⌜ RowIn (now store) (now lens) s ⌝ }
-    requires { ⌜ RowIn (now store) (now lens) q ⌝ }
-    ensures { λ r. ⌜ r ≡ orderOf (textAt (now (store .entry)) (now (lens .entry)) s) (textAt (now (store .entry)) (now (lens .entry)) q) ⌝ }
-{
-    letters::compare(row(store, lens, s), row(store, lens, q))
-}
-
-// Where the text of slot q stands among the first n, or where it would go.
-pub(crate) fn find(store: &[u8], lens: &[u8], ord: &[u8], n: usize, q: usize) -> Found
-    requires { ⌜ Held (now store) (now lens) (now ord) n ⌝ }
-    requires { ⌜ RowIn (now store) (now lens) q ⌝ }
-    ensures { λ r. ⌜ r ≡ findL (textAt (now (store .entry)) (now (lens .entry)) q) (textsOf (now (store .entry)) (now (lens .entry)) (now (ord .entry)) n) ⌝ }
+// Where t stands among the n texts, or where it would go.
+pub(crate) fn find(store: &[u8], marks: &[u64], n: usize, t: &[u8]) -> Found
+    requires { ⌜ IsSet (now store) (now marks) n ⌝ }
+    ensures { λ r. ⌜ r ≡ findL (now (t .entry)) (textsOf (now (store .entry)) (now (marks .entry)) n) ⌝ }
 {
     let mut i = 0;
     while i < n {
-        let s = wide(ord[i]);
-        match cmp_rows(store, lens, s, q) {
+        match letters::compare(row(store, marks[i]), t) {
             letters::Order::Less => {
                 i += 1;
             }
@@ -66,32 +51,33 @@ pub(crate) fn find(store: &[u8], lens: &[u8], ord: &[u8], n: usize, q: usize) ->
 }
 
 // Puts v at index p of the first n, and moves the others up by one.
-pub(crate) fn open_at(ord: &mut [u8], p: usize, n: usize, v: u8)
-    requires { ⌜ (p ≤ n) × (n < length (now ord)) ⌝ }
-    ensures { λ _. ⌜ take (n + 1) (now (ord .exit)) ≡ insAt p v (take n (now (ord .entry))) ⌝ }
+pub(crate) fn open_at(marks: &mut [u64], p: usize, n: usize, v: u64)
+    requires { ⌜ (p ≤ n) × (n < length (now marks)) ⌝ }
+    ensures { λ _. ⌜ take (n + 1) (now (marks .exit)) ≡ insAt p v (take n (now (marks .entry))) ⌝ }
 {
     let mut x = v;
     let mut i = p;
     while i < n {
-        let y = ord[i];
-        ord[i] = x;
+        let y = marks[i];
+        marks[i] = x;
         x = y;
         i += 1;
     }
-    ord[n] = x;
+    marks[n] = x;
 }
 
-// Enters slot n among the first n, unless its text is there. Returns how many there are then.
-fn enter(store: &[u8], lens: &[u8], ord: &mut [u8], n: usize) -> usize
-    requires { ⌜ Held (now store) (now lens) (now ord) n ⌝ }
-    requires { ⌜ RowIn (now store) (now lens) n ⌝ }
-    requires { ⌜ n < 256 ⌝ }
-    ensures { λ r. ⌜ Entered (now (store .entry)) (now (lens .entry)) (now (ord .entry)) (now (ord .exit)) n r ⌝ }
+// Enters the text of `long` bytes in row n, with the languages g, among the n; an equal text already there stays as it was.
+fn enter(store: &[u8], marks: &mut [u64], n: usize, long: usize, g: u64) -> usize
+    requires { ⌜ IsSet (now store) (now marks) n ⌝ }
+    requires { ⌜ IsCode g ⌝ }
+    requires { ⌜ (n < 256) × (long ≤ 128) ⌝ }
+    ensures { λ r. ⌜ SetIs (now (store .entry)) (now (marks .exit)) r (insert (entry (take long (drop (n * 128) (now (store .entry)))) (decoded g)) (entries (now (store .entry)) (now (marks .entry)) n)) ⌝ }
 {
-    match find(store, lens, ord, n, n) {
+    let a = n * 128;
+    match find(store, marks, n, &store[a..a + long]) {
         Found::At(_) => n,
         Found::Free(p) => {
-            open_at(ord, p, n, n as u8);
+            open_at(marks, p, n, packed(g, n, long));
             n + 1
         }
     }
@@ -109,134 +95,83 @@ pub(crate) fn put(d: &mut [u8], at: usize, t: &[u8])
     }
 }
 
-// Writes the text of a and then b, with the languages g, into slot n.
-pub(crate) fn write(
-    store: &mut [u8],
-    lens: &mut [u8],
-    langs: &mut [u64],
-    n: usize,
-    a: &[u8],
-    b: &[u8],
-    g: u64,
-)
-    requires { ⌜ SlotIn (now store) (now lens) (now langs) n ⌝ }
-    requires { ⌜ length (now a) + length (now b) ≤ 128 ⌝ }
-    ensures { λ _. ⌜ Written (now (store .entry)) (now (lens .entry)) (now (langs .entry)) n (now (a .entry) ++ now (b .entry)) g (now (store .exit)) (now (lens .exit)) (now (langs .exit)) ⌝ }
+// Writes the text of a and then b into row n.
+pub(crate) fn write(store: &mut [u8], n: usize, a: &[u8], b: &[u8])
+    requires { ⌜ n * 128 + (length (now a) + length (now b)) ≤ length (now store) ⌝ }
+    ensures { λ _. ⌜ now (store .exit) ≡ put (now (store .entry)) (n * 128) (now (a .entry) ++ now (b .entry)) ⌝ }
 {
     let at = n * 128;
     put(store, at, a);
     put(store, at + a.len(), b);
-    lens[n] = (a.len() + b.len()) as u8;
-    langs[n] = g;
 }
 
-// Adds the text of a and then b, with the languages g; an equal text already there stays as it was.
-pub(crate) fn add(
-    store: &mut [u8],
-    lens: &mut [u8],
-    langs: &mut [u64],
-    ord: &mut [u8],
-    n: usize,
-    a: &[u8],
-    b: &[u8],
-    g: u64,
-) -> usize
-    requires { ⌜ IsSet (now store) (now lens) (now langs) (now ord) n ⌝ }
+// Adds the text of a and then b, with the languages g; an equal text already there stays as it was. Returns how many there are then.
+fn add(store: &mut [u8], marks: &mut [u64], n: usize, a: &[u8], b: &[u8], g: u64) -> usize
+    requires { ⌜ IsSet (now store) (now marks) n ⌝ }
     requires { ⌜ IsCode g ⌝ }
     requires { ⌜ (n < 256) × (length (now a) + length (now b) ≤ 128) ⌝ }
-    ensures { λ r. ⌜ SetIs (now (store .exit)) (now (lens .exit)) (now (langs .exit)) (now (ord .exit)) r (insert (entry (now (a .entry) ++ now (b .entry)) (decoded g)) (entries (now (store .entry)) (now (lens .entry)) (now (langs .entry)) (now (ord .entry)) n)) ⌝ }
+    ensures { λ r. ⌜ SetIs (now (store .exit)) (now (marks .exit)) r (insert (entry (now (a .entry) ++ now (b .entry)) (decoded g)) (entries (now (store .entry)) (now (marks .entry)) n)) ⌝ }
 {
-    write(store, lens, langs, n, a, b, g);
-    enter(store, lens, ord, n)
+    write(store, n, a, b);
+    enter(store, marks, n, a.len() + b.len(), g)
 }
 
 // The same in set k of those side by side.
 pub(crate) fn add_to(
     store: &mut [u8],
-    lens: &mut [u8],
-    langs: &mut [u64],
-    ord: &mut [u8],
+    marks: &mut [u64],
     k: usize,
     n: usize,
     a: &[u8],
     b: &[u8],
     g: u64,
 ) -> usize
-    requires { ⌜ Rooms (arena (now store) (now lens) (now langs) (now ord)) ⌝ }
-    requires { ⌜ SetAt (arena (now store) (now lens) (now langs) (now ord)) k n ⌝ }
+    requires { ⌜ Rooms (arena (now store) (now marks)) ⌝ }
+    requires { ⌜ SetAt (arena (now store) (now marks)) k n ⌝ }
     requires { ⌜ IsCode g ⌝ }
     requires { ⌜ (n < 256) × (length (now a) + length (now b) ≤ 128) ⌝ }
-    ensures { λ r. ⌜ GrownAt (arena (now (store .entry)) (now (lens .entry)) (now (langs .entry)) (now (ord .entry))) (arena (now (store .exit)) (now (lens .exit)) (now (langs .exit)) (now (ord .exit))) k r (insert (entry (now (a .entry) ++ now (b .entry)) (decoded g)) (entriesAt (arena (now (store .entry)) (now (lens .entry)) (now (langs .entry)) (now (ord .entry))) k n)) ⌝ }
+    ensures { λ r. ⌜ GrownAt (arena (now (store .entry)) (now (marks .entry))) (arena (now (store .exit)) (now (marks .exit))) k r (insert (entry (now (a .entry) ++ now (b .entry)) (decoded g)) (entriesAt (arena (now (store .entry)) (now (marks .entry))) k n)) ⌝ }
 {
-    let p = k * 32896;
-    let l = k * 257;
-    let o = k * 256;
-    add(
-        &mut store[p..p + 32896],
-        &mut lens[l..l + 257],
-        &mut langs[l..l + 257],
-        &mut ord[o..o + 256],
-        n,
-        a,
-        b,
-        g,
-    )
+    let p = k * 32768;
+    let l = k * 256;
+    add(&mut store[p..p + 32768], &mut marks[l..l + 256], n, a, b, g)
 }
 
 // The i-th text of set k.
-pub(crate) fn text_of<'a>(store: &'a [u8], lens: &[u8], ord: &[u8], k: usize, i: usize) -> &'a [u8]
-    requires { ⌜ TextIn (now store) (now lens) (now ord) k i ⌝ }
-    ensures { λ r. ⌜ now r ≡ textIn (now (store .entry)) (now (lens .entry)) (now (ord .entry)) k i ⌝ }
+pub(crate) fn text_of<'a>(store: &'a [u8], marks: &[u64], k: usize, i: usize) -> &'a [u8]
+    requires { ⌜ TextIn (now store) (now marks) k i ⌝ }
+    ensures { λ r. ⌜ now r ≡ textIn (now (store .entry)) (now (marks .entry)) k i ⌝ }
 {
-    let o = k * 256;
-    let s = wide(ord[o + i]);
-    let p = k * 32896;
-    let l = k * 257;
-    row(&store[p..p + 32896], &lens[l..l + 257], s)
+    let x = marks[k * 256 + i];
+    let p = k * 32768;
+    row(&store[p..p + 32768], x)
 }
 
 // The i-th text of set k, copied to the front of d; returns its length.
-pub(crate) fn copy_text(
-    store: &[u8],
-    lens: &[u8],
-    ord: &[u8],
-    k: usize,
-    i: usize,
-    d: &mut [u8],
-) -> usize
-    requires { ⌜ TextIn (now store) (now lens) (now ord) k i ⌝ }
+pub(crate) fn copy_text(store: &[u8], marks: &[u64], k: usize, i: usize, d: &mut [u8]) -> usize
+    requires { ⌜ TextIn (now store) (now marks) k i ⌝ }
     requires { ⌜ length (now d) ≡ 128 ⌝ }
-    ensures { λ r. ⌜ CopiedIs (textIn (now (store .entry)) (now (lens .entry)) (now (ord .entry)) k i) (now (d .exit)) r ⌝ }
+    ensures { λ r. ⌜ CopiedIs (textIn (now (store .entry)) (now (marks .entry)) k i) (now (d .exit)) r ⌝ }
 {
-    let t = text_of(store, lens, ord, k, i);
+    let t = text_of(store, marks, k, i);
     put(d, 0, t);
     t.len()
 }
 
 // Its languages.
-pub(crate) fn langs_of(langs: &[u64], ord: &[u8], k: usize, i: usize) -> u64
-    requires { ⌜ LangsIn (now langs) (now ord) k i ⌝ }
-    ensures { λ r. ⌜ r ≡ langsIn (now (langs .entry)) (now (ord .entry)) k i ⌝ }
+pub(crate) fn langs_of(marks: &[u64], k: usize, i: usize) -> u64
+    requires { ⌜ LangsIn (now marks) k i ⌝ }
+    ensures { λ r. ⌜ r ≡ langsIn (now (marks .entry)) k i ⌝ }
 {
-    let o = k * 256;
-    let s = wide(ord[o + i]);
-    let l = k * 257;
-    langs[l + s]
+    marks[k * 256 + i] / 65536
 }
 
 // Set k begun with one empty text of the languages g. Returns how many texts there are.
-pub(crate) fn begin(
-    store: &mut [u8],
-    lens: &mut [u8],
-    langs: &mut [u64],
-    ord: &mut [u8],
-    k: usize,
-    g: u64,
-) -> usize
-    requires { ⌜ Rooms (arena (now store) (now lens) (now langs) (now ord)) ⌝ }
+pub(crate) fn begin(store: &mut [u8], marks: &mut [u64], k: usize, g: u64) -> usize
+    requires { ⌜ Rooms (arena (now store) (now marks)) ⌝ }
     requires { ⌜ k < 4 ⌝ }
     requires { ⌜ IsCode g ⌝ }
-    ensures { λ r. ⌜ GrownAt (arena (now (store .entry)) (now (lens .entry)) (now (langs .entry)) (now (ord .entry))) (arena (now (store .exit)) (now (lens .exit)) (now (langs .exit)) (now (ord .exit))) k r (start (decoded g)) ⌝ }
+    ensures { λ r. ⌜ GrownAt (arena (now (store .entry)) (now (marks .entry))) (arena (now (store .exit)) (now (marks .exit))) k r (start (decoded g)) ⌝ }
 {
-    add_to(store, lens, langs, ord, k, 0, b"", b"", g)
+    add_to(store, marks, k, 0, b"", b"", g)
 }

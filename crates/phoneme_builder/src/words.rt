@@ -47,9 +47,7 @@ fn raised(up: bool, pass: Finished) -> Finished
 // The final passes from the n texts of set `set`, 0 or 1, into set 0.
 fn final_passes(
     store: &mut [u8],
-    lens: &mut [u8],
-    langs: &mut [u64],
-    ord: &mut [u8],
+    marks: &mut [u64],
     alts: &mut [u64],
     set: usize,
     n: usize,
@@ -60,20 +58,18 @@ fn final_passes(
     last: usize,
     limit: usize,
 ) -> Finished
-    requires { ⌜ Rooms (arena (now store) (now lens) (now langs) (now ord)) ⌝ }
-    requires { ⌜ SetAt (arena (now store) (now lens) (now langs) (now ord)) set n ⌝ }
+    requires { ⌜ Rooms (arena (now store) (now marks)) ⌝ }
+    requires { ⌜ SetAt (arena (now store) (now marks)) set n ⌝ }
     requires { ⌜ set < 2 ⌝ }
     requires { ⌜ length (now alts) ≡ 256 ⌝ }
     requires { ⌜ ListIn (now table) common × ListIn (now table) last ⌝ }
     requires { ⌜ limit ≤ 256 ⌝ }
-    ensures { λ r. ⌜ FinishedAt (arena (now (store .exit)) (now (lens .exit)) (now (langs .exit)) (now (ord .exit))) 0 (then (finalPass limit (now (names .entry)) (matcher (now (pack .entry)) (now (table .entry)) common) (entriesAt (arena (now (store .entry)) (now (lens .entry)) (now (langs .entry)) (now (ord .entry))) set n)) (finalPass limit (now (names .entry)) (matcher (now (pack .entry)) (now (table .entry)) last))) r ⌝ }
+    ensures { λ r. ⌜ FinishedAt (arena (now (store .exit)) (now (marks .exit))) 0 (then (finalPass limit (now (names .entry)) (matcher (now (pack .entry)) (now (table .entry)) common) (entriesAt (arena (now (store .entry)) (now (marks .entry))) set n)) (finalPass limit (now (names .entry)) (matcher (now (pack .entry)) (now (table .entry)) last))) r ⌝ }
 {
     let other = 1 - set;
     match final_pass(
         store,
-        lens,
-        langs,
-        ord,
+        marks,
         alts,
         set,
         n,
@@ -89,9 +85,7 @@ fn final_passes(
         Finished::Into { texts, flag } => {
             let language = final_pass(
                 store,
-                lens,
-                langs,
-                ord,
+                marks,
                 alts,
                 2,
                 texts,
@@ -114,9 +108,7 @@ fn final_passes(
 // The word's texts, in set 0.
 fn spell_word(
     store: &mut [u8],
-    lens: &mut [u8],
-    langs: &mut [u64],
-    ord: &mut [u8],
+    marks: &mut [u64],
     alts: &mut [u64],
     pack: &[u8],
     names: &[u8],
@@ -128,20 +120,18 @@ fn spell_word(
     word: &[u8],
     limit: usize,
 ) -> Finished
-    requires { ⌜ Rooms (arena (now store) (now lens) (now langs) (now ord)) ⌝ }
+    requires { ⌜ Rooms (arena (now store) (now marks)) ⌝ }
     requires { ⌜ length (now alts) ≡ 256 ⌝ }
     requires { ⌜ ListIn (now table) main × ListIn (now table) common × ListIn (now table) last ⌝ }
     requires { ⌜ IsCode g ⌝ }
     requires { ⌜ limit ≤ 256 ⌝ }
-    ensures { λ r. ⌜ FinishedAt (arena (now (store .exit)) (now (lens .exit)) (now (langs .exit)) (now (ord .exit))) 0 (wordOf limit (now (names .entry)) (matcher (now (pack .entry)) (now (table .entry)) main) (matcher (now (pack .entry)) (now (table .entry)) common) (matcher (now (pack .entry)) (now (table .entry)) last) (decoded g) (now (word .entry))) r ⌝ }
+    ensures { λ r. ⌜ FinishedAt (arena (now (store .exit)) (now (marks .exit))) 0 (wordOf limit (now (names .entry)) (matcher (now (pack .entry)) (now (table .entry)) main) (matcher (now (pack .entry)) (now (table .entry)) common) (matcher (now (pack .entry)) (now (table .entry)) last) (decoded g) (now (word .entry))) r ⌝ }
 {
-    let n = begin(store, lens, langs, ord, 0, g);
+    let n = begin(store, marks, 0, g);
     match run(
         false,
         store,
-        lens,
-        langs,
-        ord,
+        marks,
         alts,
         0,
         n,
@@ -156,9 +146,7 @@ fn spell_word(
         Passed::Now { texts, set, flag } => {
             let last = final_passes(
                 store,
-                lens,
-                langs,
-                ord,
+                marks,
                 alts,
                 set,
                 texts,
@@ -176,14 +164,14 @@ fn spell_word(
 }
 
 // The bytes of the n texts of set 0 with a bar behind each.
-fn bytes_barred(store: &[u8], lens: &[u8], ord: &[u8], n: usize) -> usize
-    requires { ⌜ TextsIn (now store) (now lens) (now ord) n ⌝ }
-    ensures { λ r. ⌜ r ≡ barred (textsIn (now (store .entry)) (now (lens .entry)) (now (ord .entry)) n) ⌝ }
+fn bytes_barred(store: &[u8], marks: &[u64], n: usize) -> usize
+    requires { ⌜ TextsIn (now store) (now marks) n ⌝ }
+    ensures { λ r. ⌜ r ≡ barred (textsIn (now (store .entry)) (now (marks .entry)) n) ⌝ }
 {
     let mut i = 0;
     let mut total = 0;
     while i < n {
-        total += text_of(store, lens, ord, 0, i).len() + 1;
+        total += text_of(store, marks, 0, i).len() + 1;
         i += 1;
     }
     total
@@ -200,31 +188,31 @@ fn put_barred(out: &mut [u8], at: usize, t: &[u8]) -> usize
 }
 
 // The n texts of set 0, joined by bars, into out from a place on.
-fn put_joined(store: &[u8], lens: &[u8], ord: &[u8], n: usize, out: &mut [u8], at: usize)
-    requires { ⌜ TextsIn (now store) (now lens) (now ord) n ⌝ }
+fn put_joined(store: &[u8], marks: &[u64], n: usize, out: &mut [u8], at: usize)
+    requires { ⌜ TextsIn (now store) (now marks) n ⌝ }
     requires { ⌜ 0 < n ⌝ }
-    requires { ⌜ at + length (joined (textsIn (now store) (now lens) (now ord) n)) ≤ length (now out) ⌝ }
-    ensures { λ r. ⌜ now (out .exit) ≡ sets (now (out .entry)) at (joined (textsIn (now (store .entry)) (now (lens .entry)) (now (ord .entry)) n)) ⌝ }
+    requires { ⌜ at + length (joined (textsIn (now store) (now marks) n)) ≤ length (now out) ⌝ }
+    ensures { λ r. ⌜ now (out .exit) ≡ sets (now (out .entry)) at (joined (textsIn (now (store .entry)) (now (marks .entry)) n)) ⌝ }
 {
-    let t = text_of(store, lens, ord, 0, 0);
+    let t = text_of(store, marks, 0, 0);
     put(out, at, t);
     let mut p = at + t.len();
     let mut i = 1;
     while i < n {
-        p = put_barred(out, p, text_of(store, lens, ord, 0, i));
+        p = put_barred(out, p, text_of(store, marks, 0, i));
         i += 1;
     }
 }
 
 // The joined texts of set 0 where they fit into out from a place on. Returns their length.
-fn give(store: &[u8], lens: &[u8], ord: &[u8], n: usize, out: &mut [u8], at: usize) -> usize
-    requires { ⌜ TextsIn (now store) (now lens) (now ord) n ⌝ }
-    ensures { λ r. ⌜ GivenIs (textsIn (now (store .entry)) (now (lens .entry)) (now (ord .entry)) n) (now (out .entry)) (now (out .exit)) at r ⌝ }
+fn give(store: &[u8], marks: &[u64], n: usize, out: &mut [u8], at: usize) -> usize
+    requires { ⌜ TextsIn (now store) (now marks) n ⌝ }
+    ensures { λ r. ⌜ GivenIs (textsIn (now (store .entry)) (now (marks .entry)) n) (now (out .entry)) (now (out .exit)) at r ⌝ }
 {
     if n == 0 {
         return 0;
     }
-    let length = bytes_barred(store, lens, ord, n) - 1;
+    let length = bytes_barred(store, marks, n) - 1;
     let room = out.len();
     if room < at {
         return length;
@@ -232,21 +220,17 @@ fn give(store: &[u8], lens: &[u8], ord: &[u8], n: usize, out: &mut [u8], at: usi
     if room - at < length {
         return length;
     }
-    put_joined(store, lens, ord, n, out, at);
+    put_joined(store, marks, n, out, at);
     length
 }
 
-// Whether buffers have these sizes: four sets of 257 rows, and the table of an expression's alternatives.
-fn are_buffers(store: usize, lens: usize, langs: usize, ord: usize, alts: usize) -> bool
-    ensures { λ r. ⌜ r ≡ areBuffers store lens langs ord alts ⌝ }
+// Whether buffers have these sizes: four sets of 256 rows and marks, and the table of an expression's alternatives.
+fn are_buffers(store: usize, marks: usize, alts: usize) -> bool
+    ensures { λ r. ⌜ r ≡ areBuffers store marks alts ⌝ }
 {
-    if store == 131584 {
-        if lens == 1028 {
-            if langs == 1028 {
-                if ord == 1024 {
-                    return alts == 256;
-                }
-            }
+    if store == 131072 {
+        if marks == 1024 {
+            return alts == 256;
         }
     }
     false
@@ -266,13 +250,32 @@ fn are_lists(table: usize, main: usize, common: usize, last: usize) -> bool
     false
 }
 
+// Whether a call is fit for the work.
+fn is_fit(
+    limit: usize,
+    store: usize,
+    marks: usize,
+    alts: usize,
+    table: usize,
+    main: usize,
+    common: usize,
+    last: usize,
+) -> bool
+    ensures { λ r. ⌜ r ≡ and (leb limit 256) (and (areBuffers store marks alts) (areLists table main common last)) ⌝ }
+{
+    if limit <= 256 {
+        if are_buffers(store, marks, alts) {
+            return are_lists(table, main, common, last);
+        }
+    }
+    false
+}
+
 // A word spelled by the lists of a table over a pack, with the start languages `set`: its texts, joined by bars, go into `out` from
-// `at` on where they fit, else `out` stays as it is. The first five buffers are lent for the work.
+// `at` on where they fit, else `out` stays as it is. The first three buffers are lent for the work.
 pub fn word(
     store: &mut [u8],
-    lens: &mut [u8],
-    langs: &mut [u64],
-    ord: &mut [u8],
+    marks: &mut [u64],
     alts: &mut [u64],
     pack: &[u8],
     names: &[u8],
@@ -286,38 +289,40 @@ pub fn word(
     out: &mut [u8],
     at: usize,
 ) -> Worded
-    ensures { λ r. ⌜ WordIs (and (leb limit 256) (and (areBuffers (length (now (store .entry))) (length (now (lens .entry))) (length (now (langs .entry))) (length (now (ord .entry))) (length (now (alts .entry)))) (areLists (length (now (table .entry))) main common last))) (wordOf limit (now (names .entry)) (matcher (now (pack .entry)) (now (table .entry)) main) (matcher (now (pack .entry)) (now (table .entry)) common) (matcher (now (pack .entry)) (now (table .entry)) last) set (now (word .entry))) (now (out .entry)) (now (out .exit)) at r ⌝ }
+    ensures { λ r. ⌜ WordIs (and (leb limit 256) (and (areBuffers (length (now (store .entry))) (length (now (marks .entry))) (length (now (alts .entry)))) (areLists (length (now (table .entry))) main common last))) (wordOf limit (now (names .entry)) (matcher (now (pack .entry)) (now (table .entry)) main) (matcher (now (pack .entry)) (now (table .entry)) common) (matcher (now (pack .entry)) (now (table .entry)) last) set (now (word .entry))) (now (out .entry)) (now (out .exit)) at r ⌝ }
 {
-    if 256 < limit {
-        return Worded::Unfit;
-    }
-    if are_buffers(store.len(), lens.len(), langs.len(), ord.len(), alts.len()) {
-        if are_lists(table.len(), main, common, last) {
-            let g = languages::coded(set);
-            return match spell_word(
-                store,
-                lens,
-                langs,
-                ord,
-                alts,
-                pack,
-                names,
-                table,
-                main,
-                common,
-                last,
-                g,
-                word,
-                limit,
-            ) {
-                Finished::Into { texts, flag } => Worded::Done {
-                    length: give(store, lens, ord, texts, out, at),
-                    flag,
-                },
-                Finished::TooLong => Worded::TooLong,
-                Finished::TooMany => Worded::TooMany,
-            };
-        }
+    if is_fit(
+        limit,
+        store.len(),
+        marks.len(),
+        alts.len(),
+        table.len(),
+        main,
+        common,
+        last,
+    ) {
+        let g = languages::coded(set);
+        return match spell_word(
+            store,
+            marks,
+            alts,
+            pack,
+            names,
+            table,
+            main,
+            common,
+            last,
+            g,
+            word,
+            limit,
+        ) {
+            Finished::Into { texts, flag } => Worded::Done {
+                length: give(store, marks, texts, out, at),
+                flag,
+            },
+            Finished::TooLong => Worded::TooLong,
+            Finished::TooMany => Worded::TooMany,
+        };
     }
     Worded::Unfit
 }

@@ -11,19 +11,13 @@ zeros : (n : ℕ) → n ≡ length {A = ℕ} (replicate n 0)
 zeros n = sym (length-replicate n 0)
 
 slice-aggregate-word : tie.Need-slice-aggregate-word
-slice-aggregate-word c = zeros 131584
+slice-aggregate-word c = zeros 131072
 
 slice-aggregate-word-2 : tie.Need-slice-aggregate-word-2
-slice-aggregate-word-2 c = zeros 1028
+slice-aggregate-word-2 c = zeros 1024
 
 slice-aggregate-word-3 : tie.Need-slice-aggregate-word-3
-slice-aggregate-word-3 c = zeros 1028
-
-slice-aggregate-word-4 : tie.Need-slice-aggregate-word-4
-slice-aggregate-word-4 c = zeros 1024
-
-slice-aggregate-word-5 : tie.Need-slice-aggregate-word-5
-slice-aggregate-word-5 c = zeros 256
+slice-aggregate-word-3 c = zeros 256
 
 word-requires : tie.Need-word-requires
 word-requires c κs = search needs
@@ -77,8 +71,6 @@ spelled-spec =
     slice-aggregate-word
     slice-aggregate-word-2
     slice-aggregate-word-3
-    slice-aggregate-word-4
-    slice-aggregate-word-5
     word-requires
     enum-known-length
     fitted-requires

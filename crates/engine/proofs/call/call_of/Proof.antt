@@ -1,5 +1,5 @@
 use borrow.Author.Needs.{needs}
-use Rattle.engine.specs.Walks.{callFor}
+use Rattle.engine.proofs.CallLaws.{call-made}
 use Rattle.engine.proofs.call.call_of.Statement.{statement}
 use Rattle.engine.proofs.call.call_of.Tie as tie
 use Rattle.engine.proofs.call.call_of.Reads as reads
@@ -20,8 +20,14 @@ set-of-requires : tie.Need-set-of-requires
 set-of-requires c κs = search needs
 
 returns : tie.Need-returns
-unfolding callFor
-returns c = cc
+returns c = call-made _ _ _ _ _ _ _ _ (c .before .before .before .before .type-of .ensures) (c .set-of .ensures)
 
 pub call-of-spec : {M : Type 1} → statement M
-call-of-spec = tie.close (tie.spec type-of-requires cast-t9 cast-t11 set-of-requires returns)
+call-of-spec =
+    tie.close
+    (tie.spec
+    type-of-requires
+    cast-t9
+    cast-t11
+    set-of-requires
+    returns)

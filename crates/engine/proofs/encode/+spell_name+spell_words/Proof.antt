@@ -1,13 +1,11 @@
 use mathlib.Core.Path.{refl, _∙_}
-use mathlib.Core.List.{[]}
-use native.Mathlib.Omega.{arith}
 use lib.ListN.{length}
 use borrow.Author.Needs.{needs}
 use Rattle.name_parts.proofs.Laws.{put-place}
 use Rattle.engine.specs.Spelling.{afreshBy}
 use Rattle.engine.specs.Walks.{stepsAt}
 use Rattle.engine.proofs.EncodeLaws.{ready-afresh, afresh-told, skip-within, parted-told, whole-plain, whole-words, several, front-in, front-is}
-use Rattle.engine.proofs.NameLaws.{scratch-kept, rest-less, joined-small, joined-less, steps-again, told-again, WordsHeld, held-start, held-scratch, held-end, held-shorter, held-less, held-place, held-turn}
+use Rattle.engine.proofs.NameLaws.{scratch-kept, name-falls, word-falls, still-short, words-fall, rest-less, joined-small, joined-less, steps-again, told-again, WordsHeld, held-start, held-scratch, held-end, held-shorter, held-less, held-place, held-turn}
 use Prim.Native.Nat.{ℕ, _+_, _-_, _*_, _<_}
 use borrow.Fn.Kinds.{In}
 use borrow.Fn.PlainCycle.{Measures, is, falls, and}
@@ -31,27 +29,27 @@ use Rattle.name_parts.proofs.push.Reads as push-reads
 use Rattle.engine.proofs.encode.+spell_name+spell_words.{statement}
 use Rattle.engine.proofs.encode.+spell_name+spell_words.Tie.{close}
 
-abbrev μ-spell-name : Measures 8 spell-name-kinds.ps ℕ
-μ-spell-name κs a = length (a .1 .1 .1 .1 .1 .1 .1 .0 .now) * 2 + 1
+abbrev μ-spell-name : Measures 6 spell-name-kinds.ps ℕ
+μ-spell-name κs a = length (a .1 .1 .1 .1 .1 .0 .now) * 2 + 1
 
-abbrev μ-spell-words : Measures 8 spell-words-kinds.ps ℕ
-μ-spell-words κs a = length (a .1 .1 .1 .1 .1 .1 .1 .0 .now) * 2
+abbrev μ-spell-words : Measures 6 spell-words-kinds.ps ℕ
+μ-spell-words κs a = length (a .1 .1 .1 .1 .1 .0 .now) * 2
 
-abbrev spell-name-at : ℕ → In 8 spell-name-kinds.ps
+abbrev spell-name-at : ℕ → In 6 spell-name-kinds.ps
 spell-name-at t =
-    and 8 spell-name-kinds.ps (is 8 spell-name-kinds.ps μ-spell-name t) spell-name.Pre
+    and 6 spell-name-kinds.ps (is 6 spell-name-kinds.ps μ-spell-name t) spell-name.Pre
 
-abbrev spell-name-below : ℕ → In 8 spell-name-kinds.ps
+abbrev spell-name-below : ℕ → In 6 spell-name-kinds.ps
 spell-name-below t =
-    and 8 spell-name-kinds.ps (falls 8 spell-name-kinds.ps _<_ μ-spell-name t) spell-name.Pre
+    and 6 spell-name-kinds.ps (falls 6 spell-name-kinds.ps _<_ μ-spell-name t) spell-name.Pre
 
-abbrev spell-words-at : ℕ → In 8 spell-words-kinds.ps
+abbrev spell-words-at : ℕ → In 6 spell-words-kinds.ps
 spell-words-at t =
-    and 8 spell-words-kinds.ps (is 8 spell-words-kinds.ps μ-spell-words t) spell-words.Pre
+    and 6 spell-words-kinds.ps (is 6 spell-words-kinds.ps μ-spell-words t) spell-words.Pre
 
-abbrev spell-words-below : ℕ → In 8 spell-words-kinds.ps
+abbrev spell-words-below : ℕ → In 6 spell-words-kinds.ps
 spell-words-below t =
-    and 8 spell-words-kinds.ps (falls 8 spell-words-kinds.ps _<_ μ-spell-words t) spell-words.Pre
+    and 6 spell-words-kinds.ps (falls 6 spell-words-kinds.ps _<_ μ-spell-words t) spell-words.Pre
 
 -- the promises that each one calls on
 abbrev spell-name-calls : ℕ → spell-name-lts.Claims
@@ -59,6 +57,13 @@ spell-name-calls t = (part-of-reads.Asked, part-of-reads.Learnt, afresh-reads.As
 
 abbrev spell-words-calls : ℕ → spell-words-lts.Claims
 spell-words-calls t = (afresh-reads.Asked, afresh-reads.Learnt, next-word-reads.Asked, next-word-reads.Learnt, hyphen-reads.Asked, hyphen-reads.Learnt, spell-name-below t, spell-name.Post, both-reads.Asked, both-reads.Learnt, past-word-reads.Asked, past-word-reads.Learnt)
+
+abbrev spell-words-Inv-loop : spell-words-lts.InvT-loop
+spell-words-Inv-loop store₀ marks₀ pack places name out₀ at again all₀ p₀ store marks out all p =
+    WordsHeld (afreshBy (stepsAt pack again)) name out₀ out at p all (length store₀) (length marks₀) (length store) (length marks)
+
+abbrev spell-words-μ-loop : spell-words-lts.MeasureT-loop
+spell-words-μ-loop store₀ marks₀ pack places name out₀ at again all₀ p₀ store marks out all p = length name - p
 
 spell-name-part-of-requires : (t : ℕ) → spell-name-lts.Need-part-of-requires (spell-name-calls t) (spell-name-at t) spell-name.Post
 spell-name-part-of-requires t c κs = search needs
@@ -79,16 +84,16 @@ spell-name-push-requires : (t : ℕ) → spell-name-lts.Need-push-requires (spel
 spell-name-push-requires t c κs = search needs
 
 spell-name-sub-spell-name : (t : ℕ) → spell-name-lts.Need-sub-spell-name (spell-name-calls t) (spell-name-at t) spell-name.Post
-spell-name-sub-spell-name t c = skip-within _ _ _ (c .before .before .before .before .before .before .before .before .before .before .before .before .before .before .before .part-of .ensures) _ _ (c .before .before .before .before .before .before .before .before .before .before .before .before .before .keep .given .1)
+spell-name-sub-spell-name t c = skip-within _ _ _ (c .before .before .before .before .before .before .before .before .before .before .before .before .before .part-of .ensures) _ _ (c .before .before .before .before .before .before .before .before .before .before .before .keep .given .1)
 
 spell-name-part-spell-name-start : (t : ℕ) → spell-name-lts.Need-part-spell-name-start (spell-name-calls t) (spell-name-at t) spell-name.Post
-spell-name-part-spell-name-start t c = skip-within _ _ _ (c .before .before .before .before .before .before .before .before .before .before .before .before .before .before .before .part-of .ensures) _ _ (c .before .before .before .before .before .before .before .before .before .before .before .before .before .keep .given .1)
+spell-name-part-spell-name-start t c = skip-within _ _ _ (c .before .before .before .before .before .before .before .before .before .before .before .before .before .part-of .ensures) _ _ (c .before .before .before .before .before .before .before .before .before .before .before .keep .given .1)
 
 spell-name-part-spell-name-end : (t : ℕ) → spell-name-lts.Need-part-spell-name-end (spell-name-calls t) (spell-name-at t) spell-name.Post
 spell-name-part-spell-name-end t c = search needs
 
 spell-name-spell-name-requires : (t : ℕ) → spell-name-lts.Need-spell-name-requires (spell-name-calls t) (spell-name-at t) spell-name.Post
-spell-name-spell-name-requires t c κs = (omega (arith, c .before .before .before .before .before .before .before .before .before .before .before .before .before .before .before .before .before .before .before .before .before .before .before .before .before .before .pre .0, rest-less _ _ _ (c .before .before .before .before .before .before .before .before .before .before .before .before .before .before .before .before .before .part-of .ensures) _ _ (c .before .before .before .before .before .before .before .before .before .before .before .before .before .before .before .keep .given .1)), (c .before .before .before .before .before .before .before .before .before .before .before .before .before .before .before .before .before .before .before .before .before .before .before .before .before .before .pre .1 .0, (ready-afresh _ _ _ (c .before .before .before .before .before .before .before .before .before .before .before .before .before .before .before .before .before .before .before .before .before .before .before .before .before .before .pre .1 .1 .0) _ (c .before .before .before .before .before .before .before .before .before .before .before .before .before .afresh .ensures), (omega (arith, rest-less _ _ _ (c .before .before .before .before .before .before .before .before .before .before .before .before .before .before .before .before .before .part-of .ensures) _ _ (c .before .before .before .before .before .before .before .before .before .before .before .before .before .before .before .keep .given .1), (c .before .before .before .before .before .before .before .before .before .before .before .before .before .before .before .before .before .before .before .before .before .before .before .before .before .before .pre .1 .1 .1 .0)), put-place _ _ _ _ _ (c .before .before .before .before .before .before .before .before .push .ensures)))))
+spell-name-spell-name-requires t c κs = (name-falls (rest-less _ _ _ (c .before .before .before .before .before .before .before .before .before .before .before .before .before .before .before .part-of .ensures) _ _ (c .before .before .before .before .before .before .before .before .before .before .before .before .before .keep .given .1)) (c .before .before .before .before .before .before .before .before .before .before .before .before .before .before .before .before .before .before .before .before .before .before .pre .0), (c .before .before .before .before .before .before .before .before .before .before .before .before .before .before .before .before .before .before .before .before .before .before .pre .1 .0, (ready-afresh _ _ _ (c .before .before .before .before .before .before .before .before .before .before .before .before .before .before .before .before .before .before .before .before .before .before .pre .1 .1 .0) _ (c .before .before .before .before .before .before .before .before .before .before .before .afresh .ensures), (still-short (rest-less _ _ _ (c .before .before .before .before .before .before .before .before .before .before .before .before .before .before .before .part-of .ensures) _ _ (c .before .before .before .before .before .before .before .before .before .before .before .before .before .keep .given .1)) (c .before .before .before .before .before .before .before .before .before .before .before .before .before .before .before .before .before .before .before .before .before .before .pre .1 .1 .1 .0), put-place _ _ _ _ _ (c .before .before .before .before .before .before .push .ensures)))))
 
 spell-name-middle-requires : (t : ℕ) → spell-name-lts.Need-middle-requires (spell-name-calls t) (spell-name-at t) spell-name.Post
 spell-name-middle-requires t c κs = search needs
@@ -100,10 +105,10 @@ spell-name-part-spell-name-start-2 : (t : ℕ) → spell-name-lts.Need-part-spel
 spell-name-part-spell-name-start-2 t c = search needs
 
 spell-name-part-spell-name-end-2 : (t : ℕ) → spell-name-lts.Need-part-spell-name-end-2 (spell-name-calls t) (spell-name-at t) spell-name.Post
-spell-name-part-spell-name-end-2 t c = front-in (c .before .before .before .before .before .before .before .before .before .before .before .before .before .before .before .before .before .before .before .before .before .before .before .before .before .before .before .before .before .before .before .join-prefix .ensures) (joined-small _ _ _ (c .before .before .before .before .before .before .before .before .before .before .before .before .before .before .before .before .before .before .before .before .before .before .before .before .before .before .before .before .before .before .before .before .before .before .before .before .before .part-of .ensures) _ _ (c .before .before .before .before .before .before .before .before .before .before .before .before .before .before .before .before .before .before .before .before .before .before .before .before .before .before .before .before .before .before .before .before .before .before .before .keep .given .1) (c .before .before .before .before .before .before .before .before .before .before .before .before .before .before .before .before .before .before .before .before .before .before .before .before .before .before .before .before .before .before .before .before .before .before .before .before .before .before .before .before .before .before .before .before .before .before .pre .1 .1 .1 .0)) refl
+spell-name-part-spell-name-end-2 t c = front-in (c .before .before .before .before .before .before .before .before .before .before .before .before .before .before .before .before .before .before .before .before .before .before .before .join-prefix .ensures) (joined-small _ _ _ (c .before .before .before .before .before .before .before .before .before .before .before .before .before .before .before .before .before .before .before .before .before .before .before .before .before .before .before .before .before .part-of .ensures) _ _ (c .before .before .before .before .before .before .before .before .before .before .before .before .before .before .before .before .before .before .before .before .before .before .before .before .before .before .before .keep .given .1) (c .before .before .before .before .before .before .before .before .before .before .before .before .before .before .before .before .before .before .before .before .before .before .before .before .before .before .before .before .before .before .before .before .before .before .before .before .pre .1 .1 .1 .0)) refl
 
 spell-name-spell-name-requires-2 : (t : ℕ) → spell-name-lts.Need-spell-name-requires-2 (spell-name-calls t) (spell-name-at t) spell-name.Post
-spell-name-spell-name-requires-2 t c κs = (omega (arith, c .before .before .before .before .before .before .before .before .before .before .before .before .before .before .before .before .before .before .before .before .before .before .before .before .before .before .before .before .before .before .before .before .before .before .before .before .before .before .before .before .before .before .before .before .before .before .before .before .pre .0, joined-less _ _ _ (c .before .before .before .before .before .before .before .before .before .before .before .before .before .before .before .before .before .before .before .before .before .before .before .before .before .before .before .before .before .before .before .before .before .before .before .before .before .before .before .part-of .ensures) _ _ (c .before .before .before .before .before .before .before .before .before .before .before .before .before .before .before .before .before .before .before .before .before .before .before .before .before .before .before .before .before .before .before .before .before .before .before .before .before .keep .given .1) (c .before .before .before .before .before .before .before .before .before .before .before .before .before .before .before .before .before .before .before .before .before .before .before .before .before .before .before .before .before .before .before .before .before .before .before .before .before .before .before .before .before .before .before .before .before .before .before .before .pre .1 .1 .1 .0) (c .before .before .before .before .before .before .before .before .before .before .before .before .before .before .before .before .before .before .before .before .before .before .before .before .before .before .before .before .before .before .before .before .before .join-prefix .ensures) refl), (scratch-kept (c .before .before .before .before .before .before .before .before .before .before .before .before .before .before .before .before .before .before .before .before .before .before .before .before .before .before .before .before .before .before .before .before .before .before .before .before .before .before .before .before .before .before .before .before .before .before .before .before .pre .1 .0) (c .before .before .before .before .before .before .before .before .before .before .before .before .before .before .before .before .before .before .before .before .store .given) (c .before .before .before .before .before .before .before .before .before .before .before .before .before .before .before .before .before .before .lens .given) (c .before .before .before .before .before .before .before .before .before .before .before .before .before .before .before .before .langs .given) (c .before .before .before .before .before .before .before .before .before .before .before .before .before .before .ord .given), (ready-afresh _ _ _ (c .before .before .before .before .before .before .before .before .before .before .before .before .before .before .before .before .before .before .before .before .before .before .before .before .before .before .before .before .before .before .before .before .before .before .before .before .before .before .before .before .before .before .before .before .before .before .before .before .pre .1 .1 .0) _ (c .before .before .before .before .before .before .before .before .before .before .before .before .before .before .before .before .before .before .before .before .before .before .before .before .before .before .before .before .before .before .before .before .before .before .before .afresh .ensures), (omega (arith, joined-less _ _ _ (c .before .before .before .before .before .before .before .before .before .before .before .before .before .before .before .before .before .before .before .before .before .before .before .before .before .before .before .before .before .before .before .before .before .before .before .before .before .before .before .part-of .ensures) _ _ (c .before .before .before .before .before .before .before .before .before .before .before .before .before .before .before .before .before .before .before .before .before .before .before .before .before .before .before .before .before .before .before .before .before .before .before .before .before .keep .given .1) (c .before .before .before .before .before .before .before .before .before .before .before .before .before .before .before .before .before .before .before .before .before .before .before .before .before .before .before .before .before .before .before .before .before .before .before .before .before .before .before .before .before .before .before .before .before .before .before .before .pre .1 .1 .1 .0) (c .before .before .before .before .before .before .before .before .before .before .before .before .before .before .before .before .before .before .before .before .before .before .before .before .before .before .before .before .before .before .before .before .before .join-prefix .ensures) refl, (c .before .before .before .before .before .before .before .before .before .before .before .before .before .before .before .before .before .before .before .before .before .before .before .before .before .before .before .before .before .before .before .before .before .before .before .before .before .before .before .before .before .before .before .before .before .before .before .before .pre .1 .1 .1 .0)), put-place _ _ _ _ _ (c .before .before .before .before .before .before .before .before .before .middle .ensures)))))
+spell-name-spell-name-requires-2 t c κs = (name-falls (joined-less _ _ _ (c .before .before .before .before .before .before .before .before .before .before .before .before .before .before .before .before .before .before .before .before .before .before .before .before .before .before .before .before .before .before .before .part-of .ensures) _ _ (c .before .before .before .before .before .before .before .before .before .before .before .before .before .before .before .before .before .before .before .before .before .before .before .before .before .before .before .before .before .keep .given .1) (c .before .before .before .before .before .before .before .before .before .before .before .before .before .before .before .before .before .before .before .before .before .before .before .before .before .before .before .before .before .before .before .before .before .before .before .before .before .before .pre .1 .1 .1 .0) (c .before .before .before .before .before .before .before .before .before .before .before .before .before .before .before .before .before .before .before .before .before .before .before .before .before .join-prefix .ensures) refl) (c .before .before .before .before .before .before .before .before .before .before .before .before .before .before .before .before .before .before .before .before .before .before .before .before .before .before .before .before .before .before .before .before .before .before .before .before .before .before .pre .0), (scratch-kept (c .before .before .before .before .before .before .before .before .before .before .before .before .before .before .before .before .before .before .before .before .before .before .before .before .before .before .before .before .before .before .before .before .before .before .before .before .before .before .pre .1 .0) (c .before .before .before .before .before .before .before .before .before .before .before .before .before .before .store .given) (c .before .before .before .before .before .before .before .before .before .before .before .before .marks .given), (ready-afresh _ _ _ (c .before .before .before .before .before .before .before .before .before .before .before .before .before .before .before .before .before .before .before .before .before .before .before .before .before .before .before .before .before .before .before .before .before .before .before .before .before .before .pre .1 .1 .0) _ (c .before .before .before .before .before .before .before .before .before .before .before .before .before .before .before .before .before .before .before .before .before .before .before .before .before .before .before .afresh .ensures), (still-short (joined-less _ _ _ (c .before .before .before .before .before .before .before .before .before .before .before .before .before .before .before .before .before .before .before .before .before .before .before .before .before .before .before .before .before .before .before .part-of .ensures) _ _ (c .before .before .before .before .before .before .before .before .before .before .before .before .before .before .before .before .before .before .before .before .before .before .before .before .before .before .before .before .before .keep .given .1) (c .before .before .before .before .before .before .before .before .before .before .before .before .before .before .before .before .before .before .before .before .before .before .before .before .before .before .before .before .before .before .before .before .before .before .before .before .before .before .pre .1 .1 .1 .0) (c .before .before .before .before .before .before .before .before .before .before .before .before .before .before .before .before .before .before .before .before .before .before .before .before .before .join-prefix .ensures) refl) (c .before .before .before .before .before .before .before .before .before .before .before .before .before .before .before .before .before .before .before .before .before .before .before .before .before .before .before .before .before .before .before .before .before .before .before .before .before .before .pre .1 .1 .1 .0), put-place _ _ _ _ _ (c .before .before .before .before .before .before .before .middle .ensures)))))
 
 spell-name-push-requires-2 : (t : ℕ) → spell-name-lts.Need-push-requires-2 (spell-name-calls t) (spell-name-at t) spell-name.Post
 spell-name-push-requires-2 t c κs = search needs
@@ -118,77 +123,52 @@ spell-name-is-plain-requires : (t : ℕ) → spell-name-lts.Need-is-plain-requir
 spell-name-is-plain-requires t c κs = search needs
 
 spell-name-spell-plain-requires : (t : ℕ) → spell-name-lts.Need-spell-plain-requires (spell-name-calls t) (spell-name-at t) spell-name.Post
-spell-name-spell-plain-requires t c κs = (c .before .before .before .before .before .before .before .before .before .before .before .before .before .before .before .before .before .before .pre .1 .0, (c .before .before .before .before .before .before .before .before .before .before .before .before .before .before .before .before .before .before .pre .1 .1 .0, c .before .before .before .before .before .before .before .before .before .before .before .before .before .before .before .before .before .before .pre .1 .1 .1 .0))
+spell-name-spell-plain-requires t c κs = (c .before .before .before .before .before .before .before .before .before .before .before .before .before .before .pre .1 .0, (c .before .before .before .before .before .before .before .before .before .before .before .before .before .before .pre .1 .1 .0, c .before .before .before .before .before .before .before .before .before .before .before .before .before .before .pre .1 .1 .1 .0))
 
 spell-name-spell-words-requires : (t : ℕ) → spell-name-lts.Need-spell-words-requires (spell-name-calls t) (spell-name-at t) spell-name.Post
-spell-name-spell-words-requires t c κs = (omega (arith, c .before .before .before .before .before .before .before .before .before .before .before .before .before .before .before .before .before .before .pre .0), (c .before .before .before .before .before .before .before .before .before .before .before .before .before .before .before .before .before .before .pre .1 .0, (c .before .before .before .before .before .before .before .before .before .before .before .before .before .before .before .before .before .before .pre .1 .1 .0, (c .before .before .before .before .before .before .before .before .before .before .before .before .before .before .before .before .before .before .pre .1 .1 .1 .0, (c .before .before .before .before .before .before .before .before .before .before .before .before .before .before .before .before .before .before .pre .1 .1 .1 .1, several _ _ _ (c .before .before .before .before .before .before .is-plain .ensures) (c .before .before .before .before .before .if1 .left))))))
+spell-name-spell-words-requires t c κs = (words-fall _ (c .before .before .before .before .before .before .before .before .before .before .before .before .before .before .pre .0), (c .before .before .before .before .before .before .before .before .before .before .before .before .before .before .pre .1 .0, (c .before .before .before .before .before .before .before .before .before .before .before .before .before .before .pre .1 .1 .0, (c .before .before .before .before .before .before .before .before .before .before .before .before .before .before .pre .1 .1 .1 .0, (c .before .before .before .before .before .before .before .before .before .before .before .before .before .before .pre .1 .1 .1 .1, several _ _ _ (c .before .before .before .before .is-plain .ensures) (c .before .before .before .if1 .left))))))
 
 spell-name-same-length : (t : ℕ) → spell-name-lts.Need-same-length (spell-name-calls t) (spell-name-at t) spell-name.Post
-spell-name-same-length t c = c .before .before .before .before .before .before .before .before .before .before .before .before .before .before .store2 .given ∙ c .before .before .before .before .before .before .before .before .before .before .before .before .before .before .before .before .before .before .before .before .before .before .before .before .before .before .before .before .before .before .before .before .before .before .before .before .store .given
+spell-name-same-length t c = c .before .before .before .before .before .before .before .before .before .before .store2 .given ∙ c .before .before .before .before .before .before .before .before .before .before .before .before .before .before .before .before .before .before .before .before .before .before .before .before .before .before .store .given
 
 spell-name-same-length-2 : (t : ℕ) → spell-name-lts.Need-same-length-2 (spell-name-calls t) (spell-name-at t) spell-name.Post
-spell-name-same-length-2 t c = c .before .before .before .before .before .before .before .before .before .before .before .before .lens2 .given ∙ c .before .before .before .before .before .before .before .before .before .before .before .before .before .before .before .before .before .before .before .before .before .before .before .before .before .before .before .before .before .before .before .before .before .before .lens .given
+spell-name-same-length-2 t c = c .before .before .before .before .before .before .before .before .marks2 .given ∙ c .before .before .before .before .before .before .before .before .before .before .before .before .before .before .before .before .before .before .before .before .before .before .before .before .marks .given
 
 spell-name-same-length-3 : (t : ℕ) → spell-name-lts.Need-same-length-3 (spell-name-calls t) (spell-name-at t) spell-name.Post
-spell-name-same-length-3 t c = c .before .before .before .before .before .before .before .before .before .before .langs2 .given ∙ c .before .before .before .before .before .before .before .before .before .before .before .before .before .before .before .before .before .before .before .before .before .before .before .before .before .before .before .before .before .before .before .before .langs .given
-
-spell-name-same-length-4 : (t : ℕ) → spell-name-lts.Need-same-length-4 (spell-name-calls t) (spell-name-at t) spell-name.Post
-spell-name-same-length-4 t c = c .before .before .before .before .before .before .before .before .ord2 .given ∙ c .before .before .before .before .before .before .before .before .before .before .before .before .before .before .before .before .before .before .before .before .before .before .before .before .before .before .before .before .before .before .ord .given
-
-spell-name-same-length-5 : (t : ℕ) → spell-name-lts.Need-same-length-5 (spell-name-calls t) (spell-name-at t) spell-name.Post
-spell-name-same-length-5 t c = c .before .before .out5 .given ∙ c .before .before .before .before .before .before .out4 .given ∙ c .before .before .before .before .before .before .before .before .before .before .before .before .before .before .before .before .before .before .before .before .before .before .before .before .out3 .given ∙ c .before .before .before .before .before .before .before .before .before .before .before .before .before .before .before .before .before .before .before .before .before .before .before .before .before .before .before .before .out2 .given ∙ c .before .before .before .before .before .before .before .before .before .before .before .before .before .before .before .before .before .before .before .before .before .before .before .before .before .before .before .before .before .before .before .before .before .before .before .before .before .before .before .before .before .before .before .before .before .out .given
+spell-name-same-length-3 t c = c .before .before .out5 .given ∙ c .before .before .before .before .before .before .out4 .given ∙ c .before .before .before .before .before .before .before .before .before .before .before .before .before .before .before .before .before .before .out3 .given ∙ c .before .before .before .before .before .before .before .before .before .before .before .before .before .before .before .before .before .before .before .before .before .before .out2 .given ∙ c .before .before .before .before .before .before .before .before .before .before .before .before .before .before .before .before .before .before .before .before .before .before .before .before .before .before .before .before .before .before .before .before .before .out .given
 
 spell-name-returns : (t : ℕ) → spell-name-lts.Need-returns (spell-name-calls t) (spell-name-at t) spell-name.Post
-spell-name-returns t c = parted-told _ _ _ _ (c .before .before .before .before .before .before .before .before .before .before .before .before .before .before .before .before .before .before .before .before .before .before .before .before .before .before .before .before .before .before .before .before .before .before .before .before .before .before .before .before .before .before .before .before .before .before .before .before .before .before .before .before .before .before .before .part-of .ensures) _ _ (c .before .before .before .before .before .before .before .before .before .before .before .before .before .before .before .before .before .before .before .before .before .before .before .before .before .before .before .before .before .before .before .before .before .before .before .before .before .before .before .before .before .before .before .before .before .before .before .before .before .before .before .before .before .keep .given .1) _ (front-is (c .before .before .before .before .before .before .before .before .before .before .before .before .before .before .before .before .before .before .before .before .before .before .before .before .before .before .before .before .before .before .before .before .before .before .before .before .before .before .before .before .before .before .before .before .before .before .before .before .before .join-prefix .ensures) (joined-small _ _ _ (c .before .before .before .before .before .before .before .before .before .before .before .before .before .before .before .before .before .before .before .before .before .before .before .before .before .before .before .before .before .before .before .before .before .before .before .before .before .before .before .before .before .before .before .before .before .before .before .before .before .before .before .before .before .before .before .part-of .ensures) _ _ (c .before .before .before .before .before .before .before .before .before .before .before .before .before .before .before .before .before .before .before .before .before .before .before .before .before .before .before .before .before .before .before .before .before .before .before .before .before .before .before .before .before .before .before .before .before .before .before .before .before .before .before .before .before .keep .given .1) (c .before .before .before .before .before .before .before .before .before .before .before .before .before .before .before .before .before .before .before .before .before .before .before .before .before .before .before .before .before .before .before .before .before .before .before .before .before .before .before .before .before .before .before .before .before .before .before .before .before .before .before .before .before .before .before .before .before .before .before .before .before .before .before .before .pre .1 .1 .1 .0)) refl) (c .before .before .before .before .before .before .before .before .before .before .before .before .before .before .before .before .before .before .before .before .before .before .before .before .before .before .before .before .before .before .before .before .before .before .before .before .before .before .before .before .before .before .before .before .before .before .push .ensures) (afresh-told _ _ _ _ (c .before .before .before .before .before .before .before .before .before .before .before .before .before .before .before .before .before .before .before .before .before .before .before .before .before .before .before .before .before .before .before .before .before .before .before .before .before .before .before .before .before .before .before .before .before .before .before .before .before .before .before .afresh .ensures) (c .before .before .before .before .before .before .before .before .before .before .before .before .before .before .before .before .before .before .before .before .before .before .before .before .before .before .before .before .before .before .before .before .before .before .before .before .before .spell-name .ensures)) (c .before .before .before .before .before .before .before .before .before .before .before .before .before .before .before .before .before .before .before .before .before .before .before .before .before .middle .ensures) (afresh-told _ _ _ _ (c .before .before .before .before .before .before .before .before .before .before .before .before .before .before .before .before .before .before .before .before .before .before .before .before .before .before .before .before .before .before .before .before .before .before .before .before .before .before .before .before .before .before .before .before .before .before .before .before .before .before .before .afresh .ensures) (c .before .before .before .before .before .before .before .before .before .before .before .before .before .before .before .spell-name2 .ensures)) (c .before .before .before .push2 .ensures) (c .both .ensures)
+spell-name-returns t c = parted-told _ _ _ _ (c .before .before .before .before .before .before .before .before .before .before .before .before .before .before .before .before .before .before .before .before .before .before .before .before .before .before .before .before .before .before .before .before .before .before .before .before .before .before .before .before .before .before .before .part-of .ensures) _ _ (c .before .before .before .before .before .before .before .before .before .before .before .before .before .before .before .before .before .before .before .before .before .before .before .before .before .before .before .before .before .before .before .before .before .before .before .before .before .before .before .before .before .keep .given .1) _ (front-is (c .before .before .before .before .before .before .before .before .before .before .before .before .before .before .before .before .before .before .before .before .before .before .before .before .before .before .before .before .before .before .before .before .before .before .before .before .before .join-prefix .ensures) (joined-small _ _ _ (c .before .before .before .before .before .before .before .before .before .before .before .before .before .before .before .before .before .before .before .before .before .before .before .before .before .before .before .before .before .before .before .before .before .before .before .before .before .before .before .before .before .before .before .part-of .ensures) _ _ (c .before .before .before .before .before .before .before .before .before .before .before .before .before .before .before .before .before .before .before .before .before .before .before .before .before .before .before .before .before .before .before .before .before .before .before .before .before .before .before .before .before .keep .given .1) (c .before .before .before .before .before .before .before .before .before .before .before .before .before .before .before .before .before .before .before .before .before .before .before .before .before .before .before .before .before .before .before .before .before .before .before .before .before .before .before .before .before .before .before .before .before .before .before .before .before .before .pre .1 .1 .1 .0)) refl) (c .before .before .before .before .before .before .before .before .before .before .before .before .before .before .before .before .before .before .before .before .before .before .before .before .before .before .before .before .before .before .before .before .before .before .push .ensures) (afresh-told _ _ _ _ (c .before .before .before .before .before .before .before .before .before .before .before .before .before .before .before .before .before .before .before .before .before .before .before .before .before .before .before .before .before .before .before .before .before .before .before .before .before .before .before .afresh .ensures) (c .before .before .before .before .before .before .before .before .before .before .before .before .before .before .before .before .before .before .before .before .before .before .before .before .before .before .before .spell-name .ensures)) (c .before .before .before .before .before .before .before .before .before .before .before .before .before .before .before .before .before .before .before .middle .ensures) (afresh-told _ _ _ _ (c .before .before .before .before .before .before .before .before .before .before .before .before .before .before .before .before .before .before .before .before .before .before .before .before .before .before .before .before .before .before .before .before .before .before .before .before .before .before .before .afresh .ensures) (c .before .before .before .before .before .before .before .before .before .before .before .spell-name2 .ensures)) (c .before .before .before .push2 .ensures) (c .both .ensures)
+
+spell-name-same-length-4 : (t : ℕ) → spell-name-lts.Need-same-length-4 (spell-name-calls t) (spell-name-at t) spell-name.Post
+spell-name-same-length-4 t c = c .before .before .before .before .before .store3 .given
+
+spell-name-same-length-5 : (t : ℕ) → spell-name-lts.Need-same-length-5 (spell-name-calls t) (spell-name-at t) spell-name.Post
+spell-name-same-length-5 t c = c .before .before .before .marks3 .given
 
 spell-name-same-length-6 : (t : ℕ) → spell-name-lts.Need-same-length-6 (spell-name-calls t) (spell-name-at t) spell-name.Post
-spell-name-same-length-6 t c = search needs
-
-spell-name-same-length-7 : (t : ℕ) → spell-name-lts.Need-same-length-7 (spell-name-calls t) (spell-name-at t) spell-name.Post
-spell-name-same-length-7 t c = search needs
-
-spell-name-same-length-8 : (t : ℕ) → spell-name-lts.Need-same-length-8 (spell-name-calls t) (spell-name-at t) spell-name.Post
-spell-name-same-length-8 t c = search needs
-
-spell-name-same-length-9 : (t : ℕ) → spell-name-lts.Need-same-length-9 (spell-name-calls t) (spell-name-at t) spell-name.Post
-spell-name-same-length-9 t c = search needs
-
-spell-name-same-length-10 : (t : ℕ) → spell-name-lts.Need-same-length-10 (spell-name-calls t) (spell-name-at t) spell-name.Post
-spell-name-same-length-10 t c = search needs
+spell-name-same-length-6 t c = c .before .out6 .given
 
 spell-name-returns-2 : (t : ℕ) → spell-name-lts.Need-returns-2 (spell-name-calls t) (spell-name-at t) spell-name.Post
-spell-name-returns-2 t c = whole-plain _ _ _ _ (c .before .before .before .before .before .before .before .before .before .before .before .before .before .before .before .before .before .before .before .before .part-of .ensures) (c .before .before .before .before .before .before .before .before .before .before .before .before .before .before .before .before .before .before .enum-told .given .1) _ (c .before .before .before .before .before .before .before .before .before .before .before .before .before .before .before .before .before .is-plain .ensures) (c .before .before .before .before .before .before .before .before .before .before .before .before .before .before .before .before .if1 .taken) (c .before .before .before .before .before .before .before .before .before .before .spell-plain .ensures)
+spell-name-returns-2 t c = whole-plain _ _ _ _ (c .before .before .before .before .before .before .before .before .before .before .before .before .before .before .part-of .ensures) (c .before .before .before .before .before .before .before .before .before .before .before .before .enum-told .given .1) _ (c .before .before .before .before .before .before .before .before .before .before .before .is-plain .ensures) (c .before .before .before .before .before .before .before .before .before .before .if1 .taken) (c .before .before .before .before .before .before .spell-plain .ensures)
 
-spell-name-same-length-11 : (t : ℕ) → spell-name-lts.Need-same-length-11 (spell-name-calls t) (spell-name-at t) spell-name.Post
-spell-name-same-length-11 t c = search needs
+spell-name-same-length-7 : (t : ℕ) → spell-name-lts.Need-same-length-7 (spell-name-calls t) (spell-name-at t) spell-name.Post
+spell-name-same-length-7 t c = c .before .before .before .before .before .store4 .given
 
-spell-name-same-length-12 : (t : ℕ) → spell-name-lts.Need-same-length-12 (spell-name-calls t) (spell-name-at t) spell-name.Post
-spell-name-same-length-12 t c = search needs
+spell-name-same-length-8 : (t : ℕ) → spell-name-lts.Need-same-length-8 (spell-name-calls t) (spell-name-at t) spell-name.Post
+spell-name-same-length-8 t c = c .before .before .before .marks4 .given
 
-spell-name-same-length-13 : (t : ℕ) → spell-name-lts.Need-same-length-13 (spell-name-calls t) (spell-name-at t) spell-name.Post
-spell-name-same-length-13 t c = search needs
-
-spell-name-same-length-14 : (t : ℕ) → spell-name-lts.Need-same-length-14 (spell-name-calls t) (spell-name-at t) spell-name.Post
-spell-name-same-length-14 t c = search needs
-
-spell-name-same-length-15 : (t : ℕ) → spell-name-lts.Need-same-length-15 (spell-name-calls t) (spell-name-at t) spell-name.Post
-spell-name-same-length-15 t c = search needs
+spell-name-same-length-9 : (t : ℕ) → spell-name-lts.Need-same-length-9 (spell-name-calls t) (spell-name-at t) spell-name.Post
+spell-name-same-length-9 t c = c .before .out7 .given
 
 spell-name-returns-3 : (t : ℕ) → spell-name-lts.Need-returns-3 (spell-name-calls t) (spell-name-at t) spell-name.Post
-spell-name-returns-3 t c = whole-words _ _ _ _ (c .before .before .before .before .before .before .before .before .before .before .before .before .before .before .before .before .before .before .before .before .part-of .ensures) (c .before .before .before .before .before .before .before .before .before .before .before .before .before .before .before .before .before .before .enum-told .given .1) _ (c .before .before .before .before .before .before .before .before .before .before .before .before .before .before .before .before .before .is-plain .ensures) (c .before .before .before .before .before .before .before .before .before .before .before .before .before .before .before .before .if1 .left) (c .before .before .before .before .before .before .before .before .before .before .spell-words .ensures)
-
-abbrev spell-words-Inv-loop : spell-words-lts.InvT-loop
-spell-words-Inv-loop store₀ lens₀ langs₀ ord₀ pack places name out₀ at again all₀ p₀ store lens langs ord out all p =
-    WordsHeld (afreshBy (stepsAt pack again)) name out₀ out at p all (length store₀) (length lens₀) (length langs₀) (length ord₀) (length store) (length lens) (length langs) (length ord)
-
-abbrev spell-words-μ-loop : spell-words-lts.MeasureT-loop
-spell-words-μ-loop store₀ lens₀ langs₀ ord₀ pack places name out₀ at again all₀ p₀ store lens langs ord out all p = length name - p
+spell-name-returns-3 t c = whole-words _ _ _ _ (c .before .before .before .before .before .before .before .before .before .before .before .before .before .before .part-of .ensures) (c .before .before .before .before .before .before .before .before .before .before .before .before .enum-told .given .1) _ (c .before .before .before .before .before .before .before .before .before .before .before .is-plain .ensures) (c .before .before .before .before .before .before .before .before .before .before .if1 .left) (c .before .before .before .before .before .before .spell-words .ensures)
 
 spell-words-afresh-requires : (t : ℕ) → spell-words-lts.Need-afresh-requires (spell-words-calls t) (spell-words-at t) spell-words.Post spell-words-Inv-loop spell-words-μ-loop
 spell-words-afresh-requires t c κs = search needs
 
 spell-words-loop-holds : (t : ℕ) → spell-words-lts.Need-loop-holds (spell-words-calls t) (spell-words-at t) spell-words.Post spell-words-Inv-loop spell-words-μ-loop
-spell-words-loop-holds t c = held-start _ _ _ _ _ _ _ _ (c .before .before .before .before .before .before .before .before .before .pre .1 .1 .1 .1 .0) (c .before .before .before .before .before .before .before .before .before .good .1 .1 .1 .1 .1 .1 .1 .1 .0 .1)
+spell-words-loop-holds t c = held-start _ _ _ _ _ _ (c .before .before .before .before .before .before .before .pre .1 .1 .1 .1 .0) (c .before .before .before .before .before .before .before .good .1 .1 .1 .1 .1 .1 .0 .1)
 
 spell-words-next-word-requires : (t : ℕ) → spell-words-lts.Need-next-word-requires (spell-words-calls t) (spell-words-at t) spell-words.Post spell-words-Inv-loop spell-words-μ-loop
 spell-words-next-word-requires t c κs = search needs
@@ -197,16 +177,10 @@ spell-words-same-length : (t : ℕ) → spell-words-lts.Need-same-length (spell-
 spell-words-same-length t c = c .before .before .loop .inv .store-same
 
 spell-words-same-length-2 : (t : ℕ) → spell-words-lts.Need-same-length-2 (spell-words-calls t) (spell-words-at t) spell-words.Post spell-words-Inv-loop spell-words-μ-loop
-spell-words-same-length-2 t c = c .before .before .loop .inv .lens-same
+spell-words-same-length-2 t c = c .before .before .loop .inv .marks-same
 
 spell-words-same-length-3 : (t : ℕ) → spell-words-lts.Need-same-length-3 (spell-words-calls t) (spell-words-at t) spell-words.Post spell-words-Inv-loop spell-words-μ-loop
-spell-words-same-length-3 t c = c .before .before .loop .inv .langs-same
-
-spell-words-same-length-4 : (t : ℕ) → spell-words-lts.Need-same-length-4 (spell-words-calls t) (spell-words-at t) spell-words.Post spell-words-Inv-loop spell-words-μ-loop
-spell-words-same-length-4 t c = c .before .before .loop .inv .ord-same
-
-spell-words-same-length-5 : (t : ℕ) → spell-words-lts.Need-same-length-5 (spell-words-calls t) (spell-words-at t) spell-words.Post spell-words-Inv-loop spell-words-μ-loop
-spell-words-same-length-5 t c = c .before .before .loop .inv .out-same
+spell-words-same-length-3 t c = c .before .before .loop .inv .out-same
 
 spell-words-returns : (t : ℕ) → spell-words-lts.Need-returns (spell-words-calls t) (spell-words-at t) spell-words.Post spell-words-Inv-loop spell-words-μ-loop
 spell-words-returns t c = rw (steps-again _ _ _ (c .before .before .before .afresh .ensures)) at (held-end (c .before .before .loop .inv) _ (c .before .next-word .ensures) (c .if1 .taken))
@@ -215,7 +189,7 @@ spell-words-hyphen-requires : (t : ℕ) → spell-words-lts.Need-hyphen-requires
 spell-words-hyphen-requires t c κs = search needs
 
 spell-words-spell-name-requires : (t : ℕ) → spell-words-lts.Need-spell-name-requires (spell-words-calls t) (spell-words-at t) spell-words.Post spell-words-Inv-loop spell-words-μ-loop
-spell-words-spell-name-requires t c κs = (omega (arith, c .before .before .before .before .before .before .before .before .before .before .before .before .before .before .before .before .before .before .before .before .before .pre .0, held-shorter (c .before .before .before .before .before .before .before .before .before .before .before .loop .inv) _ (c .before .before .before .before .before .before .before .before .before .before .next-word .ensures) (c .before .before .before .before .before .before .before .before .before .if1 .left) (c .before .before .before .before .before .before .before .before .before .before .before .before .before .before .before .before .before .before .before .before .before .pre .1 .1 .1 .1 .1)), (held-scratch (c .before .before .before .before .before .before .before .before .before .before .before .loop .inv) (c .before .before .before .before .before .before .before .before .before .before .before .before .before .before .before .before .before .before .before .before .before .pre .1 .0), (ready-afresh _ _ _ (c .before .before .before .before .before .before .before .before .before .before .before .before .before .before .before .before .before .before .before .before .before .pre .1 .1 .0) _ (c .before .before .before .before .before .before .before .before .before .before .before .before .afresh .ensures), (omega (arith, held-shorter (c .before .before .before .before .before .before .before .before .before .before .before .loop .inv) _ (c .before .before .before .before .before .before .before .before .before .before .next-word .ensures) (c .before .before .before .before .before .before .before .before .before .if1 .left) (c .before .before .before .before .before .before .before .before .before .before .before .before .before .before .before .before .before .before .before .before .before .pre .1 .1 .1 .1 .1), c .before .before .before .before .before .before .before .before .before .before .before .before .before .before .before .before .before .before .before .before .before .pre .1 .1 .1 .0), held-place (c .before .before .before .before .before .before .before .before .before .before .before .loop .inv) _ (c .before .before .before .before .before .before .before .before .before .before .next-word .ensures) (c .before .before .before .before .before .before .before .before .before .if1 .left) (c .before .before .before .before .before .before .before .hyphen .ensures)))))
+spell-words-spell-name-requires t c κs = (word-falls (held-shorter (c .before .before .before .before .before .before .before .before .before .loop .inv) _ (c .before .before .before .before .before .before .before .before .next-word .ensures) (c .before .before .before .before .before .before .before .if1 .left) (c .before .before .before .before .before .before .before .before .before .before .before .before .before .before .before .before .before .pre .1 .1 .1 .1 .1)) (c .before .before .before .before .before .before .before .before .before .before .before .before .before .before .before .before .before .pre .0), (held-scratch (c .before .before .before .before .before .before .before .before .before .loop .inv) (c .before .before .before .before .before .before .before .before .before .before .before .before .before .before .before .before .before .pre .1 .0), (ready-afresh _ _ _ (c .before .before .before .before .before .before .before .before .before .before .before .before .before .before .before .before .before .pre .1 .1 .0) _ (c .before .before .before .before .before .before .before .before .before .before .afresh .ensures), (still-short (held-shorter (c .before .before .before .before .before .before .before .before .before .loop .inv) _ (c .before .before .before .before .before .before .before .before .next-word .ensures) (c .before .before .before .before .before .before .before .if1 .left) (c .before .before .before .before .before .before .before .before .before .before .before .before .before .before .before .before .before .pre .1 .1 .1 .1 .1)) (c .before .before .before .before .before .before .before .before .before .before .before .before .before .before .before .before .before .pre .1 .1 .1 .0), held-place (c .before .before .before .before .before .before .before .before .before .loop .inv) _ (c .before .before .before .before .before .before .before .before .next-word .ensures) (c .before .before .before .before .before .before .before .if1 .left) (c .before .before .before .before .before .hyphen .ensures)))))
 
 spell-words-both-requires : (t : ℕ) → spell-words-lts.Need-both-requires (spell-words-calls t) (spell-words-at t) spell-words.Post spell-words-Inv-loop spell-words-μ-loop
 spell-words-both-requires t c κs = search needs
@@ -224,10 +198,10 @@ spell-words-past-word-requires : (t : ℕ) → spell-words-lts.Need-past-word-re
 spell-words-past-word-requires t c κs = search needs
 
 spell-words-loop-less : (t : ℕ) → spell-words-lts.Need-loop-less (spell-words-calls t) (spell-words-at t) spell-words.Post spell-words-Inv-loop spell-words-μ-loop
-spell-words-loop-less t c = held-less (c .before .before .before .before .before .before .before .before .before .before .before .before .before .before .before .before .before .before .before .before .before .before .before .before .loop .inv) _ (c .before .before .before .before .before .before .before .before .before .before .before .before .before .before .before .before .before .before .before .before .before .before .before .next-word .ensures) (c .before .before .before .before .before .before .before .before .before .before .before .before .before .before .before .before .before .before .before .before .before .before .if1 .left) _ (c .past-word .ensures)
+spell-words-loop-less t c = held-less (c .before .before .before .before .before .before .before .before .before .before .before .before .before .before .before .before .before .before .loop .inv) _ (c .before .before .before .before .before .before .before .before .before .before .before .before .before .before .before .before .before .next-word .ensures) (c .before .before .before .before .before .before .before .before .before .before .before .before .before .before .before .before .if1 .left) _ (c .past-word .ensures)
 
 spell-words-loop-again : (t : ℕ) → spell-words-lts.Need-loop-again (spell-words-calls t) (spell-words-at t) spell-words.Post spell-words-Inv-loop spell-words-μ-loop
-spell-words-loop-again t c = held-turn (c .before .before .before .before .before .before .before .before .before .before .before .before .before .before .before .before .before .before .before .before .before .before .before .before .loop .inv) _ (c .before .before .before .before .before .before .before .before .before .before .before .before .before .before .before .before .before .before .before .before .before .before .before .next-word .ensures) (c .before .before .before .before .before .before .before .before .before .before .before .before .before .before .before .before .before .before .before .before .before .before .if1 .left) (c .before .before .before .before .before .before .before .before .before .before .before .before .before .before .before .before .before .before .before .before .hyphen .ensures) (told-again _ _ _ (c .before .before .before .before .before .before .before .before .before .before .before .before .before .before .before .before .before .before .before .before .before .before .before .before .before .afresh .ensures) _ (c .before .before .before .before .before .before .before .before .before .before .before .before .spell-name .ensures)) (c .before .both .ensures) (c .past-word .ensures) (c .before .before .before .before .before .before .before .before .before .before .before .store .given) (c .before .before .before .before .before .before .before .before .before .lens .given) (c .before .before .before .before .before .before .before .langs .given) (c .before .before .before .before .before .ord .given) (c .before .before .before .out2 .given ∙ c .before .before .before .before .before .before .before .before .before .before .before .before .before .before .before .before .before .before .before .out .given)
+spell-words-loop-again t c = held-turn (c .before .before .before .before .before .before .before .before .before .before .before .before .before .before .before .before .before .before .loop .inv) _ (c .before .before .before .before .before .before .before .before .before .before .before .before .before .before .before .before .before .next-word .ensures) (c .before .before .before .before .before .before .before .before .before .before .before .before .before .before .before .before .if1 .left) (c .before .before .before .before .before .before .before .before .before .before .before .before .before .before .hyphen .ensures) (told-again _ _ _ (c .before .before .before .before .before .before .before .before .before .before .before .before .before .before .before .before .before .before .before .afresh .ensures) _ (c .before .before .before .before .before .before .before .before .spell-name .ensures)) (c .before .both .ensures) (c .past-word .ensures) (c .before .before .before .before .before .before .before .store .given) (c .before .before .before .before .before .marks .given) (c .before .before .before .out2 .given ∙ c .before .before .before .before .before .before .before .before .before .before .before .before .before .out .given)
 
 pub +spell-name+spell-words-spec : {M : Type 1} → statement M
 +spell-name+spell-words-spec = close μ-spell-name μ-spell-words (λ t. spell-name-lts.spec (spell-name-calls t)
@@ -257,35 +231,16 @@ pub +spell-name+spell-words-spec : {M : Type 1} → statement M
     (spell-name-same-length t)
     (spell-name-same-length-2 t)
     (spell-name-same-length-3 t)
+    (spell-name-returns t)
     (spell-name-same-length-4 t)
     (spell-name-same-length-5 t)
-    (spell-name-returns t)
     (spell-name-same-length-6 t)
+    (spell-name-returns-2 t)
     (spell-name-same-length-7 t)
     (spell-name-same-length-8 t)
     (spell-name-same-length-9 t)
-    (spell-name-same-length-10 t)
-    (spell-name-returns-2 t)
-    (spell-name-same-length-11 t)
-    (spell-name-same-length-12 t)
-    (spell-name-same-length-13 t)
-    (spell-name-same-length-14 t)
-    (spell-name-same-length-15 t)
     (spell-name-returns-3 t))
-    λ t. spell-words-lts.spec (
-      afresh-reads.Asked,
-      afresh-reads.Learnt,
-      next-word-reads.Asked,
-      next-word-reads.Learnt,
-      hyphen-reads.Asked,
-      hyphen-reads.Learnt,
-      spell-name-below t,
-      spell-name.Post,
-      both-reads.Asked,
-      both-reads.Learnt,
-      past-word-reads.Asked,
-      past-word-reads.Learnt,
-    )
+    λ t. spell-words-lts.spec (spell-words-calls t)
     (spell-words-at t)
     spell-words.Post
     spell-words-Inv-loop
@@ -296,8 +251,6 @@ pub +spell-name+spell-words-spec : {M : Type 1} → statement M
     (spell-words-same-length t)
     (spell-words-same-length-2 t)
     (spell-words-same-length-3 t)
-    (spell-words-same-length-4 t)
-    (spell-words-same-length-5 t)
     (spell-words-returns t)
     (spell-words-hyphen-requires t)
     (spell-words-spell-name-requires t)

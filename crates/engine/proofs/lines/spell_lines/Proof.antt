@@ -1,5 +1,6 @@
-use mathlib.Core.Path.{refl}
-use borrow.Author.Needs.{needs}
+use mathlib.Core.Path.{refl, sym, _∙_}
+use Prim.Native.Nat.{ℕ}
+use lib.ListN.{length-replicate}
 use Rattle.engine.proofs.AnswerLaws.{scratch-new, blank-new}
 use Rattle.engine.proofs.lines.spell_lines.Statement.{statement}
 use Rattle.engine.proofs.lines.spell_lines.Tie as tie
@@ -9,34 +10,28 @@ use Rattle.engine.proofs.call.open.Reads as open-reads
 use Rattle.engine.proofs.lines.put_lines.Reads as put-lines-reads
 
 slice-aggregate-open : tie.Need-slice-aggregate-open
-slice-aggregate-open c = search needs
+slice-aggregate-open c = sym (length-replicate {A = ℕ} 12642 0)
 
 open-requires : tie.Need-open-requires
 open-requires c κs = blank-new 12642 refl
 
 slice-aggregate-put-lines : tie.Need-slice-aggregate-put-lines
-slice-aggregate-put-lines c = search needs
+slice-aggregate-put-lines c = sym (length-replicate {A = ℕ} 131072 0)
 
 slice-aggregate-put-lines-2 : tie.Need-slice-aggregate-put-lines-2
-slice-aggregate-put-lines-2 c = search needs
+slice-aggregate-put-lines-2 c = sym (length-replicate {A = ℕ} 1024 0)
 
 slice-aggregate-put-lines-3 : tie.Need-slice-aggregate-put-lines-3
-slice-aggregate-put-lines-3 c = search needs
-
-slice-aggregate-put-lines-4 : tie.Need-slice-aggregate-put-lines-4
-slice-aggregate-put-lines-4 c = search needs
-
-slice-aggregate-put-lines-5 : tie.Need-slice-aggregate-put-lines-5
-slice-aggregate-put-lines-5 c = search needs
+slice-aggregate-put-lines-3 c = sym (c .before .before .before .places2 .given ∙ length-replicate {A = ℕ} 12642 0)
 
 put-lines-requires : tie.Need-put-lines-requires
-put-lines-requires c κs = (scratch-new, search needs)
+put-lines-requires c κs = (scratch-new 131072 1024 refl refl, c .before .before .before .before .before .«open» .ensures)
 
 same-length : tie.Need-same-length
-same-length c = search needs
+same-length c = c .before .out .given
 
 returns : tie.Need-returns
-returns c = search needs
+returns c = c .before .before .before .before .put-lines .ensures
 
 pub spell-lines-spec : {M : Type 1} → statement M
 spell-lines-spec =
@@ -47,8 +42,6 @@ spell-lines-spec =
     slice-aggregate-put-lines
     slice-aggregate-put-lines-2
     slice-aggregate-put-lines-3
-    slice-aggregate-put-lines-4
-    slice-aggregate-put-lines-5
     put-lines-requires
     same-length
     returns)

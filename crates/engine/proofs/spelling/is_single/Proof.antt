@@ -27,4 +27,11 @@ returns-2 c = single-whole _ _ _ (c .before .before .before .part-of .ensures) _
 
 pub is-single-spec : {M : Type 1} → statement M
 is-single-spec =
-    tie.close (tie.spec part-of-requires enum-told enum-told-2 is-plain-requires returns returns-2)
+    tie.close
+    (tie.spec
+    part-of-requires
+    enum-told
+    enum-told-2
+    is-plain-requires
+    returns
+    returns-2)

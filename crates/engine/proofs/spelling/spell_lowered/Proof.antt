@@ -1,61 +1,74 @@
-use Rattle.engine.proofs.AnswerLaws.{single-told}
+use mathlib.Core.Path.{sym, _∙_}
+use Prim.Native.Nat.{ℕ, zero-le}
+use lib.ListN.{length-replicate}
+use Rattle.engine.proofs.NameLaws.{scratch-kept}
+use Rattle.engine.proofs.AnswerLaws.{single-told, kept-told, again-told}
 use borrow.Author.Needs.{needs}
 use Rattle.engine.proofs.spelling.spell_lowered.Statement.{statement}
 use Rattle.engine.proofs.spelling.spell_lowered.Tie as tie
 use Rattle.engine.proofs.spelling.spell_lowered.Reads as reads
 use Rattle.engine.proofs.spelling.spell_lowered.Lts as lts
+use Rattle.engine.proofs.encode.spell_name.Reads as spell-name-reads
 use Rattle.engine.proofs.encode.spell_plain.Reads as spell-plain-reads
-use Rattle.engine.proofs.spelling.answer.Reads as answer-reads
 use Rattle.engine.proofs.spelling.is_single.Reads as is-single-reads
-use Rattle.engine.proofs.spelling.spell_parts.Reads as spell-parts-reads
+use Rattle.engine.proofs.spelling.keep.Reads as keep-reads
 
 is-single-requires : tie.Need-is-single-requires
 is-single-requires c κs = search needs
 
 spell-plain-requires : tie.Need-spell-plain-requires
-spell-plain-requires c κs = search needs
-
-answer-requires : tie.Need-answer-requires
-answer-requires c κs = search needs
-
-spell-parts-requires : tie.Need-spell-parts-requires
-spell-parts-requires c κs = search needs
+spell-plain-requires c κs = (c .before .before .before .before .before .before .before .before .before .before .before .pre .0, (c .before .before .before .before .before .before .before .before .before .before .before .pre .1 .0, c .before .before .before .before .before .before .before .before .before .before .before .pre .1 .1))
 
 same-length : tie.Need-same-length
-same-length c = search needs
+same-length c = c .before .before .before .before .before .store .given
 
 same-length-2 : tie.Need-same-length-2
-same-length-2 c = search needs
+same-length-2 c = c .before .before .before .marks .given
 
 same-length-3 : tie.Need-same-length-3
-same-length-3 c = search needs
-
-same-length-4 : tie.Need-same-length-4
-same-length-4 c = search needs
-
-same-length-5 : tie.Need-same-length-5
-same-length-5 c = search needs
+same-length-3 c = c .before .out .given
 
 returns : tie.Need-returns
-returns c = single-told _ _ _ _ (c .before .before .before .before .before .before .before .before .before .before .before .before .before .before .before .before .before .before .is-single .ensures) (c .before .before .before .before .before .before .before .before .before .before .before .before .before .before .before .before .before .before .before .before .before .before .before .before .before .before .before .good .1 .1 .1 .1 .1 .1 .1 .1 .0 .1) (c .before .before .before .before .before .before .before .before .before .before .before .before .before .before .before .before .before .if1 .taken) (c .before .before .before .before .before .before .before .before .before .before .before .spell-plain .ensures) (c .answer .ensures)
+returns c = single-told _ _ _ _ (c .before .before .before .before .before .before .before .before .before .before .before .is-single .ensures) (c .before .before .before .before .before .before .before .before .before .before .if1 .taken) (c .before .before .before .before .before .before .spell-plain .ensures)
+
+slice-aggregate-spell-name : tie.Need-slice-aggregate-spell-name
+slice-aggregate-spell-name c = sym (length-replicate {A = ℕ} 16384 0)
+
+spell-name-requires : tie.Need-spell-name-requires
+spell-name-requires c κs = (c .before .before .before .before .before .before .before .before .before .before .before .pre .0, (c .before .before .before .before .before .before .before .before .before .before .before .pre .1 .0, (c .before .before .before .before .before .before .before .before .before .before .before .pre .1 .1, zero-le)))
+
+slice-aggregate-keep : tie.Need-slice-aggregate-keep
+slice-aggregate-keep c = search needs
+
+keep-requires : tie.Need-keep-requires
+keep-requires c κs = search needs
+
+spell-name-requires-2 : tie.Need-spell-name-requires-2
+spell-name-requires-2 c κs = (scratch-kept (c .before .before .before .before .before .before .before .before .before .before .before .before .before .before .before .before .before .before .before .before .before .before .before .before .before .before .pre .0) (c .before .before .before .before .before .before .before .before .before .before .before .before .before .store2 .given) (c .before .before .before .before .before .before .before .before .before .before .before .marks2 .given), (c .before .before .before .before .before .before .before .before .before .before .before .before .before .before .before .before .before .before .before .before .before .before .before .before .before .before .pre .1 .0, (c .before .before .before .before .before .before .before .before .before .before .before .before .before .before .before .before .before .before .before .before .before .before .before .before .before .before .pre .1 .1, zero-le)))
+
+same-length-4 : tie.Need-same-length-4
+same-length-4 c = c .before .before .before .before .before .before .before .before .before .before .store2 .given
+
+same-length-5 : tie.Need-same-length-5
+same-length-5 c = c .before .before .before .before .before .before .before .before .marks2 .given
 
 same-length-6 : tie.Need-same-length-6
-same-length-6 c = search needs
-
-same-length-7 : tie.Need-same-length-7
-same-length-7 c = search needs
-
-same-length-8 : tie.Need-same-length-8
-same-length-8 c = search needs
-
-same-length-9 : tie.Need-same-length-9
-same-length-9 c = search needs
-
-same-length-10 : tie.Need-same-length-10
-same-length-10 c = search needs
+same-length-6 c = c .before .before .out2 .given
 
 returns-2 : tie.Need-returns-2
-returns-2 c = search needs
+returns-2 c = kept-told (c .before .before .before .before .before .before .before .before .before .before .before .before .before .before .before .before .before .before .before .before .before .before .before .good .1 .1 .1 .1 .1 .1 .0 .1) (c .before .before .before .before .before .before .before .before .before .before .before .spell-name .ensures) (c .before .before .before .keep .ensures) (c .if2 .taken)
+
+same-length-7 : tie.Need-same-length-7
+same-length-7 c = c .before .before .before .before .before .store3 .given ∙ c .before .before .before .before .before .before .before .before .before .before .before .before .before .before .before .before .before .before .before .before .store2 .given
+
+same-length-8 : tie.Need-same-length-8
+same-length-8 c = c .before .before .before .marks3 .given ∙ c .before .before .before .before .before .before .before .before .before .before .before .before .before .before .before .before .before .before .marks2 .given
+
+same-length-9 : tie.Need-same-length-9
+same-length-9 c = c .before .out3 .given ∙ c .before .before .before .before .before .before .before .before .before .before .before .before .out2 .given
+
+returns-3 : tie.Need-returns-3
+returns-3 c = again-told (c .before .before .before .before .before .before .before .before .before .before .before .before .before .before .before .before .before .before .before .before .before .before .before .before .before .before .before .before .before .before .before .before .before .good .1 .1 .1 .1 .1 .1 .0 .1) (c .before .before .before .before .before .before .before .before .before .before .before .before .before .before .before .before .before .before .before .before .before .spell-name .ensures) (c .before .before .before .before .before .before .before .before .before .before .before .before .before .keep .ensures) (c .before .before .before .before .before .before .before .before .before .before .if2 .left) (c .before .before .before .before .before .before .spell-name2 .ensures)
 
 pub spell-lowered-spec : {M : Type 1} → statement M
 spell-lowered-spec =
@@ -63,17 +76,20 @@ spell-lowered-spec =
     (tie.spec
     is-single-requires
     spell-plain-requires
-    answer-requires
-    spell-parts-requires
     same-length
     same-length-2
     same-length-3
+    returns
+    slice-aggregate-spell-name
+    spell-name-requires
+    slice-aggregate-keep
+    keep-requires
+    spell-name-requires-2
     same-length-4
     same-length-5
-    returns
     same-length-6
+    returns-2
     same-length-7
     same-length-8
     same-length-9
-    same-length-10
-    returns-2)
+    returns-3)

@@ -10,26 +10,20 @@ use Rattle.phoneme_builder.proofs.apply.apply_row.Reads as reads
 use Rattle.phoneme_builder.proofs.apply.apply_row.Lts as lts
 
 abbrev Inv-loop : tie.InvT-loop
-Inv-loop store₀ lens₀ langs₀ ord₀ to n a g expr alts m limit j₀ k₀ store lens langs ord j k =
-    Offering limit (entry a (decoded g)) expr alts m (entriesAt (arena store₀ lens₀ langs₀ ord₀) to n) (arena store₀ lens₀ langs₀ ord₀) (arena store lens langs ord) to k j
+Inv-loop store₀ marks₀ to n a g expr alts m limit j₀ k₀ store marks j k =
+    Offering limit (entry a (decoded g)) expr alts m (entriesAt (arena store₀ marks₀) to n) (arena store₀ marks₀) (arena store marks) to k j
 
 abbrev μ-loop : tie.MeasureT-loop
-μ-loop store₀ lens₀ langs₀ ord₀ to n a g expr alts m limit j₀ k₀ store lens langs ord j k = m - j
+μ-loop store₀ marks₀ to n a g expr alts m limit j₀ k₀ store marks j k = m - j
 
 loop-holds : tie.Need-loop-holds Inv-loop μ-loop
-loop-holds c = offering-start _ _ _ _ _ _ _ _ (c .before .before .before .before .before .before .before .pre .0) (c .before .before .before .before .before .before .before .pre .1 .0)
+loop-holds c = offering-start _ _ _ _ _ _ _ _ (c .before .before .before .before .before .pre .0) (c .before .before .before .before .before .pre .1 .0)
 
 same-length : tie.Need-same-length Inv-loop μ-loop
-same-length c = omega (arith, c .before .before .loop .inv .rooms .long-store, c .before .before .before .before .before .before .before .before .before .before .pre .0 .long-store)
+same-length c = omega (arith, c .before .before .loop .inv .rooms .long-store, c .before .before .before .before .before .before .before .before .pre .0 .long-store)
 
 same-length-2 : tie.Need-same-length-2 Inv-loop μ-loop
-same-length-2 c = omega (arith, c .before .before .loop .inv .rooms .long-lens, c .before .before .before .before .before .before .before .before .before .before .pre .0 .long-lens)
-
-same-length-3 : tie.Need-same-length-3 Inv-loop μ-loop
-same-length-3 c = omega (arith, c .before .before .loop .inv .rooms .long-langs, c .before .before .before .before .before .before .before .before .before .before .pre .0 .long-langs)
-
-same-length-4 : tie.Need-same-length-4 Inv-loop μ-loop
-same-length-4 c = omega (arith, c .before .before .loop .inv .rooms .long-ord, c .before .before .before .before .before .before .before .before .before .before .pre .0 .long-ord)
+same-length-2 c = omega (arith, c .before .before .loop .inv .rooms .long-marks, c .before .before .before .before .before .before .before .before .pre .0 .long-marks)
 
 returns : tie.Need-returns Inv-loop μ-loop
 returns c = offering-stop (c .before .before .loop .inv) (c .if1 .taken)
@@ -38,28 +32,28 @@ mul-x : tie.Need-mul-x Inv-loop μ-loop
 mul-x c = search needs
 
 shared-slice-read-x : tie.Need-shared-slice-read-x Inv-loop μ-loop
-shared-slice-read-x c = omega (arith, alt-long (c .before .before .before .before .before .before .before .before .before .before .before .pre .1 .1 .1 .0) _ (c .before .before .loop-test .taken))
+shared-slice-read-x c = omega (arith, alt-long (c .before .before .before .before .before .before .before .before .before .pre .1 .1 .1 .0) _ (c .before .before .loop-test .taken))
 
-start-of-requires : tie.Need-start-of-requires Inv-loop μ-loop
-start-of-requires c κs = search needs
+first-of-requires : tie.Need-first-of-requires Inv-loop μ-loop
+first-of-requires c κs = search needs
 
-end-of-requires : tie.Need-end-of-requires Inv-loop μ-loop
-end-of-requires c κs = search needs
+second-of-requires : tie.Need-second-of-requires Inv-loop μ-loop
+second-of-requires c κs = search needs
 
 add-j : tie.Need-add-j Inv-loop μ-loop
 add-j c = search needs
 
 sub-offer : tie.Need-sub-offer Inv-loop μ-loop
-sub-offer c = omega (arith, c .before .before .before .before .before .start-of .ensures, c .before .before .before .before .end-of .ensures, alt-order (c .before .before .before .before .before .before .before .before .before .before .before .before .before .before .before .before .before .pre .1 .1 .1 .0) _ (c .before .before .before .before .before .before .before .before .loop-test .taken))
+sub-offer c = omega (arith, c .before .before .before .first-of .ensures, c .before .before .second-of .ensures, alt-order (c .before .before .before .before .before .before .before .before .before .before .before .before .before .pre .1 .1 .1 .0) _ (c .before .before .before .before .before .before .loop-test .taken))
 
 part-offer-start : tie.Need-part-offer-start Inv-loop μ-loop
-part-offer-start c = omega (arith, c .before .before .before .before .before .start-of .ensures, c .before .before .before .before .end-of .ensures, alt-order (c .before .before .before .before .before .before .before .before .before .before .before .before .before .before .before .before .before .pre .1 .1 .1 .0) _ (c .before .before .before .before .before .before .before .before .loop-test .taken))
+part-offer-start c = omega (arith, c .before .before .before .first-of .ensures, c .before .before .second-of .ensures, alt-order (c .before .before .before .before .before .before .before .before .before .before .before .before .before .pre .1 .1 .1 .0) _ (c .before .before .before .before .before .before .loop-test .taken))
 
 part-offer-end : tie.Need-part-offer-end Inv-loop μ-loop
-part-offer-end c = omega (arith, c .before .before .before .before .end-of .ensures, alt-end (c .before .before .before .before .before .before .before .before .before .before .before .before .before .before .before .before .before .pre .1 .1 .1 .0) _ (c .before .before .before .before .before .before .before .before .loop-test .taken))
+part-offer-end c = omega (arith, c .before .before .second-of .ensures, alt-end (c .before .before .before .before .before .before .before .before .before .before .before .before .before .pre .1 .1 .1 .0) _ (c .before .before .before .before .before .before .loop-test .taken))
 
 offer-requires : tie.Need-offer-requires Inv-loop μ-loop
-offer-requires c κs = (c .before .before .before .before .before .before .before .before .before .before .loop .inv .rooms, (c .before .before .before .before .before .before .before .before .before .before .loop .inv .now-is, (c .before .before .before .before .before .before .before .before .before .before .before .before .before .before .before .before .before .before .pre .1 .1 .0, (alt-code (c .before .before .before .before .before .before .before .before .before .before .before .before .before .before .before .before .before .before .pre .1 .1 .1 .0) _ (c .before .before .before .before .before .before .before .before .before .loop-test .taken), (c .before .before .before .before .before .before .before .before .if1 .left, c .before .before .before .before .before .before .before .before .before .before .before .before .before .before .before .before .before .before .pre .1 .1 .1 .1)))))
+offer-requires c κs = (c .before .before .before .before .before .before .before .before .loop .inv .rooms, (c .before .before .before .before .before .before .before .before .loop .inv .now-is, (c .before .before .before .before .before .before .before .before .before .before .before .before .before .before .pre .1 .1 .0, (alt-code (c .before .before .before .before .before .before .before .before .before .before .before .before .before .before .pre .1 .1 .1 .0) _ (c .before .before .before .before .before .before .before .loop-test .taken), (c .before .before .before .before .before .before .if1 .left, c .before .before .before .before .before .before .before .before .before .before .before .before .before .before .pre .1 .1 .1 .1)))))
 
 enum-known-grown : tie.Need-enum-known-grown Inv-loop μ-loop
 enum-known-grown c = search needs
@@ -68,37 +62,25 @@ loop-less : tie.Need-loop-less Inv-loop μ-loop
 loop-less c = search needs
 
 loop-again : tie.Need-loop-again Inv-loop μ-loop
-loop-again c = offering-next (c .before .before .before .before .before .before .before .before .before .before .before .before .before .before .before .before .before .before .before .before .before .before .loop .inv) (c .before .before .before .before .before .before .before .before .before .before .before .before .before .before .before .before .before .before .before .before .before .loop-test .taken) (rw (← c .before .before .before .before .before .before .before .before .before .before .before .before .before .before .before .before .before .before .start-of .ensures, ← c .before .before .before .before .before .before .before .before .before .before .before .before .before .before .before .before .before .end-of .ensures) (c .before .before .before .before .before .before .before .before .before .before .before .offer .ensures)) _ (c .before .grown .given .1)
+loop-again c = offering-next (c .before .before .before .before .before .before .before .before .before .before .before .before .before .before .before .before .loop .inv) (c .before .before .before .before .before .before .before .before .before .before .before .before .before .before .before .loop-test .taken) (rw (← c .before .before .before .before .before .before .before .before .before .before .before .before .first-of .ensures, ← c .before .before .before .before .before .before .before .before .before .before .before .second-of .ensures) (c .before .before .before .before .before .before .before .offer .ensures)) _ (c .before .grown .given .1)
 
 enum-told : tie.Need-enum-told Inv-loop μ-loop
 enum-told c = search needs
 
-same-length-5 : tie.Need-same-length-5 Inv-loop μ-loop
-same-length-5 c = omega (arith, c .before .before .before .before .before .before .before .before .before .before .offer .ensures .rooms .long-store, c .before .before .before .before .before .before .before .before .before .before .before .before .before .before .before .before .before .before .before .before .before .before .before .before .before .before .before .before .before .pre .0 .long-store)
+same-length-3 : tie.Need-same-length-3 Inv-loop μ-loop
+same-length-3 c = omega (arith, c .before .before .before .before .before .before .offer .ensures .rooms .long-store, c .before .before .before .before .before .before .before .before .before .before .before .before .before .before .before .before .before .before .before .before .before .pre .0 .long-store)
 
-same-length-6 : tie.Need-same-length-6 Inv-loop μ-loop
-same-length-6 c = omega (arith, c .before .before .before .before .before .before .before .before .before .before .offer .ensures .rooms .long-lens, c .before .before .before .before .before .before .before .before .before .before .before .before .before .before .before .before .before .before .before .before .before .before .before .before .before .before .before .before .before .pre .0 .long-lens)
-
-same-length-7 : tie.Need-same-length-7 Inv-loop μ-loop
-same-length-7 c = omega (arith, c .before .before .before .before .before .before .before .before .before .before .offer .ensures .rooms .long-langs, c .before .before .before .before .before .before .before .before .before .before .before .before .before .before .before .before .before .before .before .before .before .before .before .before .before .before .before .before .before .pre .0 .long-langs)
-
-same-length-8 : tie.Need-same-length-8 Inv-loop μ-loop
-same-length-8 c = omega (arith, c .before .before .before .before .before .before .before .before .before .before .offer .ensures .rooms .long-ord, c .before .before .before .before .before .before .before .before .before .before .before .before .before .before .before .before .before .before .before .before .before .before .before .before .before .before .before .before .before .pre .0 .long-ord)
+same-length-4 : tie.Need-same-length-4 Inv-loop μ-loop
+same-length-4 c = omega (arith, c .before .before .before .before .before .before .offer .ensures .rooms .long-marks, c .before .before .before .before .before .before .before .before .before .before .before .before .before .before .before .before .before .before .before .before .before .pre .0 .long-marks)
 
 returns-2 : tie.Need-returns-2 Inv-loop μ-loop
-returns-2 c = offering-long (c .before .before .before .before .before .before .before .before .before .before .before .before .before .before .before .before .before .before .before .before .before .loop .inv) (c .before .before .before .before .before .before .before .before .before .before .before .before .before .before .before .before .before .before .before .before .loop-test .taken) (rw (← c .before .before .before .before .before .before .before .before .before .before .before .before .before .before .before .before .before .start-of .ensures, ← c .before .before .before .before .before .before .before .before .before .before .before .before .before .before .before .before .end-of .ensures) (c .before .before .before .before .before .before .before .before .before .before .offer .ensures)) (c .enum-told .given .1)
+returns-2 c = offering-long (c .before .before .before .before .before .before .before .before .before .before .before .before .before .before .before .loop .inv) (c .before .before .before .before .before .before .before .before .before .before .before .before .before .before .loop-test .taken) (rw (← c .before .before .before .before .before .before .before .before .before .before .before .first-of .ensures, ← c .before .before .before .before .before .before .before .before .before .before .second-of .ensures) (c .before .before .before .before .before .before .offer .ensures)) (c .enum-told .given .1)
 
-same-length-9 : tie.Need-same-length-9 Inv-loop μ-loop
-same-length-9 c = omega (arith, c .before .loop .inv .rooms .long-store, c .before .before .before .before .before .before .before .before .before .pre .0 .long-store)
+same-length-5 : tie.Need-same-length-5 Inv-loop μ-loop
+same-length-5 c = omega (arith, c .before .loop .inv .rooms .long-store, c .before .before .before .before .before .before .before .pre .0 .long-store)
 
-same-length-10 : tie.Need-same-length-10 Inv-loop μ-loop
-same-length-10 c = omega (arith, c .before .loop .inv .rooms .long-lens, c .before .before .before .before .before .before .before .before .before .pre .0 .long-lens)
-
-same-length-11 : tie.Need-same-length-11 Inv-loop μ-loop
-same-length-11 c = omega (arith, c .before .loop .inv .rooms .long-langs, c .before .before .before .before .before .before .before .before .before .pre .0 .long-langs)
-
-same-length-12 : tie.Need-same-length-12 Inv-loop μ-loop
-same-length-12 c = omega (arith, c .before .loop .inv .rooms .long-ord, c .before .before .before .before .before .before .before .before .before .pre .0 .long-ord)
+same-length-6 : tie.Need-same-length-6 Inv-loop μ-loop
+same-length-6 c = omega (arith, c .before .loop .inv .rooms .long-marks, c .before .before .before .before .before .before .before .pre .0 .long-marks)
 
 returns-3 : tie.Need-returns-3 Inv-loop μ-loop
 returns-3 c = offering-end (c .before .loop .inv) (c .loop-test .left)
@@ -112,13 +94,11 @@ apply-row-spec =
     loop-holds
     same-length
     same-length-2
-    same-length-3
-    same-length-4
     returns
     mul-x
     shared-slice-read-x
-    start-of-requires
-    end-of-requires
+    first-of-requires
+    second-of-requires
     add-j
     sub-offer
     part-offer-start
@@ -128,13 +108,9 @@ apply-row-spec =
     loop-less
     loop-again
     enum-told
+    same-length-3
+    same-length-4
+    returns-2
     same-length-5
     same-length-6
-    same-length-7
-    same-length-8
-    returns-2
-    same-length-9
-    same-length-10
-    same-length-11
-    same-length-12
     returns-3)

@@ -17,19 +17,13 @@ returns-2 : tie.Need-returns-2
 returns-2 c = search (offer-laws, needs)
 
 add-to-requires : tie.Need-add-to-requires
-add-to-requires c κs = (c .before .before .before .before .before .before .before .before .before .before .before .before .pre .0, (c .before .before .before .before .before .before .before .before .before .before .before .before .pre .1 .0, (and-code (c .before .before .before .before .before .before .before .before .before .before .before .before .pre .1 .1 .0) (c .before .before .before .before .before .before .before .before .before .before .before .before .pre .1 .1 .1 .0), search needs)))
+add-to-requires c κs = (c .before .before .before .before .before .before .before .before .pre .0, (c .before .before .before .before .before .before .before .before .pre .1 .0, (and-code (c .before .before .before .before .before .before .before .before .pre .1 .1 .0) (c .before .before .before .before .before .before .before .before .pre .1 .1 .1 .0), search needs)))
 
 same-length : tie.Need-same-length
-same-length c = omega (arith, c .before .before .before .before .before .before .before .before .add-to .ensures .rooms .long-store, c .before .before .before .before .before .before .before .before .before .before .before .before .before .before .before .before .before .before .before .before .before .pre .0 .long-store)
+same-length c = omega (arith, c .before .before .before .before .add-to .ensures .rooms .long-store, c .before .before .before .before .before .before .before .before .before .before .before .before .before .pre .0 .long-store)
 
 same-length-2 : tie.Need-same-length-2
-same-length-2 c = omega (arith, c .before .before .before .before .before .before .before .before .add-to .ensures .rooms .long-lens, c .before .before .before .before .before .before .before .before .before .before .before .before .before .before .before .before .before .before .before .before .before .pre .0 .long-lens)
-
-same-length-3 : tie.Need-same-length-3
-same-length-3 c = omega (arith, c .before .before .before .before .before .before .before .before .add-to .ensures .rooms .long-langs, c .before .before .before .before .before .before .before .before .before .before .before .before .before .before .before .before .before .before .before .before .before .pre .0 .long-langs)
-
-same-length-4 : tie.Need-same-length-4
-same-length-4 c = omega (arith, c .before .before .before .before .before .before .before .before .add-to .ensures .rooms .long-ord, c .before .before .before .before .before .before .before .before .before .before .before .before .before .before .before .before .before .before .before .before .before .pre .0 .long-ord)
+same-length-2 c = omega (arith, c .before .before .before .before .add-to .ensures .rooms .long-marks, c .before .before .before .before .before .before .before .before .before .before .before .before .before .pre .0 .long-marks)
 
 returns-3 : tie.Need-returns-3
 returns-3 c = search (offer-laws, needs)
@@ -44,6 +38,4 @@ offer-spec =
     add-to-requires
     same-length
     same-length-2
-    same-length-3
-    same-length-4
     returns-3)

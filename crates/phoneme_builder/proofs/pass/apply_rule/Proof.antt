@@ -7,28 +7,22 @@ use Rattle.phoneme_builder.proofs.pass.apply_rule.Reads as reads
 use Rattle.phoneme_builder.proofs.pass.apply_rule.Lts as lts
 
 alternatives-requires : tie.Need-alternatives-requires
-alternatives-requires c κs = (c .before .before .before .before .before .before .before .before .pre .1 .1 .1 .1 .0, c .before .before .before .before .before .before .before .before .pre .1 .1 .1 .0)
+alternatives-requires c κs = (c .before .before .before .before .before .before .pre .1 .1 .1 .1 .0, c .before .before .before .before .before .before .pre .1 .1 .1 .0)
 
 apply-requires : tie.Need-apply-requires
-apply-requires c κs = (c .before .before .before .before .before .before .before .before .before .before .before .before .before .before .before .before .pre .0, (c .before .before .before .before .before .before .before .before .before .before .before .before .before .before .before .before .pre .1 .0, (c .before .before .before .before .before .before .before .before .before .before .before .before .before .before .before .before .pre .1 .1 .0, (c .before .before .before .before .before .before .before .alternatives .ensures .parts, c .before .before .before .before .before .before .before .before .before .before .before .before .before .before .before .before .pre .1 .1 .1 .1 .1))))
+apply-requires c κs = (c .before .before .before .before .before .before .before .before .before .before .before .before .pre .0, (c .before .before .before .before .before .before .before .before .before .before .before .before .pre .1 .0, (c .before .before .before .before .before .before .before .before .before .before .before .before .pre .1 .1 .0, (c .before .before .before .before .before .alternatives .ensures .parts, c .before .before .before .before .before .before .before .before .before .before .before .before .pre .1 .1 .1 .1 .1))))
 
 same-length : tie.Need-same-length
-same-length c = omega (arith, c .before .before .before .before .before .before .before .before .apply .ensures .rooms .long-store, c .before .before .before .before .before .before .before .before .before .before .before .before .before .before .before .before .before .before .before .before .before .before .before .before .before .pre .0 .long-store)
+same-length c = omega (arith, c .before .before .before .before .apply .ensures .rooms .long-store, c .before .before .before .before .before .before .before .before .before .before .before .before .before .before .before .before .before .pre .0 .long-store)
 
 same-length-2 : tie.Need-same-length-2
-same-length-2 c = omega (arith, c .before .before .before .before .before .before .before .before .apply .ensures .rooms .long-lens, c .before .before .before .before .before .before .before .before .before .before .before .before .before .before .before .before .before .before .before .before .before .before .before .before .before .pre .0 .long-lens)
+same-length-2 c = omega (arith, c .before .before .before .before .apply .ensures .rooms .long-marks, c .before .before .before .before .before .before .before .before .before .before .before .before .before .before .before .before .before .pre .0 .long-marks)
 
 same-length-3 : tie.Need-same-length-3
-same-length-3 c = omega (arith, c .before .before .before .before .before .before .before .before .apply .ensures .rooms .long-langs, c .before .before .before .before .before .before .before .before .before .before .before .before .before .before .before .before .before .before .before .before .before .before .before .before .before .pre .0 .long-langs)
-
-same-length-4 : tie.Need-same-length-4
-same-length-4 c = omega (arith, c .before .before .before .before .before .before .before .before .apply .ensures .rooms .long-ord, c .before .before .before .before .before .before .before .before .before .before .before .before .before .before .before .before .before .before .before .before .before .before .before .before .before .pre .0 .long-ord)
-
-same-length-5 : tie.Need-same-length-5
-same-length-5 c = search needs
+same-length-3 c = search needs
 
 returns : tie.Need-returns
-returns c = rule-applied _ _ _ _ _ _ _ _ _ _ (c .before .before .before .before .before .before .before .before .before .before .before .before .before .before .before .before .alternatives .ensures) (c .before .before .before .before .before .before .before .before .apply .ensures)
+returns c = rule-applied _ _ _ _ _ _ _ _ _ _ (c .before .before .before .before .before .before .before .before .before .before .alternatives .ensures) (c .before .before .before .before .apply .ensures)
 
 pub apply-rule-spec : {M : Type 1} → statement M
 apply-rule-spec =
@@ -39,6 +33,4 @@ apply-rule-spec =
     same-length
     same-length-2
     same-length-3
-    same-length-4
-    same-length-5
     returns)

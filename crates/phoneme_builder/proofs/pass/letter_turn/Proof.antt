@@ -23,7 +23,7 @@ part-append-end : tie.Need-part-append-end
 part-append-end c = search needs
 
 append-requires : tie.Need-append-requires
-append-requires c κs = (c .before .before .before .before .before .before .before .before .before .before .before .before .pre .0, (c .before .before .before .before .before .before .before .before .before .before .before .before .pre .1 .0, c .before .before .before .before .before .before .before .before .before .before .before .before .pre .1 .1 .0))
+append-requires c κs = (c .before .before .before .before .before .before .before .before .pre .0, (c .before .before .before .before .before .before .before .before .pre .1 .0, c .before .before .before .before .before .before .before .before .pre .1 .1 .0))
 
 enum-known-k : tie.Need-enum-known-k
 enum-known-k c = search needs
@@ -32,37 +32,25 @@ enum-told : tie.Need-enum-told
 enum-told c = search needs
 
 same-length : tie.Need-same-length
-same-length c = omega (arith, c .before .before .before .before .before .before .before .before .before .before .before .append .ensures .rooms .long-store, c .before .before .before .before .before .before .before .before .before .before .before .before .before .before .before .before .before .before .before .before .before .before .before .before .pre .0 .long-store)
+same-length c = omega (arith, c .before .before .before .before .before .before .before .append .ensures .rooms .long-store, c .before .before .before .before .before .before .before .before .before .before .before .before .before .before .before .before .pre .0 .long-store)
 
 same-length-2 : tie.Need-same-length-2
-same-length-2 c = omega (arith, c .before .before .before .before .before .before .before .before .before .before .before .append .ensures .rooms .long-lens, c .before .before .before .before .before .before .before .before .before .before .before .before .before .before .before .before .before .before .before .before .before .before .before .before .pre .0 .long-lens)
-
-same-length-3 : tie.Need-same-length-3
-same-length-3 c = omega (arith, c .before .before .before .before .before .before .before .before .before .before .before .append .ensures .rooms .long-langs, c .before .before .before .before .before .before .before .before .before .before .before .before .before .before .before .before .before .before .before .before .before .before .before .before .pre .0 .long-langs)
-
-same-length-4 : tie.Need-same-length-4
-same-length-4 c = omega (arith, c .before .before .before .before .before .before .before .before .before .before .before .append .ensures .rooms .long-ord, c .before .before .before .before .before .before .before .before .before .before .before .before .before .before .before .before .before .before .before .before .before .before .before .before .pre .0 .long-ord)
+same-length-2 c = omega (arith, c .before .before .before .before .before .before .before .append .ensures .rooms .long-marks, c .before .before .before .before .before .before .before .before .before .before .before .before .before .before .before .before .pre .0 .long-marks)
 
 returns : tie.Need-returns
-returns c = letter-into _ _ _ _ _ _ _ _ (c .before .before .before .before .before .before .before .before .before .before .before .before .before .before .before .before .before .before .char-bytes .ensures .0) (c .before .before .before .before .before .before .before .before .before .before .before .before .before .before .before .before .before .before .char-bytes .ensures .1) _ _ (c .before .before .before .before .before .before .before .before .before .before .before .before .before .before .before .before .before .if1 .taken) _ refl _ (c .before .before .before .before .before .before .before .before .before .before .before .append .ensures) _ (c .before .k .given .1)
+returns c = letter-into _ _ _ _ _ _ _ _ (c .before .before .before .before .before .before .before .before .before .before .before .before .char-bytes .ensures .0) (c .before .before .before .before .before .before .before .before .before .before .before .before .char-bytes .ensures .1) _ _ (c .before .before .before .before .before .before .before .before .before .before .before .if1 .taken) _ refl _ (c .before .before .before .before .before .before .before .append .ensures) _ (c .before .k .given .1)
 
-same-length-5 : tie.Need-same-length-5
-same-length-5 c = omega (arith, c .before .before .before .before .before .before .before .before .before .before .append .ensures .rooms .long-store, c .before .before .before .before .before .before .before .before .before .before .before .before .before .before .before .before .before .before .before .before .before .before .before .pre .0 .long-store)
+same-length-3 : tie.Need-same-length-3
+same-length-3 c = omega (arith, c .before .before .before .before .before .before .append .ensures .rooms .long-store, c .before .before .before .before .before .before .before .before .before .before .before .before .before .before .before .pre .0 .long-store)
 
-same-length-6 : tie.Need-same-length-6
-same-length-6 c = omega (arith, c .before .before .before .before .before .before .before .before .before .before .append .ensures .rooms .long-lens, c .before .before .before .before .before .before .before .before .before .before .before .before .before .before .before .before .before .before .before .before .before .before .before .pre .0 .long-lens)
-
-same-length-7 : tie.Need-same-length-7
-same-length-7 c = omega (arith, c .before .before .before .before .before .before .before .before .before .before .append .ensures .rooms .long-langs, c .before .before .before .before .before .before .before .before .before .before .before .before .before .before .before .before .before .before .before .before .before .before .before .pre .0 .long-langs)
-
-same-length-8 : tie.Need-same-length-8
-same-length-8 c = omega (arith, c .before .before .before .before .before .before .before .before .before .before .append .ensures .rooms .long-ord, c .before .before .before .before .before .before .before .before .before .before .before .before .before .before .before .before .before .before .before .before .before .before .before .pre .0 .long-ord)
+same-length-4 : tie.Need-same-length-4
+same-length-4 c = omega (arith, c .before .before .before .before .before .before .append .ensures .rooms .long-marks, c .before .before .before .before .before .before .before .before .before .before .before .before .before .before .before .pre .0 .long-marks)
 
 returns-2 : tie.Need-returns-2
-returns-2 c = letter-long _ _ _ _ _ _ _ _ (c .before .before .before .before .before .before .before .before .before .before .before .before .before .before .before .before .before .char-bytes .ensures .0) (c .before .before .before .before .before .before .before .before .before .before .before .before .before .before .before .before .before .char-bytes .ensures .1) _ _ (c .before .before .before .before .before .before .before .before .before .before .before .before .before .before .before .before .if1 .taken) _ refl _ (c .before .before .before .before .before .before .before .before .before .before .append .ensures) (c .enum-told .given .1)
+returns-2 c = letter-long _ _ _ _ _ _ _ _ (c .before .before .before .before .before .before .before .before .before .before .before .char-bytes .ensures .0) (c .before .before .before .before .before .before .before .before .before .before .before .char-bytes .ensures .1) _ _ (c .before .before .before .before .before .before .before .before .before .before .if1 .taken) _ refl _ (c .before .before .before .before .before .before .append .ensures) (c .enum-told .given .1)
 
 returns-3 : tie.Need-returns-3
-returns-3 c = letter-kept _ _ _ _ _ _ _ _ (c .before .char-bytes .ensures .0) (c .before .char-bytes .ensures .1) (c .before .before .before .before .before .before .before .pre .0) _ (c .if1 .left)
+returns-3 c = letter-kept _ _ _ _ _ _ _ _ (c .before .char-bytes .ensures .0) (c .before .char-bytes .ensures .1) (c .before .before .before .before .before .pre .0) _ (c .if1 .left)
 
 pub letter-turn-spec : {M : Type 1} → statement M
 letter-turn-spec =
@@ -78,12 +66,8 @@ letter-turn-spec =
     enum-told
     same-length
     same-length-2
+    returns
     same-length-3
     same-length-4
-    returns
-    same-length-5
-    same-length-6
-    same-length-7
-    same-length-8
     returns-2
     returns-3)

@@ -8,22 +8,22 @@ use Rattle.phoneme_builder.proofs.pass.turn.Reads as reads
 use Rattle.phoneme_builder.proofs.pass.turn.Lts as lts
 
 first-match-requires : tie.Need-first-match-requires
-first-match-requires c κs = (c .before .before .before .before .before .before .before .before .before .pre .1 .1 .1 .1 .0 .0, c .before .before .before .before .before .before .before .before .before .pre .1 .1 .1 .1 .1)
+first-match-requires c κs = (c .before .before .before .before .before .before .before .pre .1 .1 .1 .1 .0 .0, c .before .before .before .before .before .before .before .pre .1 .1 .1 .1 .1)
 
 enum-known-step : tie.Need-enum-known-step
 enum-known-step c = search needs
 
 sub-apply-rule : tie.Need-sub-apply-rule
-sub-apply-rule c = match-by _ _ _ _ _ (c .before .before .before .before .before .before .before .before .first-match .ensures) _ _ _ (c .before .before .before .before .before .before .step .given .1) .placed .order
+sub-apply-rule c = match-by _ _ _ _ _ (c .before .before .before .before .before .before .first-match .ensures) _ _ _ (c .before .before .before .before .step .given .1) .placed .order
 
 part-apply-rule-start : tie.Need-part-apply-rule-start
-part-apply-rule-start c = match-by _ _ _ _ _ (c .before .before .before .before .before .before .before .before .first-match .ensures) _ _ _ (c .before .before .before .before .before .before .step .given .1) .placed .order
+part-apply-rule-start c = match-by _ _ _ _ _ (c .before .before .before .before .before .before .first-match .ensures) _ _ _ (c .before .before .before .before .step .given .1) .placed .order
 
 part-apply-rule-end : tie.Need-part-apply-rule-end
-part-apply-rule-end c = match-by _ _ _ _ _ (c .before .before .before .before .before .before .before .before .first-match .ensures) _ _ _ (c .before .before .before .before .before .before .step .given .1) .placed .fits
+part-apply-rule-end c = match-by _ _ _ _ _ (c .before .before .before .before .before .before .first-match .ensures) _ _ _ (c .before .before .before .before .step .given .1) .placed .fits
 
 apply-rule-requires : tie.Need-apply-rule-requires
-apply-rule-requires c κs = (c .before .before .before .before .before .before .before .before .before .before .before .before .before .before .before .before .before .before .before .pre .0, (c .before .before .before .before .before .before .before .before .before .before .before .before .before .before .before .before .before .before .before .pre .1 .0, (c .before .before .before .before .before .before .before .before .before .before .before .before .before .before .before .before .before .before .before .pre .1 .1 .0, (c .before .before .before .before .before .before .before .before .before .before .before .before .before .before .before .before .before .before .before .pre .1 .1 .1 .0, (expression-short (match-by _ _ _ _ _ (c .before .before .before .before .before .before .before .before .before .first-match .ensures) _ _ _ (c .before .before .before .before .before .before .before .step .given .1) .placed), c .before .before .before .before .before .before .before .before .before .before .before .before .before .before .before .before .before .before .before .pre .1 .1 .1 .1 .0 .1)))))
+apply-rule-requires c κs = (c .before .before .before .before .before .before .before .before .before .before .before .before .before .before .before .pre .0, (c .before .before .before .before .before .before .before .before .before .before .before .before .before .before .before .pre .1 .0, (c .before .before .before .before .before .before .before .before .before .before .before .before .before .before .before .pre .1 .1 .0, (c .before .before .before .before .before .before .before .before .before .before .before .before .before .before .before .pre .1 .1 .1 .0, (expression-short (match-by _ _ _ _ _ (c .before .before .before .before .before .before .before .first-match .ensures) _ _ _ (c .before .before .before .before .before .step .given .1) .placed), c .before .before .before .before .before .before .before .before .before .before .before .before .before .before .before .pre .1 .1 .1 .1 .0 .1)))))
 
 enum-known-k : tie.Need-enum-known-k
 enum-known-k c = search needs
@@ -35,58 +35,40 @@ enum-told-2 : tie.Need-enum-told-2
 enum-told-2 c = search needs
 
 letter-turn-requires : tie.Need-letter-turn-requires
-letter-turn-requires c κs = (c .before .before .before .before .before .before .before .before .before .before .before .before .before .before .before .before .pre .0, (c .before .before .before .before .before .before .before .before .before .before .before .before .before .before .before .before .pre .1 .0, (c .before .before .before .before .before .before .before .before .before .before .before .before .before .before .before .before .pre .1 .1 .0, c .before .before .before .before .before .before .before .before .before .before .before .before .before .before .before .before .pre .1 .1 .1 .1 .1)))
+letter-turn-requires c κs = (c .before .before .before .before .before .before .before .before .before .before .before .before .pre .0, (c .before .before .before .before .before .before .before .before .before .before .before .before .pre .1 .0, (c .before .before .before .before .before .before .before .before .before .before .before .before .pre .1 .1 .0, c .before .before .before .before .before .before .before .before .before .before .before .before .pre .1 .1 .1 .1 .1)))
 
 same-length : tie.Need-same-length
-same-length c = omega (arith, c .before .before .before .before .before .before .before .before .before .before .before .before .before .apply-rule .ensures .rooms .long-store, c .before .before .before .before .before .before .before .before .before .before .before .before .before .before .before .before .before .before .before .before .before .before .before .before .before .before .before .before .before .before .before .before .before .pre .0 .long-store)
+same-length c = omega (arith, c .before .before .before .before .before .before .before .before .before .apply-rule .ensures .rooms .long-store, c .before .before .before .before .before .before .before .before .before .before .before .before .before .before .before .before .before .before .before .before .before .before .before .before .before .pre .0 .long-store)
 
 same-length-2 : tie.Need-same-length-2
-same-length-2 c = omega (arith, c .before .before .before .before .before .before .before .before .before .before .before .before .before .apply-rule .ensures .rooms .long-lens, c .before .before .before .before .before .before .before .before .before .before .before .before .before .before .before .before .before .before .before .before .before .before .before .before .before .before .before .before .before .before .before .before .before .pre .0 .long-lens)
+same-length-2 c = omega (arith, c .before .before .before .before .before .before .before .before .before .apply-rule .ensures .rooms .long-marks, c .before .before .before .before .before .before .before .before .before .before .before .before .before .before .before .before .before .before .before .before .before .before .before .before .before .pre .0 .long-marks)
 
 same-length-3 : tie.Need-same-length-3
-same-length-3 c = omega (arith, c .before .before .before .before .before .before .before .before .before .before .before .before .before .apply-rule .ensures .rooms .long-langs, c .before .before .before .before .before .before .before .before .before .before .before .before .before .before .before .before .before .before .before .before .before .before .before .before .before .before .before .before .before .before .before .before .before .pre .0 .long-langs)
-
-same-length-4 : tie.Need-same-length-4
-same-length-4 c = omega (arith, c .before .before .before .before .before .before .before .before .before .before .before .before .before .apply-rule .ensures .rooms .long-ord, c .before .before .before .before .before .before .before .before .before .before .before .before .before .before .before .before .before .before .before .before .before .before .before .before .before .before .before .before .before .before .before .before .before .pre .0 .long-ord)
-
-same-length-5 : tie.Need-same-length-5
-same-length-5 c = omega (arith, c .before .before .before .before .alts .given)
+same-length-3 c = omega (arith, c .before .before .before .before .alts .given)
 
 returns : tie.Need-returns
-returns c = turn-rule _ _ _ _ _ _ _ _ _ _ _ _ _ _ _ (match-by _ _ _ _ _ (c .before .before .before .before .before .before .before .before .before .before .before .before .before .before .before .before .before .before .before .before .before .before .before .first-match .ensures) _ _ _ (c .before .before .before .before .before .before .before .before .before .before .before .before .before .before .before .before .before .before .before .before .before .step .given .1)) _ (c .before .before .before .before .before .before .before .before .before .before .before .before .before .apply-rule .ensures) _ (c .before .k .given .1)
+returns c = turn-rule _ _ _ _ _ _ _ _ _ _ _ _ _ _ _ (match-by _ _ _ _ _ (c .before .before .before .before .before .before .before .before .before .before .before .before .before .before .before .before .before .first-match .ensures) _ _ _ (c .before .before .before .before .before .before .before .before .before .before .before .before .before .before .before .step .given .1)) _ (c .before .before .before .before .before .before .before .before .before .apply-rule .ensures) _ (c .before .k .given .1)
+
+same-length-4 : tie.Need-same-length-4
+same-length-4 c = omega (arith, c .before .before .before .before .before .before .before .before .apply-rule .ensures .rooms .long-store, c .before .before .before .before .before .before .before .before .before .before .before .before .before .before .before .before .before .before .before .before .before .before .before .before .pre .0 .long-store)
+
+same-length-5 : tie.Need-same-length-5
+same-length-5 c = omega (arith, c .before .before .before .before .before .before .before .before .apply-rule .ensures .rooms .long-marks, c .before .before .before .before .before .before .before .before .before .before .before .before .before .before .before .before .before .before .before .before .before .before .before .before .pre .0 .long-marks)
 
 same-length-6 : tie.Need-same-length-6
-same-length-6 c = omega (arith, c .before .before .before .before .before .before .before .before .before .before .before .before .apply-rule .ensures .rooms .long-store, c .before .before .before .before .before .before .before .before .before .before .before .before .before .before .before .before .before .before .before .before .before .before .before .before .before .before .before .before .before .before .before .before .pre .0 .long-store)
-
-same-length-7 : tie.Need-same-length-7
-same-length-7 c = omega (arith, c .before .before .before .before .before .before .before .before .before .before .before .before .apply-rule .ensures .rooms .long-lens, c .before .before .before .before .before .before .before .before .before .before .before .before .before .before .before .before .before .before .before .before .before .before .before .before .before .before .before .before .before .before .before .before .pre .0 .long-lens)
-
-same-length-8 : tie.Need-same-length-8
-same-length-8 c = omega (arith, c .before .before .before .before .before .before .before .before .before .before .before .before .apply-rule .ensures .rooms .long-langs, c .before .before .before .before .before .before .before .before .before .before .before .before .before .before .before .before .before .before .before .before .before .before .before .before .before .before .before .before .before .before .before .before .pre .0 .long-langs)
-
-same-length-9 : tie.Need-same-length-9
-same-length-9 c = omega (arith, c .before .before .before .before .before .before .before .before .before .before .before .before .apply-rule .ensures .rooms .long-ord, c .before .before .before .before .before .before .before .before .before .before .before .before .before .before .before .before .before .before .before .before .before .before .before .before .before .before .before .before .before .before .before .before .pre .0 .long-ord)
-
-same-length-10 : tie.Need-same-length-10
-same-length-10 c = omega (arith, c .before .before .before .alts .given)
+same-length-6 c = omega (arith, c .before .before .before .alts .given)
 
 returns-2 : tie.Need-returns-2
-returns-2 c = turn-long _ _ _ _ _ _ _ _ _ _ _ _ _ _ _ (match-by _ _ _ _ _ (c .before .before .before .before .before .before .before .before .before .before .before .before .before .before .before .before .before .before .before .before .before .before .first-match .ensures) _ _ _ (c .before .before .before .before .before .before .before .before .before .before .before .before .before .before .before .before .before .before .before .before .step .given .1)) _ (c .before .before .before .before .before .before .before .before .before .before .before .before .apply-rule .ensures) (c .enum-told .given .1)
+returns-2 c = turn-long _ _ _ _ _ _ _ _ _ _ _ _ _ _ _ (match-by _ _ _ _ _ (c .before .before .before .before .before .before .before .before .before .before .before .before .before .before .before .before .first-match .ensures) _ _ _ (c .before .before .before .before .before .before .before .before .before .before .before .before .before .before .step .given .1)) _ (c .before .before .before .before .before .before .before .before .apply-rule .ensures) (c .enum-told .given .1)
 
-same-length-11 : tie.Need-same-length-11
-same-length-11 c = omega (arith, c .before .before .before .before .before .before .before .before .letter-turn .ensures .rooms .long-store, c .before .before .before .before .before .before .before .before .before .before .before .before .before .before .before .before .before .before .before .before .before .before .before .before .before .pre .0 .long-store)
+same-length-7 : tie.Need-same-length-7
+same-length-7 c = omega (arith, c .before .before .before .before .letter-turn .ensures .rooms .long-store, c .before .before .before .before .before .before .before .before .before .before .before .before .before .before .before .before .before .pre .0 .long-store)
 
-same-length-12 : tie.Need-same-length-12
-same-length-12 c = omega (arith, c .before .before .before .before .before .before .before .before .letter-turn .ensures .rooms .long-lens, c .before .before .before .before .before .before .before .before .before .before .before .before .before .before .before .before .before .before .before .before .before .before .before .before .before .pre .0 .long-lens)
-
-same-length-13 : tie.Need-same-length-13
-same-length-13 c = omega (arith, c .before .before .before .before .before .before .before .before .letter-turn .ensures .rooms .long-langs, c .before .before .before .before .before .before .before .before .before .before .before .before .before .before .before .before .before .before .before .before .before .before .before .before .before .pre .0 .long-langs)
-
-same-length-14 : tie.Need-same-length-14
-same-length-14 c = omega (arith, c .before .before .before .before .before .before .before .before .letter-turn .ensures .rooms .long-ord, c .before .before .before .before .before .before .before .before .before .before .before .before .before .before .before .before .before .before .before .before .before .before .before .before .before .pre .0 .long-ord)
+same-length-8 : tie.Need-same-length-8
+same-length-8 c = omega (arith, c .before .before .before .before .letter-turn .ensures .rooms .long-marks, c .before .before .before .before .before .before .before .before .before .before .before .before .before .before .before .before .before .pre .0 .long-marks)
 
 returns-3 : tie.Need-returns-3
-returns-3 c = turn-letter _ _ _ _ _ _ _ _ _ _ _ _ (match-none _ _ _ _ _ (c .before .before .before .before .before .before .before .before .before .before .before .before .before .before .before .first-match .ensures) (c .before .before .before .before .before .before .before .before .before .before .before .before .before .enum-told2 .given .1)) (c .before .before .before .before .before .before .before .before .letter-turn .ensures)
+returns-3 c = turn-letter _ _ _ _ _ _ _ _ _ _ _ _ (match-none _ _ _ _ _ (c .before .before .before .before .before .before .before .before .before .first-match .ensures) (c .before .before .before .before .before .before .before .enum-told2 .given .1)) (c .before .before .before .before .letter-turn .ensures)
 
 pub turn-spec : {M : Type 1} → statement M
 turn-spec =
@@ -105,17 +87,11 @@ turn-spec =
     same-length
     same-length-2
     same-length-3
+    returns
     same-length-4
     same-length-5
-    returns
     same-length-6
+    returns-2
     same-length-7
     same-length-8
-    same-length-9
-    same-length-10
-    returns-2
-    same-length-11
-    same-length-12
-    same-length-13
-    same-length-14
     returns-3)

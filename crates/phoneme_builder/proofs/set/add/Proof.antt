@@ -1,5 +1,5 @@
 use borrow.Author.Needs.{needs}
-use Rattle.phoneme_builder.proofs.AddLaws.{add-laws, write-held, add-row}
+use Rattle.phoneme_builder.proofs.AddLaws.{room-in, write-set, add-is}
 use Rattle.phoneme_builder.proofs.set.add.Statement.{statement}
 use Rattle.phoneme_builder.proofs.set.add.Tie as tie
 use Rattle.phoneme_builder.proofs.set.add.Reads as reads
@@ -8,37 +8,30 @@ use Rattle.phoneme_builder.proofs.set.enter.Reads as enter-reads
 use Rattle.phoneme_builder.proofs.set.write.Reads as write-reads
 
 write-requires : tie.Need-write-requires
-write-requires c κs = (search (add-laws, needs), search needs)
+write-requires c κs = room-in (c .before .before .before .before .before .pre .0) (c .before .before .before .before .before .pre .1 .1 .0) _ (c .before .before .before .before .before .pre .1 .1 .1)
+
+add-enter : tie.Need-add-enter
+add-enter c = search needs
 
 enter-requires : tie.Need-enter-requires
-enter-requires c κs =
-    let wrote = c .before .before .before .before .before .before .before .before .before .write .ensures in
-    let start = c .before .before .before .before .before .before .before .before .before .before .before .before .before .before .before .before .before .before .before .pre in
-    (write-held (start .0) wrote, (add-row (start .0) (c .before .before .before .before .before .before .before .before .before .before .before .before .before .before .before .before .before .before .before .args .a .now) (c .before .before .before .before .before .before .before .before .before .before .before .before .before .before .before .before .before .before .before .args .b .now) _ (start .1 .1 .1) wrote, search needs))
+enter-requires c κs = (write-set (c .before .before .before .before .before .before .before .before .before .before .pre .0) _ _ (c .before .before .before .before .write .ensures), (c .before .before .before .before .before .before .before .before .before .before .pre .1 .0, c .before .before .before .before .before .before .before .before .before .before .pre .1 .1))
 
 same-length : tie.Need-same-length
-same-length c = search (add-laws, needs)
+same-length c = search needs
 
 same-length-2 : tie.Need-same-length-2
-same-length-2 c = search (add-laws, needs)
-
-same-length-3 : tie.Need-same-length-3
-same-length-3 c = search (add-laws, needs)
-
-same-length-4 : tie.Need-same-length-4
-same-length-4 c = search (add-laws, needs)
+same-length-2 c = search needs
 
 returns : tie.Need-returns
-returns c = search (add-laws, needs)
+returns c = add-is (c .before .before .before .before .before .before .before .before .before .before .before .before .before .pre .0) (c .before .before .before .before .before .before .before .before .before .before .before .before .before .args .a .now) (c .before .before .before .before .before .before .before .before .before .before .before .before .before .args .b .now) _ (c .before .before .before .before .before .before .before .write .ensures) (c .before .before .before .before .before .before .before .before .before .before .before .before .before .pre .1 .1 .0) (c .before .before .before .before .before .before .before .before .before .before .before .before .before .pre .1 .1 .1) (c .before .before .before .before .before .before .before .before .before .before .before .before .before .args .g) _ _ (c .before .before .enter .ensures)
 
 pub add-spec : {M : Type 1} → statement M
 add-spec =
     tie.close
     (tie.spec
     write-requires
+    add-enter
     enter-requires
     same-length
     same-length-2
-    same-length-3
-    same-length-4
     returns)

@@ -11,9 +11,6 @@ mul-p c = search needs
 mul-l : tie.Need-mul-l
 mul-l c = search needs
 
-mul-o : tie.Need-mul-o
-mul-o c = search needs
-
 add-add : tie.Need-add-add
 add-add c = search needs
 
@@ -29,6 +26,9 @@ part-add-end c = search needs
 add-add-2 : tie.Need-add-add-2
 add-add-2 c = search needs
 
+mul-add : tie.Need-mul-add
+mul-add c = search needs
+
 sub-add-2 : tie.Need-sub-add-2
 sub-add-2 c = search needs
 
@@ -38,35 +38,8 @@ part-add-start-2 c = search needs
 part-add-end-2 : tie.Need-part-add-end-2
 part-add-end-2 c = search needs
 
-add-add-3 : tie.Need-add-add-3
-add-add-3 c = search needs
-
-mul-add : tie.Need-mul-add
-mul-add c = search needs
-
-sub-add-3 : tie.Need-sub-add-3
-sub-add-3 c = search needs
-
-part-add-start-3 : tie.Need-part-add-start-3
-part-add-start-3 c = search needs
-
-part-add-end-3 : tie.Need-part-add-end-3
-part-add-end-3 c = search needs
-
-add-add-4 : tie.Need-add-add-4
-add-add-4 c = search needs
-
-sub-add-4 : tie.Need-sub-add-4
-sub-add-4 c = search needs
-
-part-add-start-4 : tie.Need-part-add-start-4
-part-add-start-4 c = search needs
-
-part-add-end-4 : tie.Need-part-add-end-4
-part-add-end-4 c = search needs
-
 add-requires : tie.Need-add-requires
-add-requires c κs = (lent-set _ _ _ (c .before .before .before .before .before .before .before .before .before .before .pre .1 .0), (c .before .before .before .before .before .before .before .before .before .before .pre .1 .1 .0, c .before .before .before .before .before .before .before .before .before .before .pre .1 .1 .1))
+add-requires c κs = (lent-set _ _ _ (c .before .before .before .before .before .before .pre .1 .0), (c .before .before .before .before .before .before .pre .1 .1 .0, c .before .before .before .before .before .before .pre .1 .1 .1))
 
 same-length : tie.Need-same-length
 same-length c = search needs
@@ -74,14 +47,8 @@ same-length c = search needs
 same-length-2 : tie.Need-same-length-2
 same-length-2 c = search needs
 
-same-length-3 : tie.Need-same-length-3
-same-length-3 c = search needs
-
-same-length-4 : tie.Need-same-length-4
-same-length-4 c = search needs
-
 returns : tie.Need-returns
-returns c = grown (c .before .before .before .before .before .before .before .before .before .before .before .before .before .before .before .before .before .before .before .pre .0) (c .before .before .before .before .before .before .before .before .before .before .before .before .before .before .before .before .before .before .before .pre .1 .0 .known) (record { store = c .before .before .before .before .before .before .before .store .given .0; lens = c .before .before .before .before .before .lens .given .0; langs = c .before .before .before .langs .given .0; ord = c .before .ord .given .0 }) _ _ _ (c .before .before .before .before .before .before .before .before .add .ensures)
+returns c = grown (c .before .before .before .before .before .before .before .before .before .before .before .pre .0) (c .before .before .before .before .before .before .before .before .before .before .before .pre .1 .0 .known) (record { store = c .before .before .before .store .given .0; marks = c .before .marks .given .0 }) _ _ _ (c .before .before .before .before .add .ensures)
 
 pub add-to-spec : {M : Type 1} → statement M
 add-to-spec =
@@ -89,27 +56,16 @@ add-to-spec =
     (tie.spec
     mul-p
     mul-l
-    mul-o
     add-add
     sub-add
     part-add-start
     part-add-end
     add-add-2
+    mul-add
     sub-add-2
     part-add-start-2
     part-add-end-2
-    add-add-3
-    mul-add
-    sub-add-3
-    part-add-start-3
-    part-add-end-3
-    add-add-4
-    sub-add-4
-    part-add-start-4
-    part-add-end-4
     add-requires
     same-length
     same-length-2
-    same-length-3
-    same-length-4
     returns)

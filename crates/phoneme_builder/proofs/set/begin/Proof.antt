@@ -13,22 +13,16 @@ slice-aggregate-add-to-2 : tie.Need-slice-aggregate-add-to-2
 slice-aggregate-add-to-2 c = search needs
 
 add-to-requires : tie.Need-add-to-requires
-add-to-requires c κs = (c .before .before .before .before .before .before .before .before .before .before .pre .0, (none-at (c .before .before .before .before .before .before .before .before .before .before .pre .0) (c .before .before .before .before .before .before .before .before .before .before .pre .1 .0), (c .before .before .before .before .before .before .before .before .before .before .pre .1 .1, search needs)))
+add-to-requires c κs = (c .before .before .before .before .before .before .pre .0, (none-at (c .before .before .before .before .before .before .pre .0) (c .before .before .before .before .before .before .pre .1 .0), (c .before .before .before .before .before .before .pre .1 .1, search needs)))
 
 same-length : tie.Need-same-length
-same-length c = omega (arith, c .before .before .before .before .before .before .before .before .add-to .ensures .rooms .long-store, c .before .before .before .before .before .before .before .before .before .before .before .before .before .before .before .before .before .before .before .pre .0 .long-store)
+same-length c = omega (arith, c .before .before .before .before .add-to .ensures .rooms .long-store, c .before .before .before .before .before .before .before .before .before .before .before .pre .0 .long-store)
 
 same-length-2 : tie.Need-same-length-2
-same-length-2 c = omega (arith, c .before .before .before .before .before .before .before .before .add-to .ensures .rooms .long-lens, c .before .before .before .before .before .before .before .before .before .before .before .before .before .before .before .before .before .before .before .pre .0 .long-lens)
-
-same-length-3 : tie.Need-same-length-3
-same-length-3 c = omega (arith, c .before .before .before .before .before .before .before .before .add-to .ensures .rooms .long-langs, c .before .before .before .before .before .before .before .before .before .before .before .before .before .before .before .before .before .before .before .pre .0 .long-langs)
-
-same-length-4 : tie.Need-same-length-4
-same-length-4 c = omega (arith, c .before .before .before .before .before .before .before .before .add-to .ensures .rooms .long-ord, c .before .before .before .before .before .before .before .before .before .before .before .before .before .before .before .before .before .before .before .pre .0 .long-ord)
+same-length-2 c = omega (arith, c .before .before .before .before .add-to .ensures .rooms .long-marks, c .before .before .before .before .before .before .before .before .before .before .before .pre .0 .long-marks)
 
 returns : tie.Need-returns
-returns c = begun _ _ _ _ _ (c .before .before .before .before .before .before .before .before .add-to .ensures)
+returns c = begun _ _ _ _ _ (c .before .before .before .before .add-to .ensures)
 
 pub begin-spec : {M : Type 1} → statement M
 begin-spec =
@@ -39,6 +33,4 @@ begin-spec =
     add-to-requires
     same-length
     same-length-2
-    same-length-3
-    same-length-4
     returns)

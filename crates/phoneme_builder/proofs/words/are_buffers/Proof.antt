@@ -9,23 +9,15 @@ use Rattle.phoneme_builder.proofs.words.are_buffers.Lts as lts
 
 returns : tie.Need-returns
 unfolding areBuffers
-returns c = and-rest _ _ _ (eq-eqb _ _ (c .before .before .before .if1 .taken)) (and-rest _ _ _ (eq-eqb _ _ (c .before .before .if2 .taken)) (and-rest _ _ _ (eq-eqb _ _ (c .before .if3 .taken)) (and-rest _ _ _ (eq-eqb _ _ (c .if4 .taken)) (refl))))
+returns c = and-rest _ _ _ (eq-eqb _ _ (c .before .if1 .taken)) (and-rest _ _ _ (eq-eqb _ _ (c .if2 .taken)) refl)
 
 returns-2 : tie.Need-returns-2
 unfolding areBuffers
-returns-2 c = and-rest _ _ _ (eq-eqb _ _ (c .before .before .before .if1 .taken)) (and-rest _ _ _ (eq-eqb _ _ (c .before .before .if2 .taken)) (and-rest _ _ _ (eq-eqb _ _ (c .before .if3 .taken)) (and-none _ _ _ (ne-eqb _ _ (c .if4 .left)) refl)))
+returns-2 c = and-rest _ _ _ (eq-eqb _ _ (c .before .if1 .taken)) (and-none _ _ _ (ne-eqb _ _ (c .if2 .left)) refl)
 
 returns-3 : tie.Need-returns-3
 unfolding areBuffers
-returns-3 c = and-rest _ _ _ (eq-eqb _ _ (c .before .before .if1 .taken)) (and-rest _ _ _ (eq-eqb _ _ (c .before .if2 .taken)) (and-none _ _ _ (ne-eqb _ _ (c .if3 .left)) refl))
-
-returns-4 : tie.Need-returns-4
-unfolding areBuffers
-returns-4 c = and-rest _ _ _ (eq-eqb _ _ (c .before .if1 .taken)) (and-none _ _ _ (ne-eqb _ _ (c .if2 .left)) refl)
-
-returns-5 : tie.Need-returns-5
-unfolding areBuffers
-returns-5 c = and-none _ _ _ (ne-eqb _ _ (c .if1 .left)) refl
+returns-3 c = and-none _ _ _ (ne-eqb _ _ (c .if1 .left)) refl
 
 pub are-buffers-spec : {M : Type 1} → statement M
 are-buffers-spec =
@@ -33,6 +25,4 @@ are-buffers-spec =
     (tie.spec
     returns
     returns-2
-    returns-3
-    returns-4
-    returns-5)
+    returns-3)

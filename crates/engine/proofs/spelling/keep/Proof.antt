@@ -1,0 +1,48 @@
+use Rattle.engine.proofs.AnswerLaws.{kept-copied, kept-long, kept-over, kept-none}
+use borrow.Author.Needs.{needs}
+use Rattle.engine.proofs.spelling.keep.Statement.{statement}
+use Rattle.engine.proofs.spelling.keep.Tie as tie
+use Rattle.engine.proofs.spelling.keep.Reads as reads
+use Rattle.engine.proofs.spelling.keep.Lts as lts
+use Rattle.name_parts.proofs.copy.Reads as copy-reads
+
+sub-copy : tie.Need-sub-copy
+sub-copy c = search needs
+
+part-copy-start : tie.Need-part-copy-start
+part-copy-start c = search needs
+
+part-copy-end : tie.Need-part-copy-end
+part-copy-end c = search needs
+
+copy-requires : tie.Need-copy-requires
+copy-requires c κs = search needs
+
+same-length : tie.Need-same-length
+same-length c = c .before .out .given
+
+returns : tie.Need-returns
+returns c = kept-copied _ _ _ (c .before .before .before .before .before .before .before .if1 .taken) (c .before .before .before .before .before .before .if2 .taken) (c .before .before .before .before .before .if3 .taken) (c .before .before .copy .ensures)
+
+returns-2 : tie.Need-returns-2
+returns-2 c = kept-long _ _ _ (c .before .before .if1 .taken) (c .before .if2 .taken)
+
+returns-3 : tie.Need-returns-3
+returns-3 c = kept-over _ _ _ (c .if2 .left)
+
+returns-4 : tie.Need-returns-4
+returns-4 c = kept-none _ _ _ (c .if1 .left)
+
+pub keep-spec : {M : Type 1} → statement M
+keep-spec =
+    tie.close
+    (tie.spec
+    sub-copy
+    part-copy-start
+    part-copy-end
+    copy-requires
+    same-length
+    returns
+    returns-2
+    returns-3
+    returns-4)

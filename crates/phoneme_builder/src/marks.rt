@@ -1,0 +1,24 @@
+// Three numbers in one: languages and two bytes. An alternative is one, with where it starts in its expression and where it ends;
+// so is a text of a set, with its row and its length.
+ghost use mathlib.Core.Path.{_≡_};
+ghost use Prim.Native.Nat.{_<_};
+ghost use Rattle.phoneme_builder.specs.Buffers.{packedOf, firstOf, secondOf};
+
+pub(crate) fn packed(set: u64, first: usize, second: usize) -> u64
+    requires { ⌜ (set < 17179869184) × (first < 256) × (second < 256) ⌝ }
+    ensures { λ r. ⌜ r ≡ packedOf set first second ⌝ }
+{
+    set * 65536 + (first as u64) * 256 + second as u64
+}
+
+pub(crate) fn first_of(x: u64) -> usize
+    ensures { λ r. ⌜ r ≡ firstOf x ⌝ }
+{
+    (x / 256 % 256) as usize
+}
+
+pub(crate) fn second_of(x: u64) -> usize
+    ensures { λ r. ⌜ r ≡ secondOf x ⌝ }
+{
+    (x % 256) as usize
+}
