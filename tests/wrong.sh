@@ -1,6 +1,6 @@
 #!/bin/sh
 # wrong.sh [CRATE..]: the second half of the wrong programs, tests/wrong/CRATE/*.edit, tried as the gate tries the first half (crates/CRATE/must-fail).
-# The gate has one of each promise or more, these are the others: with both, two wrong answers of every public promise. They are put beside the
+# The gate has one of each promise where its crate is cheap, these are the others: with both, two wrong answers of every public promise. They are put beside the
 # gate's in a copy of the repository, and `rt must-fail` tries them there, with those of the crates below; it takes about as long as the gate.
 set -eu
 root=$(cd "$(dirname "$0")/.." && pwd -P)
