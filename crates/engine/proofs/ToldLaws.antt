@@ -180,5 +180,3 @@ module _ {f : Text → Spelt} {name : Text} {o₀ o : List ℕ} {at p : ℕ} {al
 
       pub words-turn : WordsTold f name o₀ o at p all → (p′ : ℕ) → p′ ≡ pastWord name p → WordsTold f name o₀ o₂ at p′ r
       words-turn k p′ ep = rw ep (record { fits = k .fits; room = k .room; so-far = turn-by (k .so-far) })
-
-pub ruleset told-laws = (both-told, words-start, words-end, words-place, words-turn)
