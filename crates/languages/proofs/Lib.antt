@@ -1,3 +1,4 @@
+pub mod Arms
 pub mod NameLaws
 pub mod Laws
 pub mod CodedLaws
