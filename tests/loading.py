@@ -7,8 +7,8 @@ Tried are N random folders, with includes up to 8 deep, first characters that an
 with --real the real rules (oracle/rules fetches them) less the lines that document 01 refuses. The port's program `ask` loads the
 files as a bundle, bm-lists has what the original loads, and the lists are compared as bm-lists prints them. With --lines each line of
 cases.py is tried alone in its kind of file, and those are printed that one of the two takes and the other does not, or that say something
-else to each (docs/DIFFERENCES.md has them). The exit status is 1 where the lists of a random folder or of the real rules differ. The original is
-built by oracle/build.
+else to each (docs/DIFFERENCES.md has them). The exit status is 1 where the lists of a random folder or of the real rules differ, where the port
+refuses a folder that the second check loads (or otherwise), and where under half of the folders were loaded. The original is built by oracle/build.
 """
 import argparse
 import collections
@@ -104,15 +104,16 @@ class Folder:
 
 
 def port(tries):
-    """What the port loads of (type, files) pairs: the pack, or code, place and file."""
-    lines = []
+    """What the port loads of (type, files) pairs, and what the second check does: the pack, or code, place and file."""
+    lines, expected = [], []
     for name_type, files in tries:
         bundle = second.bundle_bytes(files)
         answer = second.load(name_type, bundle)
+        expected.append(answer if answer[0] else answer[1])
         lines.append(cases.load_case(bundle, name_type, 0 if answer[0] else len(answer[1]))[0])
-    for answer in compare.run(compare.ASK, lines):
+    for answer, second_answer in zip(compare.run(compare.ASK, lines), expected):
         fields = answer.split(" ")
-        yield second.bytes_of(fields[2]) if fields[0] == "0" else tuple(int(field) for field in fields[:3])
+        yield second.bytes_of(fields[2]) if fields[0] == "0" else tuple(int(field) for field in fields[:3]), second_answer
 
 
 # ---- random folders that both can read
@@ -183,9 +184,14 @@ def try_random(rng, count, folder):
     while count > 0:
         tries = [random_try(rng) for _ in range(min(BATCH, count))]
         count -= len(tries)
-        for (name_type, files), loaded in zip(tries, port(tries)):
-            if isinstance(loaded, tuple):
+        for (name_type, files), (loaded, expected) in zip(tries, port(tries)):
+            if isinstance(loaded, tuple) and loaded == expected:
                 tally["refused with %d" % loaded[0]] += 1
+                continue
+            if loaded != expected:
+                tally["differ"] += 1
+                if tally["differ"] <= 5:
+                    print("type %d %r\n  port %s\n  second check %s" % (name_type, files, loaded, expected))
                 continue
             shown = shown_pack(loaded)
             tally["compared"] += 1
@@ -198,6 +204,9 @@ def try_random(rng, count, folder):
                 if tally["differ"] <= 5:
                     print("type %d %r\n  port %s\n  original %s" % (name_type, files, shown, told))
     print("random folders: " + ", ".join("%s %d" % pair for pair in sorted(tally.items())))
+    if 2 * tally["compared"] < sum(count for name, count in tally.items() if name == "compared" or name.startswith("refused")):
+        print("under half of the folders were loaded, so too little was compared")
+        return tally["differ"] + 1
     return tally["differ"]
 
 
@@ -224,7 +233,7 @@ def try_real(folder):
         files = {name: b"\n".join(lines[name]) for name in needed(lines, prefix)}
         heads = len(second.bundle_bytes(files)) > second.LONGEST_PACK
         given = {name: without_head(content) for name, content in files.items()} if heads else files
-        loaded = next(port([(name_type, given)]))
+        loaded, _ = next(port([(name_type, given)]))
         shown = None if isinstance(loaded, tuple) else shown_pack(loaded)
         same = shown == folder.original({name: content for name, content in files.items()}, name_type)
         differ += not same
@@ -251,7 +260,7 @@ def single_lines():
 def try_lines(folder):
     tries = list(single_lines())
     both = 0
-    for (kind, line, files), loaded in zip(tries, port([(1, files) for _, _, files in tries])):
+    for (kind, line, files), (loaded, _) in zip(tries, port([(1, files) for _, _, files in tries])):
         told = folder.original(files, 1)
         if isinstance(loaded, tuple) and isinstance(told, int):
             both += 1
