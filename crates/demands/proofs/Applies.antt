@@ -16,20 +16,16 @@ use Rattle.choices.proofs.TextLaws.{clash}
 use Rattle.choices.proofs.ApplyLaws.{Applied}
 use Rattle.phoneme_builder.specs.Sets.{Spelling, refusal, texts, holds, remerged, united}
 use Rattle.phoneme_builder.specs.Passes.{Matcher, Turn, rule, letter, turnsOf, Ran, tooLong, ran, flagged, applied, after, unmatched, run, raised, onRan, finalText, finalFrom, finalPass, then, mainOf, wordOf}
-use Rattle.demands.specs.Applies.{ApplyOf, Reached, FinalReached, WordReached, in-main, in-common, in-language}
+use Rattle.demands.specs.Applies.{UpWhen, ApplyOf, Reached, FinalReached, WordReached, in-main, in-common, in-language}
 
--- ---- a flag that is up exactly where P holds
+-- ---- flags
 
-pub record FlagIs (f : Bool) (P : Type 0) : Type 0 where
-  pub up : f ≡ true → P
-  pub raised-by : P → f ≡ true
-
-either-up : {P Q : Type 0} (a b : Bool) → FlagIs a P → FlagIs b Q → pick a true b ≡ true → P ⊎ Q
+either-up : {P Q : Type 0} (a b : Bool) → UpWhen a P → UpWhen b Q → pick a true b ≡ true → P ⊎ Q
 unfolding pick
 either-up true b p q e = inl (p .up refl)
 either-up false b p q e = inr (q .up e)
 
-either-raised : {P Q : Type 0} (a b : Bool) → FlagIs a P → FlagIs b Q → P ⊎ Q → pick a true b ≡ true
+either-raised : {P Q : Type 0} (a b : Bool) → UpWhen a P → UpWhen b Q → P ⊎ Q → pick a true b ≡ true
 unfolding pick
 either-raised true b p q h = refl
 either-raised false b p q (inl h) =
@@ -38,14 +34,14 @@ either-raised false b p q (inl h) =
 either-raised false b p q (inr h) = q .raised-by h
 
 -- one of two flags
-pub either : {P Q : Type 0} {a b : Bool} → FlagIs a P → FlagIs b Q → FlagIs (pick a true b) (P ⊎ Q)
+pub either : {P Q : Type 0} {a b : Bool} → UpWhen a P → UpWhen b Q → UpWhen (pick a true b) (P ⊎ Q)
 either {a} {b} p q = record { up = either-up a b p q; raised-by = either-raised a b p q }
 
 -- the same, said otherwise
-pub same-flag : {P Q : Type 0} {f g : Bool} → f ≡ g → (P → Q) → (Q → P) → FlagIs f P → FlagIs g Q
+pub same-flag : {P Q : Type 0} {f g : Bool} → f ≡ g → (P → Q) → (Q → P) → UpWhen f P → UpWhen g Q
 same-flag e to from p = record { up = λ u. to (p .up (e ∙ u)); raised-by = λ h. sym e ∙ p .raised-by (from h) }
 
-pub never : {P : Type 0} {f : Bool} → f ≡ false → (P → ⊥) → FlagIs f P
+pub never : {P : Type 0} {f : Bool} → f ≡ false → (P → ⊥) → UpWhen f P
 never e out = record { up = λ u. clash (cc); raised-by = λ h. absurd (out h) }
 
 -- ---- an apply of a pass
@@ -137,7 +133,7 @@ of-none (t ∷ before) last behind s = clash (cc)
 
 -- ---- a pass: its flag is up exactly where an apply of it reached the limit
 
-pub leb-is : (limit n : ℕ) → FlagIs (leb limit n) (limit ≤ n)
+pub leb-is : (limit n : ℕ) → UpWhen (leb limit n) (limit ≤ n)
 leb-is limit n = record { up = leb-true limit n; raised-by = le-leb limit n }
 
 module _ (final : Bool) (limit : ℕ) where
@@ -152,8 +148,8 @@ module _ (final : Bool) (limit : ℕ) where
   reached-rule {new = new} h (inr a) = inr (record { new = new; by = a; many = h })
 
   rule-flag : (alts : List Alternative) (turns : List Turn) (l r : List Entry) (f : Bool) (o : Outcome) → apply limit alts l ≡ o
-      → ((m : List Entry) (d : Bool) → run final limit turns m ≡ ran r d → FlagIs d (Reached final limit turns m))
-      → applied limit o (run final limit turns) ≡ ran r f → FlagIs f (Reached final limit (rule alts ∷ turns) l)
+      → ((m : List Entry) (d : Bool) → run final limit turns m ≡ ran r d → UpWhen d (Reached final limit turns m))
+      → applied limit o (run final limit turns) ≡ ran r f → UpWhen f (Reached final limit (rule alts ∷ turns) l)
   unfolding applied
   rule-flag alts turns l r f refused q ih e = clash (cc)
   rule-flag alts turns l r f (held m) q ih e =
@@ -162,15 +158,15 @@ module _ (final : Bool) (limit : ℕ) where
       same-flag (came .2) (rule-reached by) (λ h. reached-rule (h .many) (of-rule final limit by (h .by))) (either (leb-is limit (length m)) (ih m (came .0) (came .1)))
 
   letter-flag : (c : Text) (turns : List Turn) (l r : List Entry) (f : Bool) (o : Outcome) → unmatched final c l ≡ o
-      → ((m : List Entry) (d : Bool) → run final limit turns m ≡ ran r d → FlagIs d (Reached final limit turns m))
-      → after o (run final limit turns) ≡ ran r f → FlagIs f (Reached final limit (letter c ∷ turns) l)
+      → ((m : List Entry) (d : Bool) → run final limit turns m ≡ ran r d → UpWhen d (Reached final limit turns m))
+      → after o (run final limit turns) ≡ ran r f → UpWhen f (Reached final limit (letter c ∷ turns) l)
   unfolding after
   letter-flag c turns l r f refused q ih e = clash (cc)
   letter-flag c turns l r f (held m) q ih e =
       same-flag refl (λ h. record { new = h .new; by = behind-letter final limit m q (h .by); many = h .many })
       (λ h. record { new = h .new; by = of-letter final limit m q (h .by); many = h .many }) (ih m f e)
 
-  pub run-flag : (turns : List Turn) (l r : List Entry) (f : Bool) → run final limit turns l ≡ ran r f → FlagIs f (Reached final limit turns l)
+  pub run-flag : (turns : List Turn) (l r : List Entry) (f : Bool) → run final limit turns l ≡ ran r f → UpWhen f (Reached final limit turns l)
   unfolding run
   run-flag [] l r f e = never (cc) (λ h. of-none (h .by .before) (h .by .alts) (h .by .behind) (h .by .turns-are))
   run-flag (rule alts ∷ turns) l r f e = rule-flag alts turns l r f (apply limit alts l) refl (λ m d. run-flag turns m r d) e
@@ -213,8 +209,8 @@ module _ (limit : ℕ) (names : List ℕ) (rules : Matcher) where
   reached-by {x = x} h (inr m) = inr (record { text = x; among = m; reached = h })
 
   text-flag : (e : Entry) (old l m : List Entry) (f : Bool) (x : Ran) → run true limit (turnsOf names rules (e .text)) (start (e .langs)) ≡ x
-      → ((k : List Entry) (d : Bool) → finalFrom limit names rules old k ≡ texts m d → FlagIs d (FinalReached limit names rules old))
-      → onRan (e .langs) x l (finalFrom limit names rules old) ≡ texts m f → FlagIs f (FinalReached limit names rules (e ∷ old))
+      → ((k : List Entry) (d : Bool) → finalFrom limit names rules old k ≡ texts m d → UpWhen d (FinalReached limit names rules old))
+      → onRan (e .langs) x l (finalFrom limit names rules old) ≡ texts m f → UpWhen f (FinalReached limit names rules (e ∷ old))
   unfolding onRan TextReached
   text-flag e old l m f tooLong q ih k = clash (cc)
   text-flag e old l m f (ran new u) q ih k =
@@ -223,13 +219,13 @@ module _ (limit : ℕ) (names : List ℕ) (rules : Matcher) where
       same-flag (came .2) more-reached (λ h. reached-by (h .reached) (List·Memᴰ·cases-cons (h .among)))
       (either (run-flag true limit _ _ new u q) (ih (rest .0) (came .0) (rest .1)))
 
-  from-flag : (old l m : List Entry) (f : Bool) → finalFrom limit names rules old l ≡ texts m f → FlagIs f (FinalReached limit names rules old)
+  from-flag : (old l m : List Entry) (f : Bool) → finalFrom limit names rules old l ≡ texts m f → UpWhen f (FinalReached limit names rules old)
   unfolding finalFrom finalText
   from-flag [] l m f e = never (cc) (λ h. List·Memᴰ·not-nil (h .among))
   from-flag (e ∷ old) l m f k =
       text-flag e old l m f (run true limit (turnsOf names rules (e .text)) (start (e .langs))) refl (λ k d. from-flag old k m d) k
 
-  pub final-flag : (old m : List Entry) (f : Bool) → finalPass limit names rules old ≡ texts m f → FlagIs f (FinalReached limit names rules old)
+  pub final-flag : (old m : List Entry) (f : Bool) → finalPass limit names rules old ≡ texts m f → UpWhen f (FinalReached limit names rules old)
   unfolding finalPass
   final-flag old m f e = from-flag old [] m f e
 
@@ -268,7 +264,7 @@ module _ (limit : ℕ) (names : List ℕ) (main common language : Matcher) (g : 
         inr (inr (rw same at h))
 
   -- the flag of a word that is spelled is up exactly where an apply of one of its passes reached the limit
-  pub word-flag : (m : List Entry) (f : Bool) → wordOf limit names main common language g w ≡ texts m f → FlagIs f (WordReached limit names main common language g w)
+  pub word-flag : (m : List Entry) (f : Bool) → wordOf limit names main common language g w ≡ texts m f → UpWhen f (WordReached limit names main common language g w)
   unfolding wordOf
   word-flag m f e =
       let a = then-inv _ _ m f e in
@@ -277,3 +273,12 @@ module _ (limit : ℕ) (names : List ℕ) (main common language : Matcher) (g : 
       same-flag (ap (λ (d : Bool). pick (a .1) true d) (b .5) ∙ a .5) (word-reached (a .0) (b .0) (a .1) (b .1) first (b .3)) (reached-word (a .0) (b .0) (a .1) (b .1) first (b .3))
       (either (run-flag false limit _ _ (a .0) (a .1) first)
       (either (final-flag limit names common (a .0) (b .0) (b .1) (b .3)) (final-flag limit names language (b .0) m (b .2) (b .4))))
+
+  -- its main pass, whose flag raises the word's
+  pub word-main : (m : List Entry) (f : Bool) → wordOf limit names main common language g w ≡ texts m f
+      → (l : List Entry) × (u : Bool) × (run false limit (turnsOf names main w) (start g) ≡ ran l u) × (u ≡ true → f ≡ true)
+  unfolding wordOf
+  word-main m f e =
+      let a = then-inv _ _ m f e in
+      let first = main-inv _ (a .0) (a .1) (a .3) in
+      (a .0, a .1, first, λ u. word-flag m f e .raised-by (in-main (run-flag false limit _ _ (a .0) (a .1) first .up u)))

@@ -11,6 +11,11 @@ use Rattle.choices.specs.Apply.{Alternative, Entry, held, apply, start}
 use Rattle.phoneme_builder.specs.Sets.{texts}
 use Rattle.phoneme_builder.specs.Passes.{Matcher, Turn, rule, turnsOf, ran, run, finalPass}
 
+-- a flag that is up exactly when P holds
+pub record UpWhen (flag : Bool) (P : Type 0) : Type 0 where
+  pub up : flag ≡ true → P
+  pub raised-by : P → flag ≡ true
+
 -- an apply of a pass from the texts l, and the texts that it ended with: some turn, which the turns before it led to
 pub record ApplyOf (final : Bool) (limit : ℕ) (turns : List Turn) (l new : List Entry) : Type 0 where
   pub before : List Turn
