@@ -2,7 +2,7 @@
 use mathlib.Core.Path.{_≡_, refl, sym, ap, _∙_}
 use mathlib.Core.Bool.{Bool, true, false}
 use mathlib.Core.List.{List}
-use Prim.Native.Nat.{ℕ, _*_}
+use Prim.Native.Nat.{ℕ}
 use lib.Dec.{leb}
 use lib.ListN.{length}
 use Rattle.base.specs.Pick.{pick}
@@ -14,12 +14,12 @@ use Rattle.languages.specs.declared.sets.LanguageSet.{LanguageSet}
 use Rattle.name_parts.specs.Joining.{spaced}
 use Rattle.pack.specs.Packs.{Pack, Verdict, accepted, refused, packOf}
 use Rattle.choices.specs.Texts.{Text}
-use Rattle.choices.specs.Apply.{Entry, start}
+use Rattle.choices.specs.Apply.{Entry}
 use Rattle.choices.proofs.TextLaws.{clash}
 use Rattle.phoneme_builder.specs.Sets.{Spelling, refusal, texts}
-use Rattle.phoneme_builder.specs.Passes.{run, ran, wordOf}
+use Rattle.phoneme_builder.specs.Passes.{wordOf}
 use Rattle.engine.specs.Spelling.{Spelt, bad, good, spelledName}
-use Rattle.engine.specs.Calls.{languageOf, listOf, speltBy, wordBy, stepsBy, stepsOf, startSet, spelledBy, Outcome, refusedBy, key, outcomeOf, unless, onPack, lettersThen, checkedThen, callOf, toldOf, SpellIs}
+use Rattle.engine.specs.Calls.{speltBy, wordBy, stepsBy, stepsOf, startSet, spelledBy, Outcome, refusedBy, key, outcomeOf, unless, onPack, lettersThen, checkedThen, callOf, toldOf, SpellIs}
 use Rattle.engine.specs.declared.call.Settings.{Settings}
 use Rattle.engine.specs.declared.call.Start.{Start}
 use Rattle.engine.specs.declared.spelling.Spelled.{Spelled}
@@ -27,8 +27,8 @@ use Rattle.engine.specs.declared.spelling.Spelled.the-variants.{Done, Refused}
 use Rattle.demands.specs.Applies.{UpWhen, WordReached}
 use Rattle.demands.proofs.Applies.{word-main, word-flag}
 use Rattle.demands.proofs.Demand3.{demand-3-of-a-word}
-use Rattle.answers.specs.Answers.{WordOfCall, namesIn, mainRules, commonRules, ownRules, mainTurns, MainPass, CallReached, Demand3OfCall}
-use Rattle.answers.proofs.Names.{Part, words-spelled, Up, WordUp, name-up}
+use Rattle.answers.specs.Answers.{WordOfCall, namesIn, mainRules, commonRules, ownRules, MainPass, CallReached, Demand3OfCall}
+use Rattle.answers.proofs.Names.{Part, words-spelled, name-up}
 
 -- ---- a word
 
@@ -58,12 +58,11 @@ module _ (s : List ℕ) (p : Pack) (c : Settings) (g : LanguageSet) (w : Text) w
       word-flag (c .limit) (namesIn s p) (mainRules p g) (commonRules c p) (ownRules c p g) g w (a .0) f (a .1)
 
   -- its main pass, where its flag raises the call's
-  main-pass : (accepts : packOf s ≡ accepted p) (f : Bool) → Part (stepsOf s p c .word g w) f → MainPass (c .limit) s p g w f
-  unfolding listOf
-  main-pass accepts f part =
+  main-pass : (f : Bool) → Part (stepsOf s p c .word g w) f → MainPass (c .limit) s p g w f
+  main-pass f part =
       let a = word-came (part .text) (part .up) (part .is) in
       let m = word-main (c .limit) (namesIn s p) (mainRules p g) (commonRules c p) (ownRules c p g) g w (a .0) (part .up) (a .1) in
-      let told = demand-3-of-a-word s p accepts (3 * languageOf p g) (namesIn s p) w g (c .limit) (m .0) (m .1) (m .2) in
+      let told = demand-3-of-a-word (namesIn s p) (mainRules p g) w g (c .limit) (m .0) (m .1) (m .2) in
       let down : f ≡ false → m .1 ≡ false = λ d. stays-down (m .1) f (λ u. part .raises (m .3 u)) d in
       record { entries = m .0; up = m .1; came = m .2; demand = told; down = down; once = λ d. told .down-once (down d) }
 
@@ -108,7 +107,7 @@ module _ (c : Settings) (begin : Start) (s : List ℕ) (name t : Text) (f : Bool
     pass-of : (q : Pack) (g : LanguageSet) (w : Text) → WordOfCall c begin s name q g w → MainPass (c .limit) s q g w f
     pass-of q g w d =
         let same : p ≡ q = cc in
-        main-pass s q c g w (d .good) f (words-spelled (stepsOf s q c) (d .spelled) t f (rw same at e))
+        main-pass s q c g w f (words-spelled (stepsOf s q c) (d .spelled) t f (rw same at e))
 
     up-of : f ≡ true → CallReached c begin s name
     up-of u =

@@ -13,14 +13,14 @@ use Rattle.pack.specs.Packs.{Pack, packOf, accepted}
 use Rattle.pack.specs.Places.{textBytes}
 use Rattle.choices.specs.Texts.{Text}
 use Rattle.choices.specs.Apply.{Entry, texts, start}
-use Rattle.choices.specs.Choices.{Choice, spelt, times, AlikeAgree}
+use Rattle.choices.specs.Choices.{Choice, spelt, times}
 use Rattle.phoneme_builder.specs.Passes.{Matcher, Turn, firstMatch, turnsOf, ran, run}
 use Rattle.engine.specs.Spelling.{Steps, partedAs}
 use Rattle.engine.specs.Calls.{languageOf, listOf, stepsOf, startSet}
 use Rattle.engine.specs.declared.call.Settings.{Settings}
 use Rattle.engine.specs.declared.call.Start.{Start}
 use Rattle.demands.specs.Applies.{UpWhen, WordReached}
-use Rattle.demands.specs.Demands.{placesOf, Demand3OfWord}
+use Rattle.demands.specs.Demands.{placesOf, AlikeAgree, Demand3OfWord}
 
 -- ---- the words
 
@@ -68,9 +68,9 @@ pub record MainPass (limit : ℕ) (s : List ℕ) (p : Pack) (g : LanguageSet) (w
   pub entries : List Entry
   pub up : Bool
   pub came : run false limit (mainTurns s p g w) (start g) ≡ ran entries up
-  pub demand : Demand3OfWord limit g (placesOf (mainTurns s p g w)) entries up
+  pub demand : Demand3OfWord limit g (mainTurns s p g w) entries up
   pub down : flag ≡ false → up ≡ false
-  pub once : flag ≡ false → AlikeAgree g (placesOf (mainTurns s p g w)) → (c : Choice g (placesOf (mainTurns s p g w))) → times (spelt c) (texts entries) ≡ 1
+  pub once : flag ≡ false → AlikeAgree g (mainTurns s p g w) → (c : Choice g (placesOf (mainTurns s p g w))) → times (spelt c) (texts entries) ≡ 1
 
 -- "some apply of the call ended with a count at or over the limit": in a pass of one of its words
 pub record CallReached (c : Settings) (begin : Start) (s : List ℕ) (name : Text) : Type 0 where

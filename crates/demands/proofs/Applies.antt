@@ -1,10 +1,9 @@
 -- A word's flag is up exactly where one of its applies reached the limit. Assumes nothing.
-use Prim.Native.Nat.{ℕ, _≤_, _<_}
+use Prim.Native.Nat.{ℕ, _≤_}
 use mathlib.Core.Path.{_≡_, refl, sym, ap, _∙_}
 use mathlib.Core.Bool.{Bool, true, false}
 use mathlib.Core.List.{List, [], _∷_, _++_, List·Memᴰ, List·Memᴰ·head, List·Memᴰ·tail, List·Memᴰ·cases-cons, List·Memᴰ·not-nil}
 use mathlib.Core.Logic.{_⊎_, inl, inr}
-use native.Mathlib.Omega.{arith}
 use lib.Dec.{leb}
 use lib.ListN.{length}
 use borrow.Author.Tests.{leb-true, le-leb}
@@ -46,7 +45,7 @@ never e out = record { up = λ u. clash (cc); raised-by = λ h. absurd (out h) }
 
 -- ---- an apply of a pass
 
-flagged-inv : (u : Bool) (x : Ran) (r : List Entry) (f : Bool) → flagged u x ≡ ran r f → (d : Bool) × (x ≡ ran r d) × (pick u true d ≡ f)
+pub flagged-inv : (u : Bool) (x : Ran) (r : List Entry) (f : Bool) → flagged u x ≡ ran r f → (d : Bool) × (x ≡ ran r d) × (pick u true d ≡ f)
 unfolding flagged
 flagged-inv u tooLong r f e = clash (cc)
 flagged-inv u (ran k d) r f e = (d, cc, cc)
