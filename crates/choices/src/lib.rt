@@ -1,1 +1,1 @@
-// Steps 6 and 7 on lists, and the choices behind the spellings (demand 3). No code.
+// Step 7 on lists, and the choices behind the spellings (demand 3). No code.
