@@ -1,18 +1,18 @@
 -- A well-formed text that is cut at a byte below 80, or joined, is well formed: expressions, words and names. Assumes nothing.
 use mathlib.Core.Path.{_≡_, refl, sym, ap, _∙_}
 use mathlib.Core.Bool.{Bool, true, false}
-use mathlib.Core.List.{List, [], _∷_, _++_}
-use Prim.Native.Nat.{ℕ, suc, _<_}
-use native.Mathlib.Omega.{arith}
-use lib.Dec.{leb, eqb, leb·suc-suc}
+use mathlib.Core.List.{List, [], _∷_, _++_, List·Memᴰ, List·Memᴰ·cases-cons, List·Memᴰ·not-nil}
+use mathlib.Core.Logic.{⊎-elim}
+use Prim.Native.Nat.{ℕ, suc}
+use lib.Dec.{leb, eqb}
 use lib.ListN.{length, take, drop}
-use borrow.Author.Tests.{eqb-true, lt-ltb}
+use borrow.Author.Tests.{eqb-true}
 use Rattle.base.specs.Pick.{pick, pick-all, and-inv}
-use Rattle.texts.specs.Parts.{tail, front, firstIs, lastIs, placeOf, has, prefixOf}
+use Rattle.texts.specs.Parts.{tail, front, firstIs, lastIs, placeOf, prefixOf}
 use Rattle.phonemes.specs.Expressions.{round, unround, bar, opening, onFirst, cutAt, inside, extra, piecesIn, textOf}
 use Rattle.choices.specs.Texts.{Text}
 use Rattle.choices.proofs.TextLaws.{clash}
-use Rattle.code_points.proofs.Bytes.{State, border, needs, lost, step, after, Formed, formed-append, formed-rest, sign-border}
+use Rattle.code_points.proofs.Bytes.{State, border, step, after, Formed, formed-rest, sign-border}
 
 pub data Every {A : Type 0} (P : A → Type 0) : List A → Type 0 where
   none : Every P []
@@ -21,6 +21,10 @@ pub data Every {A : Type 0} (P : A → Type 0) : List A → Type 0 where
 pub every-append : {A : Type 0} {P : A → Type 0} {l m : List A} → Every P l → Every P m → Every P (l ++ m)
 every-append none b = b
 every-append (more p a) b = more p (every-append a b)
+
+pub every-at : {A : Type 0} {P : A → Type 0} {l : List A} → Every P l → (x : A) → List·Memᴰ x l → P x
+every-at none x m = absurd (List·Memᴰ·not-nil m)
+every-at {P = P} (more {x = y} p a) x m = ⊎-elim (λ e. rw e p) (λ n. every-at a x n) (List·Memᴰ·cases-cons m)
 
 -- ---- at one sign b
 

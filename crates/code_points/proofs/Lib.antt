@@ -4,3 +4,5 @@ pub mod Sets
 pub mod Passes
 pub mod Packs
 pub mod Words
+pub mod Names
+pub mod Calls

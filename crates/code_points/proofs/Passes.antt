@@ -1,12 +1,12 @@
 -- A pass over a well-formed word stands between two characters at each turn, so what it does to a set of texts is proper. Assumes nothing.
-use mathlib.Core.Path.{_≡_, refl, sym, ap, _∙_}
+use mathlib.Core.Path.{_≡_, refl}
 use mathlib.Core.Bool.{Bool, true, false}
 use mathlib.Core.List.{List, [], _∷_, _++_, map}
 use Prim.Native.Nat.{ℕ, zero, suc, _+_, _≤_, max}
 use native.Mathlib.Omega.{arith}
-use lib.Dec.{leb, ltb}
+use lib.Dec.{ltb}
 use lib.ListN.{length, take, drop, drop-of-length-le}
-use Rattle.base.specs.Pick.{pick, pick-all}
+use Rattle.base.specs.Pick.{pick-all}
 use Rattle.letters.specs.Utf8.{decodeAt}
 use Rattle.letters.specs.declared.utf8.Step.{Step}
 use Rattle.letters.specs.declared.utf8.Step.the-variants.{Char, Ill, End}
@@ -15,12 +15,12 @@ use Rattle.languages.specs.declared.sets.LanguageSet.{LanguageSet}
 use Rattle.phonemes.specs.Expressions.{piecesIn, textOf, setOf}
 use Rattle.pack.specs.Packs.{Rule}
 use Rattle.choices.specs.Texts.{Text}
-use Rattle.choices.specs.Apply.{Alternative, Entry, texts, Outcome, refused, held, apply, start}
+use Rattle.choices.specs.Apply.{Entry, texts, Outcome, refused, held, apply, start}
 use Rattle.choices.specs.Choices.{Increasing, First}
-use Rattle.phoneme_builder.specs.Sets.{Spelling, refusal, appended}
+use Rattle.phoneme_builder.specs.Sets.{Spelling, refusal}
 use Rattle.phoneme_builder.specs.Sets as sets
 use Rattle.phoneme_builder.specs.Passes.{offered, Match, none as nothing, by, Matcher, Turn, rule, letter, bytesOf, turnOn, turnsFrom, turnsOf, Ran, tooLong, ran, flagged, applied, after as behind, unmatched, run, raised, onRan, finalText, finalFrom, finalPass, then, mainOf, wordOf}
-use Rattle.code_points.proofs.Bytes.{border, after, Formed, formed-rest, char-formed, char-rest, ill-not}
+use Rattle.code_points.proofs.Bytes.{after, Formed, formed-rest, char-formed, char-rest, ill-not}
 use Rattle.code_points.proofs.Cuts.{Every, none, more, text-formed}
 use Rattle.code_points.proofs.Sets.{Proper, ProperSet, FormedAlternative, apply-proper, appended-proper, ProperSpelling, united-proper, empty-proper}
 

@@ -1,17 +1,14 @@
 -- Sets of texts: what is entered, appended and united is well formed where it was before, and in order. Assumes nothing.
-use mathlib.Core.Path.{_≡_, refl, sym, ap, _∙_}
-use mathlib.Core.Bool.{Bool, true, false}
-use mathlib.Core.List.{List, [], _∷_, _++_, map, map-append, List·Memᴰ, List·Memᴰ·head, List·Memᴰ·tail, List·Memᴰ·cases-cons, List·Memᴰ·not-nil}
-use mathlib.Core.Logic.{⊎-elim}
+use mathlib.Core.Path.{refl, sym, _∙_}
+use mathlib.Core.List.{List, [], _∷_, map, map-append, List·Memᴰ·head, List·Memᴰ·tail}
 use Prim.Native.Nat.{ℕ}
 use lib.Dec.{leb, ltb}
 use lib.ListN.{length}
-use Rattle.base.specs.Pick.{pick, pick-all}
+use Rattle.base.specs.Pick.{pick-all}
 use Rattle.letters.specs.Order.{orderOf}
-use Rattle.letters.specs.Reading.{codesOf, firstIll}
+use Rattle.letters.specs.Reading.{codesOf}
 use Rattle.letters.specs.declared.order.Order.{Order}
 use Rattle.letters.specs.declared.order.Order.the-variants.{Less, Equal, Greater}
-use Rattle.letters.specs.declared.utf8.Found.the-variants.{Nothing}
 use Rattle.letters.proofs.CodeOrder.{order-by-codes}
 use Rattle.languages.specs.declared.sets.LanguageSet.{LanguageSet}
 use Rattle.choices.specs.Texts.{Text, byOrder}
@@ -23,7 +20,7 @@ use Rattle.phoneme_builder.specs.Sets as sets
 use Rattle.phoneme_builder.proofs.Increasing.{texts-remerged}
 use Rattle.code_points.specs.CodePoints.{AllWellFormed, InCodeOrder}
 use Rattle.code_points.proofs.Bytes.{border, Formed, formed-append, formed-of, never-ill}
-use Rattle.code_points.proofs.Cuts.{Every, none, more, every-append}
+use Rattle.code_points.proofs.Cuts.{Every, none, more, every-append, every-at}
 
 -- well formed, and in the order of the bytes
 pub record Proper (ts : List Text) : Type 0 where
@@ -34,8 +31,7 @@ pub record Proper (ts : List Text) : Type 0 where
 
 every-in : {ts : List Text} → Every Formed ts → AllWellFormed ts
 unfolding AllWellFormed
-every-in none t m = absurd (List·Memᴰ·not-nil m)
-every-in (more {x} f e) t m = ⊎-elim (λ s. rw s (never-ill x f)) (λ n. every-in e t n) (List·Memᴰ·cases-cons m)
+every-in e t m = never-ill t (every-at e t m)
 
 pub every-of : (ts : List Text) → AllWellFormed ts → Every Formed ts
 unfolding AllWellFormed

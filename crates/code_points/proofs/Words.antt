@@ -1,7 +1,7 @@
 -- What stands in a set while a well-formed word is spelled by an accepted pack, and in its answer, is in the order of code points. Assumes nothing.
 use mathlib.Core.Path.{_≡_}
 use mathlib.Core.Bool.{Bool}
-use mathlib.Core.List.{List, [], _∷_}
+use mathlib.Core.List.{List}
 use Prim.Native.Nat.{ℕ, zero, suc}
 use lib.ListN.{take}
 use Rattle.letters.specs.Reading.{firstIll}
@@ -12,7 +12,7 @@ use Rattle.choices.specs.Texts.{Text}
 use Rattle.choices.specs.Apply.{Entry, texts, start}
 use Rattle.phoneme_builder.specs.Sets.{Spelling}
 use Rattle.phoneme_builder.specs.Sets as sets
-use Rattle.phoneme_builder.specs.Passes.{Matcher, firstMatch, turnsOf, Ran, ran, run, finalPass, wordOf}
+use Rattle.phoneme_builder.specs.Passes.{firstMatch, turnsOf, Ran, ran, run, finalPass, wordOf}
 use Rattle.engine.specs.Calls.{listOf}
 use Rattle.code_points.specs.CodePoints.{AllWellFormed, InCodeOrder}
 use Rattle.code_points.proofs.Bytes.{formed-of}
