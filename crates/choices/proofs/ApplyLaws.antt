@@ -1,4 +1,4 @@
--- Laws on `apply` and `pass`, over any set to begin with. Assumes nothing.
+-- Laws on `apply`, over any set to begin with. Assumes nothing.
 use mathlib.Core.Path.{_≡_, refl, ap, _∙_}
 use mathlib.Core.Bool.{Bool, true, false}
 use mathlib.Core.Logic.{_⊎_, inl, inr}
@@ -8,11 +8,10 @@ use lib.ListN.{length}
 use Rattle.choices.specs.Texts.{Text}
 use Rattle.base.specs.Pick.{pick}
 use Rattle.languages.specs.Sets.{narrowed, isEmpty}
-use Rattle.choices.specs.Apply.{Alternative, Places, Entry, texts, join, under, candidates, apply, pass, andThen, Outcome, refused, held}
+use Rattle.choices.specs.Apply.{Alternative, Entry, texts, join, under, candidates, apply, held}
 use Rattle.choices.specs.Choices.{_∈_, here, there, Holds, first, later, Increasing}
 use Rattle.languages.specs.declared.sets.LanguageSet.{LanguageSet}
-use Rattle.choices.proofs.TextLaws.{clash}
-use Rattle.choices.proofs.SetLaws.{Entering, held-eq, enter-run, enter-sound, enter-has, enter-increasing}
+use Rattle.choices.proofs.SetLaws.{Entering, enter-run, enter-sound, enter-has, enter-increasing}
 
 -- ---- the candidates
 
@@ -116,29 +115,3 @@ module _ {limit : ℕ} {alts : List Alternative} {l r : List Entry} (e : Applied
   pub apply-has : length r < limit → {t : Text} {g : LanguageSet} (a : Alternative) → Holds l t g → a ∈ alts → isEmpty (narrowed g (a .langs)) ≡ false
       → (h : LanguageSet) × Holds r (t ++ a .text) h
   apply-has few a h m ne = enter-has run few (candidates-has l alts a h m ne)
-
--- ---- pass
-
--- how a pass went
-pub data Passing (limit : ℕ) : Places → List Entry → List Entry → Type 0 where
-  over : {l : List Entry} → Passing limit [] l l
-  step : {alts : List Alternative} {places : Places} {l m r : List Entry}
-      → Applied limit alts l m → Passing limit places m r → Passing limit (alts ∷ places) l r
-
-pass-by : (limit : ℕ) (alts : List Alternative) (places : Places) (l r : List Entry) (o : Outcome) → apply limit alts l ≡ o
-    → ((m : List Entry) → pass limit places m ≡ held r → Passing limit places m r)
-    → andThen o (pass limit places) ≡ held r → Passing limit (alts ∷ places) l r
-unfolding andThen
-pass-by limit alts places l r refused q ih e = clash (cc)
-pass-by limit alts places l r (held m) q ih e = step (record { is = q }) (ih m e)
-
-pub pass-run : (limit : ℕ) (places : Places) (l r : List Entry) → pass limit places l ≡ held r → Passing limit places l r
-unfolding pass
-pass-run limit [] l r e = rw (← held-eq l r e) over
-pass-run limit (alts ∷ places) l r e = pass-by limit alts places l r (apply limit alts l) refl (λ m. pass-run limit places m r) e
-
--- the first place done
-pub pass-step : {limit : ℕ} {alts : List Alternative} {l m : List Entry} (places : Places) → Applied limit alts l m
-    → pass limit (alts ∷ places) l ≡ pass limit places m
-unfolding pass andThen
-pass-step places e = rw (e .is)

@@ -1,15 +1,14 @@
 -- For code that applies by two loops: a law for each way that a turn can go. What is left, entered into the set so far, stays what it was.
 -- Assumes nothing.
-use mathlib.Core.Path.{_≡_, refl, sym}
-use mathlib.Core.Bool.{Bool, true, false}
+use mathlib.Core.Path.{_≡_, refl}
+use mathlib.Core.Bool.{true, false}
 use mathlib.Core.List.{List, [], _∷_, _++_}
 use Prim.Native.Nat.{ℕ, _≤_, _<_}
 use lib.ListN.{length}
-use lib.Dec.{leb, ltb}
-use borrow.Author.Tests.{leb-true, lt-leb, le-leb, lt-ltb, le-ltb}
+use borrow.Author.Tests.{lt-leb, le-leb, lt-ltb, le-ltb}
 use Rattle.base.specs.Pick.{pick}
 use Rattle.languages.specs.Sets.{narrowed, isEmpty}
-use Rattle.choices.specs.Apply.{Alternative, Entry, join, insert, under, enter, andThen, Outcome, refused, held}
+use Rattle.choices.specs.Apply.{Alternative, Entry, join, insert, under, enter, refused, held}
 
 -- ---- one turn: e's alternatives from a on, then the rest
 
@@ -33,21 +32,3 @@ pub turn-full : (limit : ℕ) (cs l : List Entry) → limit ≤ length l → ent
 unfolding enter pick
 turn-full limit [] l full = refl
 turn-full limit (c ∷ cs) l full = simp (le-leb limit (length l) full)
-
--- ---- a row at a time
-
-append-by : (limit : ℕ) (ys l : List Entry) (p q : Bool) (o u : Outcome) → leb limit (length l) ≡ p → o ≡ andThen u (enter limit ys)
-    → pick p (held l) (pick q refused o) ≡ andThen (pick p (held l) (pick q refused u)) (enter limit ys)
-unfolding pick andThen
-append-by limit ys l true q o u e ih = sym (turn-full limit ys l (leb-true limit (length l) e))
-append-by limit ys l false true o u e ih = refl
-append-by limit ys l false false o u e ih = ih
-
-pub enter-append : (limit : ℕ) (xs ys l : List Entry) → enter limit (xs ++ ys) l ≡ andThen (enter limit xs l) (enter limit ys)
-unfolding enter andThen
-enter-append limit [] ys l = refl
-enter-append limit (x ∷ xs) ys l =
-    append-by limit ys l (leb limit (length l)) (ltb 128 (length (x .text))) (enter limit (xs ++ ys) (insert x l)) (enter limit xs (insert x l)) refl
-    (enter-append limit xs ys (insert x l))
-
-pub ruleset loop-laws = (turn-empty, turn-long, turn-in, turn-full)

@@ -12,7 +12,7 @@ use Rattle.letters.specs.Order.{orderOf}
 use Rattle.letters.specs.declared.order.Order.{Order}
 use Rattle.letters.specs.declared.order.Order.the-variants.{Less, Equal, Greater}
 use Rattle.choices.specs.Apply.{Places, Entry, candidates, start}
-use Rattle.choices.specs.Choices.{Choice, end, choose, spelt, leaves, Holds, first, later, AlikeAgree}
+use Rattle.choices.specs.Choices.{Choice, end, choose, spelt, leaves, Holds, first, later}
 use Rattle.languages.specs.declared.sets.LanguageSet.{LanguageSet}
 use Rattle.languages.specs.declared.sets.LanguageSet.the-variants.{Any, NoLanguages, SomeLanguages}
 use Rattle.choices.proofs.TextLaws.{clash, compare-refl}
@@ -106,8 +106,8 @@ allAgree-at zero (alts ∷ places) l f = both _ _ f .0
 allAgree-at (suc k) [] l f = f
 allAgree-at (suc k) (alts ∷ places) l f = allAgree-at k places (candidates l alts) (both (agreeing l) _ f .1)
 
-pub alike-by-test : (g : LanguageSet) (places : Places) → allAgree places (start g) ≡ true → AlikeAgree g places
-unfolding AlikeAgree
+pub alike-by-test : (g : LanguageSet) (places : Places) → allAgree places (start g) ≡ true → (k : ℕ) (c d : Choice g (take k places))
+    → spelt c ≡ spelt d → leaves c ≡ leaves d
 alike-by-test g places f k c d e =
     agreeing-eq (every (take k places) (start g)) (allAgree-at k places (start g) f) (every-has (start g) [] c (first refl refl))
     (holds-eq (sym e) refl (every-has (start g) [] d (first refl refl)))

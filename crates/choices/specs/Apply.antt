@@ -1,6 +1,5 @@
--- Steps 6 and 7: the set of spellings, applying a rule to it, and the main pass.
+-- Step 7: the set of spellings, and applying a rule to it.
 use Prim.Native.Nat.{ℕ}
-use mathlib.Core.Bool.{Bool, true, false}
 use mathlib.Core.List.{List, [], _∷_, _++_, map}
 use lib.ListN.{length}
 use lib.Dec.{leb, ltb}
@@ -32,11 +31,6 @@ pub data Outcome : Type 0 where
   refused : Outcome
   held : List Entry → Outcome
 
--- a refusal stays one
-unfoldable pub andThen : Outcome → (List Entry → Outcome) → Outcome
-andThen refused f = refused
-andThen (held l) f = f l
-
 -- e in its place; an equal text already there stays as it was
 unfoldable pub insert : Entry → List Entry → List Entry
 insert e [] = e ∷ []
@@ -65,26 +59,6 @@ enter limit (c ∷ cs) l =
 unfoldable pub apply : ℕ → List Alternative → List Entry → Outcome
 apply limit alts old = enter limit (candidates old alts) []
 
--- step 6, place by place
-unfoldable pub pass : ℕ → Places → List Entry → Outcome
-pass limit [] l = held l
-pass limit (alts ∷ places) l = andThen (apply limit alts l) (pass limit places)
-
--- the flag, over the same places: some apply ended with a count at or over the limit
-unfoldable pub flagAfter : ℕ → Outcome → (List Entry → Bool) → Bool
-flagAfter limit refused f = false
-flagAfter limit (held l) f = pick (leb limit (length l)) true (f l)
-
-unfoldable pub flag : ℕ → Places → List Entry → Bool
-flag limit [] l = false
-flag limit (alts ∷ places) l = flagAfter limit (apply limit alts l) (flag limit places)
-
 -- one empty text with the set
 abbrev pub start : LanguageSet → List Entry
 start g = record { text = []; langs = g } ∷ []
-
-abbrev pub mainPass : ℕ → LanguageSet → Places → Outcome
-mainPass limit g places = pass limit places (start g)
-
-abbrev pub mainFlag : ℕ → LanguageSet → Places → Bool
-mainFlag limit g places = flag limit places (start g)

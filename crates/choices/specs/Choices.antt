@@ -1,14 +1,13 @@
--- Demand 3: the choices behind the spellings.
-use Prim.Native.Nat.{ℕ, suc, _<_}
+-- The choices behind the spellings (demand 3).
+use Prim.Native.Nat.{ℕ, suc}
 use mathlib.Core.Path.{_≡_}
 use mathlib.Core.Bool.{false}
 use mathlib.Core.List.{List, [], _∷_, _++_}
-use lib.ListN.{length, take}
 use Rattle.choices.specs.Texts.{Text, byOrder}
 use Rattle.letters.specs.Order.{orderOf}
 use Rattle.letters.specs.declared.order.Order.the-variants.{Less}
 use Rattle.languages.specs.Sets.{narrowed, isEmpty}
-use Rattle.choices.specs.Apply.{Alternative, Places, Entry, texts, held, mainPass}
+use Rattle.choices.specs.Apply.{Alternative, Places, Entry}
 use Rattle.languages.specs.declared.sets.LanguageSet.{LanguageSet}
 
 infix 4 _∈_
@@ -50,22 +49,3 @@ Increasing (t ∷ ts) = First t ts × Increasing ts
 unfoldable pub times : Text → List Text → ℕ
 times t [] = 0
 times t (x ∷ ts) = byOrder (orderOf x t) (times t ts) (suc (times t ts)) (times t ts)
-
--- the spellings stayed fewer than the limit after each place
-unfoldable pub StayedFewer : ℕ → LanguageSet → Places → Type 0
-StayedFewer limit g places =
-    (k : ℕ) → k < length places → (l : List Entry) → mainPass limit g (take (suc k) places) ≡ held l → length l < limit
-
--- choices made as far as the same place that spell alike leave the same languages, whether or not they can go on
-unfoldable pub AlikeAgree : LanguageSet → Places → Type 0
-AlikeAgree g places =
-    (k : ℕ) (c d : Choice g (take k places)) → spelt c ≡ spelt d → leaves c ≡ leaves d
-
--- what demand 3 says of the spellings l after the main rules
-pub record Demand3 (limit : ℕ) (g : LanguageSet) (places : Places) (l : List Entry) : Type 0 where
-  -- every spelling is the text of some choice, with the languages that it leaves
-  pub sound : (t : Text) (h : LanguageSet) → Holds l t h → (c : Choice g places) × (spelt c ≡ t) × (leaves c ≡ h)
-  pub increasing : Increasing (texts l)
-  -- under the two conditions every choice's text is there, exactly once, with the languages that it leaves
-  pub once : StayedFewer limit g places → AlikeAgree g places → (c : Choice g places) → times (spelt c) (texts l) ≡ 1
-  pub leaving : StayedFewer limit g places → AlikeAgree g places → (c : Choice g places) → Holds l (spelt c) (leaves c)

@@ -3,6 +3,7 @@ use Prim.Native.Nat.{ℕ}
 use mathlib.Core.Path.{_≡_, refl}
 use mathlib.Core.Bool.{Bool, true, false}
 use mathlib.Core.List.{List, [], _∷_, _++_}
+use lib.ListN.{getD}
 use Rattle.base.specs.Pick.{pick, and}
 use Rattle.letters.specs.Utf8.{within, decodeBytes, decodeAt}
 use Rattle.letters.specs.Reading.{piecesOn, piecesFrom, piecesOf}
@@ -19,11 +20,11 @@ use Rattle.pack.specs.Reading.{andThen, readByte, readMore, readNumber, readTex
 use Rattle.pack.specs.Packs.{Rule, Pack, rule, readNames, readGuesses, readRule, readList, all, isLess, increasing, holds, namesGood, guessesGood, isForm, isGood, ruleGood, ordered, listGood, accepted, section, placeIn, namesIn, listCount, listSections, isNil, endSection, packOf}
 use Rattle.choices.specs.Texts.{Text, byOrder}
 use Rattle.choices.specs.Apply.{Alternative, Places, Entry, insert, under, candidates, enter, apply, start}
-use Rattle.choices.specs.Choices.{here, there, Choice, end, choose, spelt, leaves, times, StayedFewer, AlikeAgree}
+use Rattle.choices.specs.Choices.{here, there, Choice, end, choose, spelt, leaves, times}
 use Rattle.choices.proofs.TextLaws.{clash}
 use Rattle.choices.proofs.Tests.{sameSet, fits as agrees, agreeing, allAgree, alike-by-test}
-use Rattle.phoneme_builder.specs.Passes.{offered, firstMatch, bytesOf, turnOn, turnsFrom, turnsOf, Ran, ran, flagged, applied, after, unmatched, run}
-use Rattle.demands.specs.Demands.{placesOf, rulesOf, Demand3OfWord}
+use Rattle.phoneme_builder.specs.Passes.{Turn, offered, firstMatch, bytesOf, turnOn, turnsFrom, turnsOf, Ran, ran, flagged, applied, after, unmatched, run}
+use Rattle.demands.specs.Demands.{placesOf, StayedFewer, AlikeAgree, Demand3OfWord}
 use Rattle.demands.proofs.Demand3.{demand-3-of-a-word}
 
 -- `unfolding computing` opens all that its line names
@@ -97,15 +98,18 @@ alt t g = record { text = t; langs = g }
 abbrev entry : Text → LanguageSet → Entry
 entry t g = record { text = t; langs = g }
 
--- the places of a word and its main pass
+-- the turns of a word, its places and its main pass
+abbrev turnsIn : Text → List Turn
+turnsIn word = turnsOf names (firstMatch (getD (pack .lists) 0 [])) word
+
 abbrev placesIn : Text → Places
-placesIn word = placesOf (turnsOf names (firstMatch (rulesOf pack 0)) word)
+placesIn word = placesOf (turnsIn word)
 
 abbrev ranOn : ℕ → Text → Ran
-ranOn limit word = run false limit (turnsOf names (firstMatch (rulesOf pack 0)) word) (start Any)
+ranOn limit word = run false limit (turnsIn word) (start Any)
 
-told : (limit : ℕ) (word : Text) (l : List Entry) (flag : Bool) → ranOn limit word ≡ ran l flag → Demand3OfWord limit Any (placesIn word) l flag
-told limit word = demand-3-of-a-word bytes pack good-pack 0 names word Any limit
+told : (limit : ℕ) (word : Text) (l : List Entry) (flag : Bool) → ranOn limit word ≡ ran l flag → Demand3OfWord limit Any (turnsIn word) l flag
+told limit word = demand-3-of-a-word names (firstMatch (getD (pack .lists) 0 [])) word Any limit
 
 -- ---- both conditions hold: `axb`, where no rule matches x
 
@@ -120,16 +124,16 @@ axb-ran : ranOn 5 axb ≡ ran (entry (a ++ a) Any ∷ entry (a ++ b) de ∷ entr
 unfolding computing
 axb-ran = refl
 
-axb-fewer : StayedFewer 5 Any (placesIn axb)
+axb-fewer : StayedFewer 5 Any (turnsIn axb)
 axb-fewer = told 5 axb _ _ axb-ran .down-fewer refl
 
-axb-alike : AlikeAgree Any (placesIn axb)
-unfolding computing
+axb-alike : AlikeAgree Any (turnsIn axb)
+unfolding computing AlikeAgree
 axb-alike = alike-by-test Any (placesIn axb) refl
 
 -- so each of the three choices is there once
 axb-once : (c : Choice Any (placesIn axb)) → times (spelt c) ((a ++ a) ∷ (a ++ b) ∷ (b ++ a) ∷ []) ≡ 1
-axb-once = told 5 axb _ _ axb-ran .demand .once axb-fewer axb-alike
+axb-once = told 5 axb _ _ axb-ran .once axb-fewer axb-alike
 
 -- ---- the languages differ: `cd`; a with fr came first and cannot go on, the other a did not come in
 
@@ -140,7 +144,7 @@ cd-ran : ranOn 5 cd ≡ ran [] false
 unfolding computing
 cd-ran = refl
 
-cd-fewer : StayedFewer 5 Any (placesIn cd)
+cd-fewer : StayedFewer 5 Any (turnsIn cd)
 cd-fewer = told 5 cd _ _ cd-ran .down-fewer refl
 
 -- a with de, then b
@@ -152,11 +156,17 @@ cd-missing : (spelt cd-choice ≡ a ++ b) × (times (spelt cd-choice) [] ≡ 0)
 unfolding computing spelt cd-choice times
 cd-missing = (refl, refl)
 
-cd-differ : AlikeAgree Any (placesIn cd) → ⊥
+cd-differ : AlikeAgree Any (turnsIn cd) → ⊥
 unfolding computing AlikeAgree spelt leaves
 cd-differ agree =
     let e : fr ≡ de = agree 1 (choose (alt a fr) here refl end) (choose (alt a de) (there here) refl end) refl in
     clash (cc)
+
+-- that is why the condition speaks of choices that cannot go on: cd-choice is the only one that goes to the end
+cd-only : (c : Choice Any (placesIn cd)) → leaves c ≡ de
+unfolding computing leaves
+cd-only (choose x here n (choose y here m end)) = clash (cc)
+cd-only (choose x (there here) n (choose y here m end)) = refl
 
 -- ---- the limit is reached: `e`, limit 1
 
@@ -167,8 +177,8 @@ e-ran : ranOn 1 e ≡ ran (entry a Any ∷ []) true
 unfolding computing
 e-ran = refl
 
-e-alike : AlikeAgree Any (placesIn e)
-unfolding computing
+e-alike : AlikeAgree Any (turnsIn e)
+unfolding computing AlikeAgree
 e-alike = alike-by-test Any (placesIn e) refl
 
 e-choice : Choice Any (placesIn e)
@@ -179,7 +189,7 @@ e-missing : (spelt e-choice ≡ b) × (times (spelt e-choice) (a ∷ []) ≡ 0)
 unfolding computing spelt e-choice times
 e-missing = (refl, refl)
 
-e-reached : StayedFewer 1 Any (placesIn e) → ⊥
+e-reached : StayedFewer 1 Any (turnsIn e) → ⊥
 e-reached few =
     let down : true ≡ false = told 1 e _ _ e-ran .fewer-down few in
     clash (cc)

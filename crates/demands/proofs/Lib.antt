@@ -1,2 +1,3 @@
+pub mod Applies
 pub mod Demand3
 pub mod Examples

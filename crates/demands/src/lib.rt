@@ -1,1 +1,1 @@
-// Demand 3 for the main pass over a word, from the bytes of an accepted pack. No code.
+// Demand 3 and the flag, for the passes over a word. No code.
