@@ -2,14 +2,14 @@
 use mathlib.Core.Path.{_≡_, refl, sym, ap, _∙_}
 use mathlib.Core.Bool.{Bool, true, false, not}
 use mathlib.Core.List.{List, [], _∷_}
-use Prim.Native.Nat.{ℕ, suc, _<_}
+use Prim.Native.Nat.{ℕ, zero, suc, _-_, _<_}
 use native.Mathlib.Decide.{decLt}
 use native.Mathlib.Numerals.{add-one}
 use native.Mathlib.Omega.{arith}
-use lib.Dec.{T, leb, eqb, leb·suc-suc}
-use lib.ListN.{length, getD, take, drop}
-use lib.Seq.{drop-drop, take-append-seam}
-use borrow.Author.Tests.{eqb-true, lt-ltb}
+use lib.Dec.{T, leb, eqb}
+use lib.ListN.{length, getD, take, drop, length-drop}
+use lib.Seq.{drop-drop, take-append-seam, take-all, split-at}
+use borrow.Author.Tests.{eqb-true, eqb-false}
 use Rattle.base.specs.Pick.{pick, and, pick-all, and-inv}
 use Rattle.base.proofs.Table.{at}
 use Rattle.letters.specs.Utf8.{within, lowSecond, highSecond, decodeAt, encode}
@@ -21,7 +21,7 @@ use Rattle.letters.proofs.ReadingLaws.{Pieces, end, one, bad, pieces-of}
 use Rattle.lower_case.specs.Lower.{lowerTable, lowerOf, lowerIn, lowerText}
 use Rattle.lower_case.proofs.LowerLaws.{lower-in, lower-past}
 use Rattle.languages.specs.declared.sets.LanguageSet.{LanguageSet}
-use Rattle.texts.specs.Parts.{tail, placeOf, has, prefixOf}
+use Rattle.texts.specs.Parts.{tail, prefixOf}
 use Rattle.prefixes.specs.Prefixes.{generic, prefixesOf, fits, firstFit, splitOf}
 use Rattle.prefixes.specs.declared.prefixes.NameType.{NameType}
 use Rattle.prefixes.specs.declared.prefixes.NameType.the-variants.{Ashkenazi, Generic, Sephardic}
@@ -29,12 +29,13 @@ use Rattle.prefixes.specs.declared.prefixes.Prefix.{Prefix}
 use Rattle.prefixes.specs.declared.prefixes.Prefix.the-variants.{Parted, Whole}
 use Rattle.name_parts.specs.Words.{goesOn, led, wordsOf, firstOf, wordAt}
 use Rattle.name_parts.specs.Joining.{spaced, joinedName, afterApostrophe, keptOf, dropsOut, remaining, joinedBySpace, joinedWords}
+use Rattle.name_parts.proofs.JoinLaws.{Free, free-start, free-here, free-next, free-end}
 use Rattle.pack.specs.Packs.{all}
 use Rattle.choices.specs.Texts.{Text}
 use Rattle.choices.proofs.TextLaws.{clash}
 use Rattle.engine.specs.Spelling.{Steps, partedAs}
 use Rattle.answers.specs.Answers.{WordOf, all-joined, only-word, of-word, of-remainder, of-joined}
-use Rattle.code_points.proofs.Bytes.{State, border, needs, lost, plain, next, high, step, after, Formed, formed-append, sign-border, char-formed}
+use Rattle.code_points.proofs.Bytes.{State, border, needs, lost, plain, next, high, step, after, Formed, after-append, formed-append, sign-border, char-formed}
 use Rattle.code_points.proofs.Cuts.{Every, none, more, every-at, tail-formed, prefix-split, behind-formed}
 
 -- ---- by a test that antt computes
@@ -130,32 +131,32 @@ first-formed (more f e) = f
 
 -- ---- apostrophes
 
-has-by : (x : ℕ) (w : Text) (t : Bool) → eqb x 39 ≡ t → has 39 (x ∷ w) ≡ pick t true (has 39 w)
-unfolding has placeOf pick
-has-by x w true e = rw e (lt-ltb 0 (suc (length w)) (omega arith))
-has-by x w false e = rw e (leb·suc-suc (suc (placeOf 39 w)) (length w))
+-- what follows a byte below 80 at a place
+behind-sign : (s : Text) (i : ℕ) → i < length s → leb (getD s i 0) 0x7F ≡ true → Formed s → Formed (drop (suc i) s)
+behind-sign s i h b f =
+    sign-border (after border (take i s)) (getD s i 0) (drop (suc i) s) b (sym (after-append border (take i s) _) ∙ ap (after border) (sym (split-at s i 0 h)) ∙ f) .1
 
--- what follows an apostrophe starts between two characters, what has none goes on from q
-kept-by : (q : State) (x : ℕ) (w : Text) (t u : Bool) → eqb x 39 ≡ t → has 39 w ≡ u → after (pick u border (step q x)) (afterApostrophe w) ≡ border → after q (x ∷ w) ≡ border
-    → after (pick (pick t true u) border q) (pick u (afterApostrophe w) (pick t w (x ∷ w))) ≡ border
-unfolding pick after
-kept-by q x w true true e h ih f = ih
-kept-by q x w false true e h ih f = ih
-kept-by q x w true false e h ih f = sign-border q x w (ap (λ (n : ℕ). leb n 0x7F) (eqb-true x 39 e)) f .1
-kept-by q x w false false e h ih f = f
+module _ (w : Text) (f : Formed w) where
+  after-by : (i : ℕ) (t : Bool) → Free w (suc i) → eqb (getD w i 0) 39 ≡ t → (Free w i → Formed (afterApostrophe w)) → Formed (afterApostrophe w)
+  after-by i true r e ih =
+      let n : suc i - 1 ≡ i = omega arith in
+      let sign : getD w i 0 ≡ 39 = eqb-true (getD w i 0) 39 e in
+      let here : take (length w - suc i) (drop (suc i) w) ≡ afterApostrophe w = free-here w (suc i) r (omega arith) (rw n sign) in
+      let all : take (length w - suc i) (drop (suc i) w) ≡ drop (suc i) w = take-all (length w - suc i) (drop (suc i) w) (omega (arith, length-drop (suc i) w)) in
+      ap (after border) (sym here ∙ all) ∙ behind-sign w i (omega (arith, r .within)) (ap (λ (b : ℕ). leb b 0x7F) sign) f
+  after-by i false r e ih =
+      let n : suc i - 1 ≡ i = omega arith in
+      ih (rw n at (free-next w (suc i) r (omega arith) (rw n (eqb-false _ _ e))))
 
-kept-from : (q : State) (w : Text) → after q w ≡ border → after (pick (has 39 w) border q) (afterApostrophe w) ≡ border
-unfolding afterApostrophe after
-kept-from q [] f = pick-all (λ (r : State). r ≡ border) (has 39 []) border q refl f
-kept-from q (x ∷ w) f = rw (has-by x w (eqb x 39) refl) (kept-by q x w (eqb x 39) (has 39 w) refl refl (kept-from (step q x) w f) f)
+  after-formed : (i : ℕ) → Free w i → Formed (afterApostrophe w)
+  after-formed zero r = ap (after border) (sym (free-end w 0 r (omega arith))) ∙ f
+  after-formed (suc i) r = after-by i (eqb (getD w i 0) 39) r refl (after-formed i)
 
 kept-formed : (kind : NameType) (w : Text) → Formed w → Formed (keptOf kind w)
 unfolding keptOf
 kept-formed Ashkenazi w f = f
 kept-formed Generic w f = f
-kept-formed Sephardic w f =
-    let same : pick (has 39 w) border border ≡ border = pick-all (λ (r : State). r ≡ border) (has 39 w) border border refl refl in
-    rw same at (kept-from border w f)
+kept-formed Sephardic w f = after-formed w f (length w) (free-start w)
 
 remaining-formed : (kind : NameType) {ws : List Text} → Every Formed ws → Every Formed (remaining kind ws)
 unfolding remaining

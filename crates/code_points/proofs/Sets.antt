@@ -1,15 +1,17 @@
 -- Sets of texts: what is entered, appended and united is well formed where it was before, and in order. Assumes nothing.
-use mathlib.Core.Path.{refl, sym, _∙_}
+use mathlib.Core.Path.{_≡_, refl, sym, ap, _∙_}
+use mathlib.Core.Bool.{Bool, true, false}
 use mathlib.Core.List.{List, [], _∷_, map, map-append, List·Memᴰ·head, List·Memᴰ·tail}
 use Prim.Native.Nat.{ℕ}
 use lib.Dec.{leb, ltb}
 use lib.ListN.{length}
-use Rattle.base.specs.Pick.{pick-all}
-use Rattle.letters.specs.Order.{orderOf}
+use Rattle.base.specs.Pick.{pick, pick-all}
+use Rattle.letters.specs.Order.{orderOf, sameText}
 use Rattle.letters.specs.Reading.{codesOf}
 use Rattle.letters.specs.declared.order.Order.{Order}
 use Rattle.letters.specs.declared.order.Order.the-variants.{Less, Equal, Greater}
 use Rattle.letters.proofs.CodeOrder.{order-by-codes}
+use Rattle.languages.specs.Sets.{merged}
 use Rattle.languages.specs.declared.sets.LanguageSet.{LanguageSet}
 use Rattle.choices.specs.Texts.{Text, byOrder}
 use Rattle.choices.specs.Apply.{Alternative, Entry, texts, Outcome, refused, held, insert, under, candidates, enter, apply}
@@ -17,7 +19,6 @@ use Rattle.choices.specs.Choices.{First, Increasing}
 use Rattle.choices.proofs.SetLaws.{insert-increasing}
 use Rattle.phoneme_builder.specs.Sets.{Spelling, refusal, sorted, lengthened, allShort, appended, holds, remerged, united}
 use Rattle.phoneme_builder.specs.Sets as sets
-use Rattle.phoneme_builder.proofs.Increasing.{texts-remerged}
 use Rattle.code_points.specs.CodePoints.{AllWellFormed, InCodeOrder}
 use Rattle.code_points.proofs.Bytes.{border, Formed, formed-append, formed-of, never-ill}
 use Rattle.code_points.proofs.Cuts.{Every, none, more, every-append, every-at}
@@ -120,6 +121,18 @@ unfolding appended ProperSet
 appended-proper c l g f = pick-all ProperSet (allShort (map (lengthened c) l)) _ _ (sorted-proper (map (lengthened c) l) (lengthened-formed c l g f)) tt
 
 -- ---- unite
+
+-- merging changes no text
+texts-by : (t : Bool) (x : Entry) (g : LanguageSet) (l m : List Entry) → texts m ≡ texts l
+    → texts (pick t (record { text = x .text; langs = merged (x .langs) g } ∷ l) (x ∷ m)) ≡ texts (x ∷ l)
+unfolding pick
+texts-by true x g l m e = refl
+texts-by false x g l m e = ap (λ (ts : List Text). x .text ∷ ts) e
+
+texts-remerged : (t : Text) (g : LanguageSet) (l : List Entry) → texts (remerged t g l) ≡ texts l
+unfolding remerged
+texts-remerged t g [] = refl
+texts-remerged t g (x ∷ l) = texts-by (sameText (x .text) t) x g l (remerged t g l) (texts-remerged t g l)
 
 unfoldable pub ProperSpelling : Spelling → Type 0
 ProperSpelling (refusal k) = Unit {0}
