@@ -4,3 +4,5 @@ pub mod FileLaws
 pub mod Ahead
 pub mod Sound
 pub mod Laws
+pub mod GrammarFields
+pub mod GrammarLaws
