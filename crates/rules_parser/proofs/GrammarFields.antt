@@ -3,14 +3,14 @@ use mathlib.Core.Path.{_≡_, refl, sym, ap, _∙_}
 use mathlib.Core.Bool.{Bool, true, false, not, false≢true}
 use mathlib.Core.List.{List, [], _∷_, _++_, append-assoc, append-nil}
 use mathlib.Core.Logic.{_⊎_, inl, inr}
-use Prim.Native.Nat.{ℕ, suc, _+_, _-_, _≤_, _<_}
+use Prim.Native.Nat.{ℕ, suc, _+_, _-_, _≤_, _<_, zero-le, suc-le-suc}
 use native.Mathlib.Numerals.{add-one}
 use native.Mathlib.Nat.{lt-of-not-le}
 use native.Mathlib.Omega.{arith}
-use lib.Dec.{eqb, ltb, leb}
-use lib.ListN.{length, getD, take, drop, length-drop, length-append, List·getD-eq-default, drop-of-length-le}
+use lib.Dec.{eqb, ltb}
+use lib.ListN.{length, getD, drop, length-drop, length-append, List·getD-eq-default, drop-of-length-le}
 use lib.Seq.{drop-cons, drop-drop, drop-append-seam, drop-append-le, take-append-seam}
-use borrow.Author.Tests.{lt-ltb, le-ltb, le-leb, ltb-true, ltb-false, leb-true, eq-eqb, ne-eqb, eqb-true, eqb-false, not-true, not-false}
+use borrow.Author.Tests.{lt-ltb, le-ltb, le-leb, ltb-true, ltb-false, eq-eqb, ne-eqb, eqb-true, eqb-false, not-true, not-false}
 use Rattle.base.specs.Pick.{pick, pick-true, pick-false, pick-inv}
 use Rattle.rules_parser.specs.Fields.{partOf, passesOf, run, spanEnd, pairAt, text, quotedAt, wordAt, fieldAt, partedAt, endsAt, tailOk}
 use Rattle.rules_parser.specs.Grammar.{Shape, Every, BlankByte, NoBlank, Other, Blanks, Gap, Word, InQuotes, CommentLine, Just, Anything, _⨾_}
@@ -22,9 +22,6 @@ use Rattle.rules_parser.specs.declared.fields.FieldKind.the-variants.{Qu
 use Rattle.rules_parser.specs.declared.fields.Text.{Text}
 use Rattle.rules_parser.specs.declared.fields.Field.{Field}
 use Rattle.rules_parser.specs.declared.fields.Field.the-variants.{Is, No}
-
-pub clash : {A : Type 0} → _≡_ {A = ℕ} 0 1 → A
-clash e = let no-way : ⊥ = omega arith in absurd no-way
 
 -- ---- kinds of bytes
 
@@ -70,17 +67,10 @@ pub text-ends : (b : ℕ) → NoBlank b → passesOf Blank b ≡ false
 unfolding passesOf
 text-ends b h = pick-false _ _ _ (ne-eqb b 32 (λ e. h (inl e))) ∙ ne-eqb b 9 (λ e. h (inr e))
 
-pub quote-plain : NoBlank 34
-unfolding Of passesOf pick
-quote-plain = of-passes NotBlank 34 refl
-
-pub hash-plain : NoBlank 35
-unfolding Of passesOf pick
-hash-plain = of-passes NotBlank 35 refl
-
-pub slash-plain : NoBlank 47
-unfolding Of passesOf pick
-slash-plain = of-passes NotBlank 47 refl
+-- a character above the space is no blank
+pub plain : (b : ℕ) → 32 < b → BlankByte b → ⊥
+plain b h (inl e) = omega arith
+plain b h (inr e) = omega arith
 
 -- ---- a run
 
@@ -95,6 +85,11 @@ run-is k [] [] e h = refl
 run-is k [] (b ∷ r) e h = pick-false _ _ _ h
 run-is k (b ∷ w) r e h = pick-true _ _ _ (passes-of k b (e .0)) ∙ ap suc (run-is k w r (e .1) h)
 
+run-least : (k : Kind) (w r : List ℕ) → Every (Of k) w → length w ≤ run k (w ++ r)
+unfolding Every run
+run-least k [] r e = zero-le
+run-least k (b ∷ w) r e = rw (pick-true (passesOf k b) (suc (run k (w ++ r))) 0 (passes-of k b (e .0))) (suc-le-suc (run-least k w r (e .1)))
+
 pub record Split (k : Kind) (l : List ℕ) : Type 0 where
   pub front : List ℕ
   pub rest : List ℕ
@@ -107,7 +102,7 @@ unfolding Every Stops
 split-more k b r true e w = record { front = b ∷ w .front; rest = w .rest; whole = ap (λ (l : List ℕ). b ∷ l) (w .whole); every = (of-passes k b e, w .every); stops = w .stops }
 split-more k b r false e w = record { front = []; rest = b ∷ r; whole = refl; every = tt; stops = e }
 
-split : (k : Kind) (l : List ℕ) → Split k l
+pub split : (k : Kind) (l : List ℕ) → Split k l
 unfolding Every Stops
 split k [] = record { front = []; rest = []; whole = refl; every = tt; stops = tt }
 split k (b ∷ r) = split-more k b r (passesOf k b) refl (split k r)
@@ -133,6 +128,10 @@ module _ (s : List ℕ) (p : ℕ) where
   pub span-is : (k : Kind) (w r : List ℕ) → drop p s ≡ w ++ r → Every (Of k) w → Stops k r → spanEnd k s p ≡ p + length w
   unfolding spanEnd
   span-is k w r e h g = rw e (ap (λ (n : ℕ). p + n) (run-is k w r h g))
+
+  pub span-least : (k : Kind) (w r : List ℕ) → drop p s ≡ w ++ r → Every (Of k) w → p + length w ≤ spanEnd k s p
+  unfolding spanEnd
+  span-least k w r e h = rw e (omega (arith, run-least k w r h))
 
   -- the text of n bytes, in a longer list too
   pub part-is : (w r z : List ℕ) → p ≤ length s → drop p s ≡ w ++ r → partOf (s ++ z) (text p (length w)) ≡ w
@@ -335,7 +334,7 @@ field-given Plain s p w x r e h g = word-given s p w r (e ∙ rw (h .0) refl) (h
 -- a field begins with no blank
 written-stops : (k : FieldKind) (w x r : List ℕ) → Written k w x → Stops Blank (x ++ r)
 unfolding Written Stops Every
-written-stops Quoted w x r h = rw (h .0) (text-ends 34 quote-plain)
+written-stops Quoted w x r h = rw (h .0) (text-ends 34 (plain 34 (omega arith)))
 written-stops Plain [] x r h = absurd (h .1 refl)
 written-stops Plain (b ∷ w) x r h = rw (h .0) (text-ends b (h .2 .0))
 
@@ -392,7 +391,7 @@ unfolding tailOk
 tail-is s p (inl h) = pick-false _ _ _ (le-ltb _ _ (ends-in s p h))
 tail-is s p (inr (x, y, e, h, (u, v, f, g, o))) =
     let d : drop p s ≡ x ++ 47 ∷ 47 ∷ v = e ∙ rw (f, g) refl in
-    let w = pair-behind s p 47 47 x v d h slash-plain in
+    let w = pair-behind s p 47 47 x v d h (plain 47 (omega arith)) in
     pick-true _ _ _ (lt-ltb _ _ (w .0)) ∙ w .1
 
 -- what stands behind blanks

@@ -2,24 +2,21 @@
 use mathlib.Core.Path.{_≡_, refl, sym, ap, _∙_}
 use mathlib.Core.Bool.{Bool, true, false, false≢true}
 use mathlib.Core.List.{List, [], _∷_, _++_}
-use mathlib.Core.Logic.{_⊎_, inl, inr}
-use Prim.Native.Nat.{ℕ, suc, _+_, _≤_, _<_}
+use mathlib.Core.Logic.{_⊎_}
+use Prim.Native.Nat.{ℕ, _+_, _≤_, _<_}
 use native.Mathlib.Omega.{arith}
-use lib.Dec.{eqb, ltb, leb}
 use lib.ListN.{length, drop}
 use lib.Seq.{drop-drop}
-use borrow.Author.Tests.{le-leb, lt-leb, leb-true, leb-false, eqb-true}
+use borrow.Author.Tests.{le-leb, lt-leb, leb-true, eqb-true}
 use Rattle.base.specs.Pick.{pick, and, pick-true, pick-false, and-yes, and-inv}
 use Rattle.letters.specs.Order.{sameText}
-use Rattle.letters.proofs.OrderLaws.{same-refl}
 use Rattle.texts.specs.Parts.{prefixOf}
 use Rattle.languages.specs.Names.{languageName, allLetters, isLetter, common}
-use Rattle.rule.specs.Matching.{ruleText}
-use Rattle.rules_parser.specs.Fields.{partOf, spanEnd, pairAt, fieldAt, partedAt, endsAt, tailOk}
-use Rattle.rules_parser.specs.Lines.{onField, textAt, ruleTold, lastTwo, fourAt, includeWord, includeAt, ruleAt, guessTold, trueWord, falseWord, acceptTold, guessEnd, guessAt, nameTold, nameAt, toldAt, lineAt}
-use Rattle.rules_parser.specs.Grammar.{Shape, _⨾_, Just, Anything, Every, NoBlank, Blanks, Gap, Word, InQuotes, CommentLine, OpeningLine, Said, rule, include, guess, name, saidOf, Printable, TextString, TextWord, RuleLine, IncludeLine, verdict, GuessLine, NameLine, LineSays, is-rule, is-include, is-guess, is-name}
+use Rattle.rules_parser.specs.Fields.{partOf, spanEnd, pairAt, fieldAt, partedAt, endsAt}
+use Rattle.rules_parser.specs.Lines.{onField, textAt, ruleTold, lastTwo, fourAt, includeWord, includeAt, ruleAt, guessTold, acceptTold, guessEnd, guessAt, nameTold, nameAt, toldAt, lineAt}
+use Rattle.rules_parser.specs.Grammar.{Shape, _⨾_, Just, Anything, Every, NoBlank, Blanks, Gap, Word, CommentLine, OpeningLine, Said, rule, include, guess, name, saidOf, Printable, TextString, TextWord, RuleLine, IncludeLine, verdict, GuessLine, NameLine, LineSays, is-rule, is-include, is-guess, is-name}
 use Rattle.rules_parser.proofs.Ahead.{pick-where}
-use Rattle.rules_parser.proofs.GrammarFields.{clash, Of, Stops, spanned, span-is, place-in, place-more, text-ends, quote-plain, hash-plain, slash-plain, pair-not, pair-told, Written, Met, Meets, field-met, Parted, Parts, parted-met, Given, Follows, field-given, parted-given, blanks-follow, gap-follows, ends-in, ends-is, ends-told, pair-behind, tail-is, lead, tail-told}
+use Rattle.rules_parser.proofs.GrammarFields.{Of, Stops, spanned, span-is, place-in, place-more, text-ends, plain, pair-not, pair-told, Written, Met, Meets, field-met, Parted, Parts, parted-met, Given, Follows, field-given, parted-given, blanks-follow, gap-follows, ends-in, ends-is, ends-told, pair-behind, tail-is, lead, tail-told}
 use Rattle.rules_parser.specs.declared.fields.Kind.the-variants.{Blank as blanks}
 use Rattle.rules_parser.specs.declared.fields.FieldKind.{FieldKind}
 use Rattle.rules_parser.specs.declared.fields.FieldKind.the-variants.{Quoted, Plain}
@@ -42,17 +39,6 @@ Means k f l Comment = CommentLine l
 Means k f l Opens = OpeningLine l
 Means k f l (Tells t) = LineSays k l (saidOf f t)
 Means k f l Bad = Unit {0}
-
-module _ (k : FileKind) (f l : List ℕ) where
-  on-met : (j : FieldKind) (s : List ℕ) (p : ℕ) (x : Field) (c : Text → ℕ → Line) → Meets j s p x → ((t : Text) (q : ℕ) → Met j s p t q → Means k f l (c t q)) → Means k f l (onField x c)
-  unfolding onField Meets Means
-  on-met j s p (Is t q) c m h = h t q m
-  on-met j s p No c m h = tt
-
-  on-parted : (j : FieldKind) (s : List ℕ) (p : ℕ) (x : Field) (c : Text → ℕ → Line) → Parts j s p x → ((t : Text) (q : ℕ) → Parted j s p t q → Means k f l (c t q)) → Means k f l (onField x c)
-  unfolding onField Parts Means
-  on-parted j s p (Is t q) c m h = h t q m
-  on-parted j s p No c m h = tt
 
 prefix-told : (t l : List ℕ) → prefixOf t l ≡ true → l ≡ t ++ drop (length t) l
 unfolding prefixOf
@@ -85,13 +71,29 @@ module _ (s z : List ℕ) (p q : ℕ) (x : List ℕ) (e : drop p s ≡ x ++ drop
   abbrev M : FileKind → Line → Type 0
   M k = Means k (s ++ z) (drop p s)
 
+  on-field : (k : FileKind) (j : FieldKind) (n : ℕ) (c : Text → ℕ → Line) → ((t : Text) (r : ℕ) → Met j s n t r → M k (c t r)) → M k (onField (fieldAt j s n) c)
+  unfolding onField Meets Means
+  on-field k j n c h = go (fieldAt j s n) (field-met j s n)
+    where
+      go : (x : Field) → Meets j s n x → M k (onField x c)
+      go (Is t r) m = h t r m
+      go No m = tt
+
+  on-parted : (k : FileKind) (j : FieldKind) (n : ℕ) (c : Text → ℕ → Line) → ((t : Text) (r : ℕ) → Parted j s n t r → M k (c t r)) → M k (onField (partedAt j s n) c)
+  unfolding onField Parts Means
+  on-parted k j n c h = go (partedAt j s n) (parted-met j s n)
+    where
+      go : (x : Field) → Parts j s n x → M k (onField x c)
+      go (Is t r) m = h t r m
+      go No m = tt
+
   four-sound : M Rules (fourAt s q)
   unfolding fourAt lastTwo ruleTold textAt Means saidOf Written
   four-sound =
-      on-met Rules (s ++ z) (drop p s) Quoted s q _ _ (field-met Quoted s q) λ t₁ q₁ m₁.
-      on-parted Rules (s ++ z) (drop p s) Quoted s q₁ _ _ (parted-met Quoted s q₁) λ t₂ q₂ m₂.
-      on-parted Rules (s ++ z) (drop p s) Quoted s q₂ _ _ (parted-met Quoted s q₂) λ t₃ q₃ m₃.
-      on-parted Rules (s ++ z) (drop p s) Quoted s q₃ _ _ (parted-met Quoted s q₃) λ t₄ q₄ m₄.
+      on-field Rules Quoted q _ λ t₁ q₁ m₁.
+      on-parted Rules Quoted q₁ _ λ t₂ q₂ m₂.
+      on-parted Rules Quoted q₂ _ λ t₃ q₃ m₃.
+      on-parted Rules Quoted q₃ _ λ t₄ q₄ m₄.
       pick-where (M Rules) _ _ _
       (λ t. pick-where (M Rules) _ _ _
       (λ h.
@@ -115,7 +117,7 @@ module _ (s z : List ℕ) (p q : ℕ) (x : List ℕ) (e : drop p s ≡ x ++ drop
   include-sound : prefixOf includeWord (drop q s) ≡ true → M Rules (includeAt s (q + 8))
   unfolding includeAt endsAt Means saidOf Written
   include-sound w =
-      on-parted Rules (s ++ z) (drop p s) Plain s (q + 8) _ _ (parted-met Plain s (q + 8)) λ t r m.
+      on-parted Rules Plain (q + 8) _ λ t r m.
       pick-where (M Rules) _ _ _
       (λ h.
       let d : drop q s ≡ includeWord ++ drop (q + 8) s = prefix-told includeWord (drop q s) w ∙ ap (λ (l : List ℕ). includeWord ++ l) (drop-drop 8 q s) in
@@ -130,7 +132,7 @@ module _ (s z : List ℕ) (p q : ℕ) (x : List ℕ) (e : drop p s ≡ x ++ drop
   name-sound : M Languages (nameAt s q)
   unfolding nameAt nameTold endsAt Means saidOf Written
   name-sound =
-      on-met Languages (s ++ z) (drop p s) Plain s q _ _ (field-met Plain s q) λ t r m.
+      on-field Languages Plain q _ λ t r m.
       pick-where (M Languages) _ _ _
       (λ h. pick-where (M Languages) _ _ _
       (λ g. rw (m .same z) (is-name (x, drop q s, e, b, met-then {A = Word (partOf s t)} {B = Blanks} m (m .shape) (ends-told s r (leb-true _ _ h))) g)) (λ g. tt)) (λ h. tt)
@@ -159,9 +161,9 @@ module _ (s z : List ℕ) (p q : ℕ) (x : List ℕ) (e : drop p s ≡ x ++ drop
     guess-sound : M Guesses (guessAt s q)
     unfolding guessAt guessEnd acceptTold endsAt Means
     guess-sound =
-        on-met Guesses (s ++ z) (drop p s) Plain s q _ _ (field-met Plain s q) λ t₁ q₁ m₁.
-        on-parted Guesses (s ++ z) (drop p s) Plain s q₁ _ _ (parted-met Plain s q₁) λ t₂ q₂ m₂.
-        on-parted Guesses (s ++ z) (drop p s) Plain s q₂ _ _ (parted-met Plain s q₂) λ t₃ q₃ m₃.
+        on-field Guesses Plain q _ λ t₁ q₁ m₁.
+        on-parted Guesses Plain q₁ _ λ t₂ q₂ m₂.
+        on-parted Guesses Plain q₂ _ λ t₃ q₃ m₃.
         pick-where (M Guesses) _ _ _
         (λ h. pick-where (M Guesses) _ _ _ (λ g. guess-told t₁ t₂ t₃ q₁ q₂ q₃ true m₁ m₂ m₃ (leb-true _ _ h) g)
         (λ g. pick-where (M Guesses) _ _ _ (λ i. guess-told t₁ t₂ t₃ q₁ q₂ q₃ false m₁ m₂ m₃ (leb-true _ _ h) i) (λ i. tt)))
@@ -178,7 +180,7 @@ unfolding toldAt Of
 told-sound Languages s z p c o = let w = spanned blanks s p in name-sound s z p (spanEnd blanks s p) (w .front) (w .place) (w .every)
 told-sound Guesses s z p c o =
     let w = spanned blanks s p in
-    guess-sound s z p (spanEnd blanks s p) (w .front) (w .place) (w .every) (no-pair s p 47 47 slash-plain c) (no-pair s p 47 42 slash-plain o)
+    guess-sound s z p (spanEnd blanks s p) (w .front) (w .place) (w .every) (no-pair s p 47 47 (plain 47 (omega arith)) c) (no-pair s p 47 42 (plain 47 (omega arith)) o)
 told-sound Rules s z p c o = let w = spanned blanks s p in rule-sound s z p (spanEnd blanks s p) (w .front) (w .place) (w .every)
 
 -- what is told of a line is what the grammar says of it; z is what follows it in its file
@@ -198,7 +200,7 @@ blank-complete k s p h = pick-true _ _ _ (le-leb _ _ (ends-in s p h))
 pub comment-complete : (k : FileKind) (s : List ℕ) (p : ℕ) → CommentLine (drop p s) → lineAt k s p ≡ Comment
 unfolding lineAt
 comment-complete k s p (x, y, e, h, (u, v, d, g, o)) =
-    let w = pair-behind s p 47 47 x v (e ∙ rw (d, g) refl) h slash-plain in
+    let w = pair-behind s p 47 47 x v (e ∙ rw (d, g) refl) h (plain 47 (omega arith)) in
     pick-false _ _ _ (lt-leb _ _ (w .0)) ∙ pick-true _ _ _ (w .1)
 
 not-both : (s : List ℕ) (q : ℕ) (t : Bool) → pairAt s q 47 47 ≡ t → pairAt s q 47 42 ≡ true → pairAt s q 47 47 ≡ false
@@ -212,7 +214,7 @@ not-both s q true e f =
 pub opening-complete : (k : FileKind) (s : List ℕ) (p : ℕ) → OpeningLine (drop p s) → lineAt k s p ≡ Opens
 unfolding lineAt
 opening-complete k s p (x, y, e, h, (u, v, d, g, o)) =
-    let w = pair-behind s p 47 42 x v (e ∙ rw (d, g) refl) h slash-plain in
+    let w = pair-behind s p 47 42 x v (e ∙ rw (d, g) refl) h (plain 47 (omega arith)) in
     pick-false _ _ _ (lt-leb _ _ (w .0)) ∙ pick-false _ _ _ (not-both s _ _ refl (w .1)) ∙ pick-true _ _ _ (w .1)
 
 -- the line is told, and says x in the file f
@@ -311,7 +313,7 @@ module _ (s z : List ℕ) (p : ℕ) where
       let m : y ≡ 34 ∷ v = d₁ ∙ ap (λ (v : List ℕ). v ++ y₁) (h₁ .0) in
       let j : drop (p + length x) s ≡ y = place-more s p x y d in
       let f : prefixOf includeWord (drop (p + length x) s) ≡ false = rw (j ∙ m) refl in
-      told-by (told-other Rules s p x 34 v (d ∙ ap (λ (v : List ℕ). x ++ v) m) h quote-plain (λ n. omega arith) ∙ pick-false _ _ _ (lt-leb _ _ (place-in s _ 34 v (j ∙ m))) ∙ pick-false _ _ _ f)
+      told-by (told-other Rules s p x 34 v (d ∙ ap (λ (v : List ℕ). x ++ v) m) h (plain 34 (omega arith)) (λ n. omega arith) ∙ pick-false _ _ _ (lt-leb _ _ (place-in s _ 34 v (j ∙ m))) ∙ pick-false _ _ _ f)
       (four-complete s z (p + length x) y j a l r e (x₁, y₁, d₁, (h₁, t₁), o))
 
   include-said : (n : List ℕ) → IncludeLine n (drop p s) → Told-as (s ++ z) (lineAt Rules s p) (include n)
@@ -321,7 +323,7 @@ module _ (s z : List ℕ) (p : ℕ) where
       let v : List ℕ = drop 1 includeWord ++ y₁ in
       let j : drop (p + length x) s ≡ y = place-more s p x y d in
       let f : prefixOf includeWord (drop (p + length x) s) ≡ true = rw (j ∙ m) refl in
-      told-by (told-other Rules s p x 35 v (d ∙ ap (λ (v : List ℕ). x ++ v) m) h hash-plain (λ n. omega arith) ∙ pick-false _ _ _ (lt-leb _ _ (place-in s _ 35 v (j ∙ m))) ∙ pick-true _ _ _ f)
+      told-by (told-other Rules s p x 35 v (d ∙ ap (λ (v : List ℕ). x ++ v) m) h (plain 35 (omega arith)) (λ n. omega arith) ∙ pick-false _ _ _ (lt-leb _ _ (place-in s _ 35 v (j ∙ m))) ∙ pick-true _ _ _ f)
       (include-complete s z (p + length x) y j n (x₁, y₁, d₁, h₁, o))
 
   name-said : (n : List ℕ) → NameLine n (drop p s) → languageName n ≡ true → Told-as (s ++ z) (lineAt Languages s p) (name n)
@@ -354,3 +356,12 @@ says-complete s z p l e (is-rule w) = rule-complete s z p _ _ _ _ (rw e w)
 says-complete s z p l e (is-include w) = include-said s z p _ (rw e w)
 says-complete s z p l e (is-guess w f g) = guess-said s z p _ _ _ (rw e w) (rw e f) (rw e g)
 says-complete s z p l e (is-name w h) = name-said s z p _ (rw e w) h
+
+-- a line says one thing
+pub one-saying : (k : FileKind) (l : List ℕ) (x y : Said) → LineSays k l x → LineSays k l y → x ≡ y
+one-saying k l x y v w =
+    let a : Told-as (l ++ []) (lineAt k l 0) x = says-complete l [] 0 l refl v in
+    let b : Told-as (l ++ []) (lineAt k l 0) y = says-complete l [] 0 l refl w in
+    let e : Tells (a .told) ≡ Tells (b .told) = sym (a .is) ∙ b .is in
+    let f : a .told ≡ b .told = cc in
+    sym (a .same) ∙ ap (saidOf (l ++ [])) f ∙ b .same

@@ -6,3 +6,6 @@ pub mod Sound
 pub mod Laws
 pub mod GrammarFields
 pub mod GrammarLaws
+pub mod GrammarEnds
+pub mod GrammarFiles
+pub mod LineExamples

@@ -29,7 +29,7 @@ Shape = List ℕ → Type 0
 abbrev pub _⨾_ : Shape → Shape → Shape
 _⨾_ A B l = (x y : List ℕ) × (l ≡ x ++ y) × A x × B y
 
--- just the text t
+-- the text t alone
 abbrev pub Just : List ℕ → Shape
 Just t l = l ≡ t
 
@@ -41,15 +41,36 @@ unfoldable pub Every : (ℕ → Type 0) → Shape
 Every P [] = Unit {0}
 Every P (b ∷ l) = P b × Every P l
 
--- "blanks are space, tab and a CR before LF": the CR is cut off with its line, below
+-- "blanks are space, tab and a CR before LF": the CR belongs to the line's end, below
 abbrev pub BlankByte : ℕ → Type 0
 BlankByte b = (b ≡ 32) ⊎ (b ≡ 9)
 
+abbrev pub NoBlank : ℕ → Type 0
+NoBlank b = BlankByte b → ⊥
+
+-- any byte but a
 abbrev pub Other : ℕ → ℕ → Type 0
 Other a b = b ≡ a → ⊥
 
-abbrev pub NoBlank : ℕ → Type 0
-NoBlank b = BlankByte b → ⊥
+-- the bytes `"`, LF and CR
+abbrev pub quote : ℕ
+quote = 34
+
+abbrev pub lf : ℕ
+lf = 10
+
+abbrev pub cr : ℕ
+cr = 13
+
+-- the bytes of `//`, `/*` and `*/`
+abbrev pub slashes : List ℕ
+slashes = 47 ∷ 47 ∷ []
+
+abbrev pub opener : List ℕ
+opener = 47 ∷ 42 ∷ []
+
+abbrev pub closer : List ℕ
+closer = 42 ∷ 47 ∷ []
 
 abbrev pub Blanks : Shape
 Blanks = Every BlankByte
@@ -58,23 +79,23 @@ Blanks = Every BlankByte
 abbrev pub Gap : Shape
 Gap l = Blanks l × (l ≡ [] → ⊥)
 
--- t, which holds no blank
+-- t, one byte or more and none of them a blank
 abbrev pub Word : List ℕ → Shape
 Word t l = (l ≡ t) × (t ≡ [] → ⊥) × Every NoBlank t
 
--- t between double quotes, which holds none
+-- t between double quotes, and none in it
 abbrev pub InQuotes : List ℕ → Shape
-InQuotes t l = (l ≡ 34 ∷ t ++ 34 ∷ []) × Every (Other 34) t
+InQuotes t l = (l ≡ quote ∷ t ++ quote ∷ []) × Every (Other quote) t
 
 -- ---- a line, without its end
 
 -- "a comment from `//`"
 abbrev pub CommentLine : Shape
-CommentLine = Blanks ⨾ Just (47 ∷ 47 ∷ []) ⨾ Anything
+CommentLine = Blanks ⨾ Just slashes ⨾ Anything
 
 -- "a comment opened by `/*` as first text"
 abbrev pub OpeningLine : Shape
-OpeningLine = Blanks ⨾ Just (47 ∷ 42 ∷ []) ⨾ Anything
+OpeningLine = Blanks ⨾ Just opener ⨾ Anything
 
 -- what a line says
 pub data Said : Type 0 where
@@ -113,7 +134,7 @@ GuessLine p n v = Blanks ⨾ TextWord p ⨾ Gap ⨾ TextWord n ⨾ Gap ⨾ Word 
 abbrev pub NameLine : List ℕ → Shape
 NameLine n = Blanks ⨾ Word n ⨾ Blanks
 
--- "only rule files includes". A guessing pattern may begin with `/`, so a guessing line is said to be no comment
+-- the line l says this: "only rule files includes". A guessing pattern may begin with `/`, so that its line be no comment is said
 pub data LineSays : FileKind → List ℕ → Said → Type 0 where
   is-rule : {l p a b e : List ℕ} → RuleLine p a b e l → LineSays Rules l (rule p a b e)
   is-include : {l f : List ℕ} → IncludeLine f l → LineSays Rules l (include f)
@@ -122,20 +143,20 @@ pub data LineSays : FileKind → List ℕ → Said → Type 0 where
 
 -- ---- lines one after the other
 
--- "Lines end at LF or the file's end": r is the line l, its end, and what is left. A CR before LF is no part of the line
+-- "Lines end at LF or the file's end": r is the line l, its end, and what is left. A CR right before LF goes with it, and no other
 pub data FirstLine (r l left : List ℕ) : Type 0 where
-  at-end : Every (Other 10) l → r ≡ l → left ≡ [] → FirstLine r l left
-  at-lf : Every (Other 10) l → lastIs 13 l ≡ false → r ≡ l ++ 10 ∷ left → FirstLine r l left
-  at-cr-lf : Every (Other 10) l → r ≡ l ++ 13 ∷ 10 ∷ left → FirstLine r l left
+  at-end : Every (Other lf) l → r ≡ l → left ≡ [] → FirstLine r l left
+  at-lf : Every (Other lf) l → lastIs cr l ≡ false → r ≡ l ++ lf ∷ left → FirstLine r l left
+  at-cr-lf : Every (Other lf) l → r ≡ l ++ cr ∷ lf ∷ left → FirstLine r l left
 
 -- no `*/` stands in l
 abbrev pub Unclosed : Shape
-Unclosed l = (x y : List ℕ) → l ≡ x ++ 42 ∷ 47 ∷ y → ⊥
+Unclosed l = (x y : List ℕ) → l ≡ x ++ (closer ++ y) → ⊥
 
 -- how many lines end in l
 unfoldable pub lineEnds : List ℕ → ℕ
 lineEnds [] = 0
-lineEnds (b ∷ l) = pick (eqb b 10) (suc (lineEnds l)) (lineEnds l)
+lineEnds (b ∷ l) = pick (eqb b lf) (suc (lineEnds l)) (lineEnds l)
 
 -- lines to pass, or what a line says, or no line at all (12)
 pub data Found : Type 0 where
@@ -143,19 +164,19 @@ pub data Found : Type 0 where
   said : Said → Found
   wrong : Found
 
--- "opened by `/*` as first text and closed by `*/`, not sharing its star, as last text of that or a later line":
--- r is the comment over its lines, and what is left
+-- r is a comment "opened by `/*` as first text and closed by `*/`, not sharing its star, as last text of that or a later line",
+-- and what is left behind its last line. The first `*/` closes
 pub record Block (r : List ℕ) (lines : ℕ) (left : List ℕ) : Type 0 where
   pub lead : List ℕ
   pub body : List ℕ
   pub behind : List ℕ
   pub trail : List ℕ
-  pub whole : r ≡ lead ++ (47 ∷ 42 ∷ body ++ 42 ∷ 47 ∷ behind)
-  pub blank : Blanks lead
+  pub whole : r ≡ lead ++ (opener ++ (body ++ (closer ++ behind)))
+  pub leads : Blanks lead
   pub closes : Unclosed body
   pub counts : lines ≡ suc (lineEnds body)
   pub ends : FirstLine behind trail left
-  pub last : Blanks trail
+  pub trails : Blanks trail
 
 -- what r begins with, and what is left of it: "Every file has blank lines and comments"
 pub data Begins (k : FileKind) (r : List ℕ) : Found → List ℕ → Type 0 where
@@ -164,7 +185,7 @@ pub data Begins (k : FileKind) (r : List ℕ) : Found → List ℕ → Type 0 wh
   block : {n : ℕ} {left : List ℕ} → Block r n left → Begins k r (passed n) left
   says : {l left : List ℕ} {x : Said} → FirstLine r l left → LineSays k l x → Begins k r (said x) left
 
--- a whole file; what begins as nothing above is 12, and nothing is read behind it
+-- a whole file. What begins in no such way is 12, "an unclosed one is 12 where it opens" too, and nothing behind it is read
 pub data Reads (k : FileKind) : List ℕ → List Found → Type 0 where
   over : Reads k [] []
   next : {b : ℕ} {t left : List ℕ} {x : Found} {xs : List Found} → Begins k (b ∷ t) x left → Reads k left xs → Reads k (b ∷ t) (x ∷ xs)

@@ -2,3 +2,4 @@ pub mod Fields
 pub mod Lines
 pub mod Files
 pub mod Grammar
+pub mod LineExamples
