@@ -202,9 +202,10 @@ pub record Met (k : FieldKind) (s : List ℕ) (p : ℕ) (t : Text) (q : ℕ) : T
   pub shape : Written k (partOf s t) written
   pub same : (z : List ℕ) → partOf (s ++ z) t ≡ partOf s t
 
-unfoldable pub Meets : FieldKind → List ℕ → ℕ → Field → Type 0
-Meets k s p (Is t q) = Met k s p t q
-Meets k s p No = Unit {0}
+-- a P, where there is a field
+unfoldable pub Where : (Text → ℕ → Type 0) → Field → Type 0
+Where P (Is t q) = P t q
+Where P No = Unit {0}
 
 -- the text of w bytes from p on
 met : (k : FieldKind) (s : List ℕ) (p q n : ℕ) (w x r : List ℕ) → drop p s ≡ x ++ drop q s → (a : ℕ) → a ≤ length s → drop a s ≡ w ++ r → n ≡ length w → Written k w x → Met k s p (text a n) q
@@ -228,12 +229,12 @@ quoted-in s p h b l =
     let m : drop p s ≡ 34 ∷ f ++ 34 ∷ [] ++ drop (e + 1) s = place-some s p h ∙ rw (b, append-assoc f (34 ∷ []) (drop (e + 1) s), w .place, i, j) refl in
     met Quoted s p (e + 1) (e - (p + 1)) f (34 ∷ f ++ 34 ∷ []) (drop e s) m (p + 1) (omega arith) (w .place) (omega (arith, w .end)) (refl, w .every)
 
-quoted-met : (s : List ℕ) (p : ℕ) → Meets Quoted s p (quotedAt s p)
-unfolding quotedAt Meets
+quoted-met : (s : List ℕ) (p : ℕ) → Where (Met Quoted s p) (quotedAt s p)
+unfolding quotedAt Where
 quoted-met s p =
-    pick-where (Meets Quoted s p) _ _ _
-    (λ h. pick-where (Meets Quoted s p) _ _ _
-    (λ b. pick-where (Meets Quoted s p) _ _ _ (λ l. quoted-in s p (ltb-true _ _ h) (eqb-true _ _ b) (ltb-true _ _ l)) (λ l. tt)) (λ b. tt)) (λ h. tt)
+    pick-where (Where (Met Quoted s p)) _ _ _
+    (λ h. pick-where (Where (Met Quoted s p)) _ _ _
+    (λ b. pick-where (Where (Met Quoted s p)) _ _ _ (λ l. quoted-in s p (ltb-true _ _ h) (eqb-true _ _ b) (ltb-true _ _ l)) (λ l. tt)) (λ b. tt)) (λ h. tt)
 
 word-in : (s : List ℕ) (p : ℕ) → p < spanEnd NotBlank s p → Met Plain s p (text p (spanEnd NotBlank s p - p)) (spanEnd NotBlank s p)
 unfolding Written Of
@@ -245,11 +246,11 @@ word-in s p h =
     met Plain s p (spanEnd NotBlank s p) (spanEnd NotBlank s p - p) f f (drop (spanEnd NotBlank s p) s) (w .place) p inside (w .place) (omega (arith, w .end))
     (refl, (λ z. omega (arith, some, ap length z)), w .every)
 
-word-met : (s : List ℕ) (p : ℕ) → Meets Plain s p (wordAt s p)
-unfolding wordAt Meets
-word-met s p = pick-where (Meets Plain s p) _ _ _ (λ h. word-in s p (ltb-true _ _ h)) (λ h. tt)
+word-met : (s : List ℕ) (p : ℕ) → Where (Met Plain s p) (wordAt s p)
+unfolding wordAt Where
+word-met s p = pick-where (Where (Met Plain s p)) _ _ _ (λ h. word-in s p (ltb-true _ _ h)) (λ h. tt)
 
-pub field-met : (k : FieldKind) (s : List ℕ) (p : ℕ) → Meets k s p (fieldAt k s p)
+pub field-met : (k : FieldKind) (s : List ℕ) (p : ℕ) → Where (Met k s p) (fieldAt k s p)
 unfolding fieldAt
 field-met Quoted s p = quoted-met s p
 field-met Plain s p = word-met s p
@@ -262,15 +263,11 @@ pub record Parted (k : FieldKind) (s : List ℕ) (p : ℕ) (t : Text) (q : ℕ) 
   pub blanks : Gap gap
   pub field : Met k s from t q
 
-unfoldable pub Parts : FieldKind → List ℕ → ℕ → Field → Type 0
-Parts k s p (Is t q) = Parted k s p t q
-Parts k s p No = Unit {0}
-
-pub parted-met : (k : FieldKind) (s : List ℕ) (p : ℕ) → Parts k s p (partedAt k s p)
-unfolding partedAt Parts Meets Of
-parted-met k s p = pick-where (Parts k s p) _ _ _ (λ h. on (ltb-true _ _ h) (fieldAt k s (spanEnd Blank s p)) (field-met k s (spanEnd Blank s p))) (λ h. tt)
+pub parted-met : (k : FieldKind) (s : List ℕ) (p : ℕ) → Where (Parted k s p) (partedAt k s p)
+unfolding partedAt Where Of
+parted-met k s p = pick-where (Where (Parted k s p)) _ _ _ (λ h. on (ltb-true _ _ h) (fieldAt k s (spanEnd Blank s p)) (field-met k s (spanEnd Blank s p))) (λ h. tt)
   where
-    on : p < spanEnd Blank s p → (x : Field) → Meets k s (spanEnd Blank s p) x → Parts k s p x
+    on : p < spanEnd Blank s p → (x : Field) → Where (Met k s (spanEnd Blank s p)) x → Where (Parted k s p) x
     on h (Is t q) m =
         let w = spanned Blank s p in
         record { from = spanEnd Blank s p; gap = w .front; place = w .place; blanks = (w .every, λ z. omega (arith, w .end, ap length z)); field = m }

@@ -12,11 +12,11 @@ use Rattle.base.specs.Pick.{pick, and, pick-true, pick-false, and-yes, and-inv}
 use Rattle.letters.specs.Order.{sameText}
 use Rattle.texts.specs.Parts.{prefixOf}
 use Rattle.languages.specs.Names.{languageName, allLetters, isLetter, common}
-use Rattle.rules_parser.specs.Fields.{partOf, spanEnd, pairAt, fieldAt, partedAt, endsAt}
+use Rattle.rules_parser.specs.Fields.{partOf, spanEnd, pairAt, endsAt}
 use Rattle.rules_parser.specs.Lines.{onField, textAt, ruleTold, lastTwo, fourAt, includeWord, includeAt, ruleAt, guessTold, acceptTold, guessEnd, guessAt, nameTold, nameAt, toldAt, lineAt}
 use Rattle.rules_parser.specs.Grammar.{Shape, _⨾_, Just, Anything, Every, NoBlank, Blanks, Gap, Word, CommentLine, OpeningLine, Said, rule, include, guess, name, saidOf, Printable, TextString, TextWord, RuleLine, IncludeLine, verdict, GuessLine, NameLine, LineSays, is-rule, is-include, is-guess, is-name}
 use Rattle.rules_parser.proofs.Ahead.{pick-where}
-use Rattle.rules_parser.proofs.GrammarFields.{Of, Stops, spanned, span-is, place-in, place-more, text-ends, plain, pair-not, pair-told, Written, Met, Meets, field-met, Parted, Parts, parted-met, Given, Follows, field-given, parted-given, blanks-follow, gap-follows, ends-in, ends-is, ends-told, pair-behind, tail-is, lead, tail-told}
+use Rattle.rules_parser.proofs.GrammarFields.{Of, Stops, spanned, span-is, place-in, place-more, text-ends, plain, pair-not, pair-told, Written, Where, Met, field-met, Parted, parted-met, Given, Follows, field-given, parted-given, blanks-follow, gap-follows, ends-in, ends-is, ends-told, pair-behind, tail-is, lead, tail-told}
 use Rattle.rules_parser.specs.declared.fields.Kind.the-variants.{Blank as blanks}
 use Rattle.rules_parser.specs.declared.fields.FieldKind.{FieldKind}
 use Rattle.rules_parser.specs.declared.fields.FieldKind.the-variants.{Quoted, Plain}
@@ -71,29 +71,18 @@ module _ (s z : List ℕ) (p q : ℕ) (x : List ℕ) (e : drop p s ≡ x ++ drop
   abbrev M : FileKind → Line → Type 0
   M k = Means k (s ++ z) (drop p s)
 
-  on-field : (k : FileKind) (j : FieldKind) (n : ℕ) (c : Text → ℕ → Line) → ((t : Text) (r : ℕ) → Met j s n t r → M k (c t r)) → M k (onField (fieldAt j s n) c)
-  unfolding onField Meets Means
-  on-field k j n c h = go (fieldAt j s n) (field-met j s n)
-    where
-      go : (x : Field) → Meets j s n x → M k (onField x c)
-      go (Is t r) m = h t r m
-      go No m = tt
-
-  on-parted : (k : FileKind) (j : FieldKind) (n : ℕ) (c : Text → ℕ → Line) → ((t : Text) (r : ℕ) → Parted j s n t r → M k (c t r)) → M k (onField (partedAt j s n) c)
-  unfolding onField Parts Means
-  on-parted k j n c h = go (partedAt j s n) (parted-met j s n)
-    where
-      go : (x : Field) → Parts j s n x → M k (onField x c)
-      go (Is t r) m = h t r m
-      go No m = tt
+  on-field : (k : FileKind) (P : Text → ℕ → Type 0) (y : Field) (c : Text → ℕ → Line) → Where P y → ((t : Text) (r : ℕ) → P t r → M k (c t r)) → M k (onField y c)
+  unfolding onField Where Means
+  on-field k P (Is t r) c m h = h t r m
+  on-field k P No c m h = tt
 
   four-sound : M Rules (fourAt s q)
   unfolding fourAt lastTwo ruleTold textAt Means saidOf Written
   four-sound =
-      on-field Rules Quoted q _ λ t₁ q₁ m₁.
-      on-parted Rules Quoted q₁ _ λ t₂ q₂ m₂.
-      on-parted Rules Quoted q₂ _ λ t₃ q₃ m₃.
-      on-parted Rules Quoted q₃ _ λ t₄ q₄ m₄.
+      on-field Rules _ _ _ (field-met Quoted s q) λ t₁ q₁ m₁.
+      on-field Rules _ _ _ (parted-met Quoted s q₁) λ t₂ q₂ m₂.
+      on-field Rules _ _ _ (parted-met Quoted s q₂) λ t₃ q₃ m₃.
+      on-field Rules _ _ _ (parted-met Quoted s q₃) λ t₄ q₄ m₄.
       pick-where (M Rules) _ _ _
       (λ t. pick-where (M Rules) _ _ _
       (λ h.
@@ -117,7 +106,7 @@ module _ (s z : List ℕ) (p q : ℕ) (x : List ℕ) (e : drop p s ≡ x ++ drop
   include-sound : prefixOf includeWord (drop q s) ≡ true → M Rules (includeAt s (q + 8))
   unfolding includeAt endsAt Means saidOf Written
   include-sound w =
-      on-parted Rules Plain (q + 8) _ λ t r m.
+      on-field Rules _ _ _ (parted-met Plain s (q + 8)) λ t r m.
       pick-where (M Rules) _ _ _
       (λ h.
       let d : drop q s ≡ includeWord ++ drop (q + 8) s = prefix-told includeWord (drop q s) w ∙ ap (λ (l : List ℕ). includeWord ++ l) (drop-drop 8 q s) in
@@ -132,7 +121,7 @@ module _ (s z : List ℕ) (p q : ℕ) (x : List ℕ) (e : drop p s ≡ x ++ drop
   name-sound : M Languages (nameAt s q)
   unfolding nameAt nameTold endsAt Means saidOf Written
   name-sound =
-      on-field Languages Plain q _ λ t r m.
+      on-field Languages _ _ _ (field-met Plain s q) λ t r m.
       pick-where (M Languages) _ _ _
       (λ h. pick-where (M Languages) _ _ _
       (λ g. rw (m .same z) (is-name (x, drop q s, e, b, met-then {A = Word (partOf s t)} {B = Blanks} m (m .shape) (ends-told s r (leb-true _ _ h))) g)) (λ g. tt)) (λ h. tt)
@@ -161,9 +150,9 @@ module _ (s z : List ℕ) (p q : ℕ) (x : List ℕ) (e : drop p s ≡ x ++ drop
     guess-sound : M Guesses (guessAt s q)
     unfolding guessAt guessEnd acceptTold endsAt Means
     guess-sound =
-        on-field Guesses Plain q _ λ t₁ q₁ m₁.
-        on-parted Guesses Plain q₁ _ λ t₂ q₂ m₂.
-        on-parted Guesses Plain q₂ _ λ t₃ q₃ m₃.
+        on-field Guesses _ _ _ (field-met Plain s q) λ t₁ q₁ m₁.
+        on-field Guesses _ _ _ (parted-met Plain s q₁) λ t₂ q₂ m₂.
+        on-field Guesses _ _ _ (parted-met Plain s q₂) λ t₃ q₃ m₃.
         pick-where (M Guesses) _ _ _
         (λ h. pick-where (M Guesses) _ _ _ (λ g. guess-told t₁ t₂ t₃ q₁ q₂ q₃ true m₁ m₂ m₃ (leb-true _ _ h) g)
         (λ g. pick-where (M Guesses) _ _ _ (λ i. guess-told t₁ t₂ t₃ q₁ q₂ q₃ false m₁ m₂ m₃ (leb-true _ _ h) i) (λ i. tt)))
