@@ -25,7 +25,7 @@ use Rattle.rules_parser.specs.declared.files.Item.{Item}
 use Rattle.rules_parser.specs.declared.files.Item.the-variants.{Passed, Tells, Wrong}
 
 -- ---- the end of a comment, x being the answer
-close-step : (s : List ℕ) (i n : ℕ) → i < length s
+pub close-step : (s : List ℕ) (i n : ℕ) → i < length s
     → closeIn s (drop i s) i n ≡ pick (pairAt s i 42 47) (At (i + 2) (n + 1)) (closeIn s (drop (i + 1) s) (i + 1) (countedOf n (getD s i 0)))
 unfolding closeIn
 close-step s i n h =

@@ -4,3 +4,8 @@ pub mod FileLaws
 pub mod Ahead
 pub mod Sound
 pub mod Laws
+pub mod GrammarFields
+pub mod GrammarLaws
+pub mod GrammarEnds
+pub mod GrammarFiles
+pub mod LineExamples

@@ -1,3 +1,5 @@
 pub mod Fields
 pub mod Lines
 pub mod Files
+pub mod Grammar
+pub mod LineExamples
