@@ -94,7 +94,8 @@ enough zero g c l s h k = absurd (not-suc-le-zero h)
 enough (suc f) zero c l s h k = absurd (not-suc-le-zero k)
 enough (suc f) (suc g) c l s h k = name-alike _ _ s (λ t m. enough f g c (c .guess t) t (omega arith) (omega arith)) c l
 
-name-once : (c : Steps) (l : LanguageSet) (s : Text) → spelledName c l s ≡ nameBy c (afreshBy c) l s
+-- the recursion of the paper: what is without fuel is never met
+pub name-once : (c : Steps) (l : LanguageSet) (s : Text) → spelledName c l s ≡ nameBy c (afreshBy c) l s
 unfolding spelledName nameFrom afreshBy
 name-once c l s = name-alike _ _ s (λ t m. enough (length s) (suc (length t)) c (c .guess t) t (omega arith) (omega arith)) c l
 
