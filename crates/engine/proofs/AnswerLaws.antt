@@ -1,6 +1,6 @@
 -- From a spelled name to a call's answer: what fits, what is written, and the refusals in their order. Assumes nothing.
 use mathlib.Core.Path.{_≡_, refl, sym, ap, ap₂, _∙_}
-use mathlib.Core.Bool.{Bool, true, false}
+use mathlib.Core.Bool.{Bool, true, false, false≢true}
 use mathlib.Core.List.{List, [], _∷_, map}
 use Prim.Native.Nat.{ℕ, zero, suc, _-_, _*_, _+_, _≤_, _<_, min}
 use native.Mathlib.Nat.{zero-add}
@@ -8,7 +8,7 @@ use native.Mathlib.Omega.{arith}
 use lib.Dec.{eqb, leb, ltb}
 use lib.ListN.{length, getD, take, drop, replicate, length-take, length-replicate, getD-replicate, List·getD-eq-default}
 use lib.Seq.{sets, take-at, sets-eq, length-sets}
-use borrow.Author.Tests.{eq-eqb, ne-eqb, le-leb, lt-leb, leb-true, leb-false, ltb-true, ltb-false}
+use borrow.Author.Tests.{le-leb, lt-leb, leb-true, leb-false, ltb-true, ltb-false}
 use Rattle.base.specs.Pick.{pick, pick-true, pick-false, pick-all, and-inv}
 use Rattle.base.proofs.One.{one}
 use Rattle.lower_case.specs.Lower.{lowerText, loweredBuffer, LoweredInto}
@@ -24,10 +24,12 @@ use Rattle.name_parts.proofs.Laws.{clash, slice-room, spaced-long}
 use Rattle.pack.specs.Packs.{refused, packOf}
 use Rattle.pack.specs.Guessing.{guessed, guessedAt}
 use Rattle.pack.proofs.Laws.{languages-few, guess-told, guess-below}
+use Rattle.refusals.specs.declared.Refusal.{Refusal}
+use Rattle.refusals.specs.declared.Refusal.the-variants.{PackBroken, NoSuchLanguage, NoRoom}
 use Rattle.choices.specs.Texts.{Text}
 use Rattle.engine.specs.Spelling.{Spelt, bad, good, onePart, partedAs, spelledName}
-use Rattle.engine.specs.Calls.{settingsKnown, kindKnown, haveLanguages, stepsBy, stepsOf, spelledBy, Outcome, refusedBy, outcomeOf, onPack, checkedThen, callOf, toldOf, filledBy, SpellIs}
-use Rattle.engine.specs.Walks.{packIn, Blank, AtDesk, DeskIs, Ready, Scratch, callFor, FoundIs, stepsAt, startAt, codeOf, ToldBy, Told, wholeBy, ToldWhole, answeredBy, wholeAnd, KeptAll, none, over, copied, KeptIs}
+use Rattle.engine.specs.Calls.{settingsKnown, kindKnown, haveLanguages, stepsBy, stepsOf, spelledBy, Outcome, refusedBy, outcomeOf, onPack, checkedThen, callOf, numbersIn, numbersOf, toldOf, filledBy, SpellIs}
+use Rattle.engine.specs.Walks.{packIn, Blank, AtDesk, DeskIs, Ready, Scratch, callFor, FoundIs, stepsAt, startAt, isGood, ToldBy, Told, wholeBy, ToldWhole, answeredBy, wholeAnd, KeptAll, none, over, copied, KeptIs}
 use Rattle.engine.specs.declared.call.Call.{Call}
 use Rattle.engine.specs.declared.encode.Ends.{Ends}
 use Rattle.engine.specs.declared.spelling.Spelled.{Spelled}
@@ -38,6 +40,7 @@ use Rattle.engine.specs.declared.call.Desk.{Desk}
 use Rattle.engine.specs.declared.call.Desk.the-variants.{Open, Shut}
 use Rattle.engine.specs.declared.spelling.Named.{Named}
 use Rattle.engine.specs.declared.spelling.Named.the-variants.{Fine, Wrong}
+use Rattle.engine.proofs.NumberLaws.{numbers-one, spell-is}
 use Rattle.engine.proofs.SpellingLaws.{name-plain}
 use Rattle.engine.proofs.CallLaws as calls
 use Rattle.engine.proofs.CallLaws.{fine-name, fine-call, wrong-name, known-limits}
@@ -62,13 +65,12 @@ single-inv Whole u e = (refl, e)
 
 module _ {a : Ends} {room : ℕ} {o o′ : List ℕ} (h : room < cap) where
   answered-by : (x : Spelt) → Told x o o′ 0 a → answeredBy a room ≡ toldOf (outcomeOf x) room
-  unfolding codeOf ToldBy answeredBy outcomeOf toldOf
-  answered-by (bad k) q =
-      pick-false _ _ _ (ne-eqb _ _ (λ (z : a .code ≡ 0). let no-way : ⊥ = omega (arith, q .code, q .is, z) in absurd no-way)) ∙ ap (λ (c : ℕ). Refused c 0) (q .code)
-  answered-by (good t f) q = pick-true _ _ _ (eq-eqb _ _ (q .code)) ∙ fits-by _ refl
+  unfolding isGood ToldBy answeredBy outcomeOf toldOf
+  answered-by (bad why) q = pick-false _ _ _ (q .fine) ∙ ap (λ (k : Refusal). Refused k 0) (q .is)
+  answered-by (good t f) q = pick-true _ _ _ (q .fine) ∙ fits-by _ refl
     where
       fits-by : (b : Bool) → leb (a .at) room ≡ b
-          → pick (leb (a .at) room) (Done (a .at) (a .flag)) (Refused 9 (min (a .at) 4294967295)) ≡ pick (leb (length t) room) (Done (length t) f) (Refused 9 (min (length t) 4294967295))
+          → pick (leb (a .at) room) (Done (a .at) (a .flag)) (Refused NoRoom (min (a .at) 4294967295)) ≡ pick (leb (length t) room) (Done (length t) f) (Refused NoRoom (min (length t) 4294967295))
       fits-by true e =
           let k : a .at ≤ room = leb-true _ _ e in
           let same : a .at ≡ length t = omega (arith, q .is .0 .ends) in
@@ -76,7 +78,7 @@ module _ {a : Ends} {room : ℕ} {o o′ : List ℕ} (h : room < cap) where
       fits-by false e =
           let k : room < a .at = leb-false _ _ e in
           let same : min (a .at) 4294967295 ≡ min (length t) 4294967295 = omega (arith, q .is .0 .ends) in
-          pick-false _ _ _ e ∙ ap (Refused 9) same ∙ sym (pick-false _ _ _ (lt-leb (length t) room (omega (arith, q .is .0 .ends))))
+          pick-false _ _ _ e ∙ ap (Refused NoRoom) same ∙ sym (pick-false _ _ _ (lt-leb (length t) room (omega (arith, q .is .0 .ends))))
 
 -- ---- what is written
 
@@ -101,13 +103,13 @@ module _ (s : List ℕ) (call : Call) (name : Text) (t : Bool) (et : t ≡ whole
 
 -- what `keep` tells
 module _ (a : Ends) (apart o : List ℕ) where
-  pub kept-copied : {o′ : List ℕ} {p : ℕ} → a .code ≡ 0 → a .at ≤ length o → a .at ≤ length apart → Put o o′ 0 p (take (a .at - 0) (drop 0 apart)) → KeptIs a apart o o′ true
+  pub kept-copied : {o′ : List ℕ} {p : ℕ} → a .fine ≡ true → a .at ≤ length o → a .at ≤ length apart → Put o o′ 0 p (take (a .at - 0) (drop 0 apart)) → KeptIs a apart o o′ true
   unfolding KeptIs
   kept-copied e h k w =
       let n : a .at - 0 ≡ a .at = omega arith in
       copied e h k (w .wrote ∙ ap (λ (m : ℕ). sets o 0 (take m apart)) n)
 
-  pub kept-long : a .code ≡ 0 → a .at ≤ length o → KeptIs a apart o o false
+  pub kept-long : a .fine ≡ true → a .at ≤ length o → KeptIs a apart o o false
   unfolding KeptIs
   kept-long e h = (e, h, refl)
 
@@ -115,23 +117,23 @@ module _ (a : Ends) (apart o : List ℕ) where
   unfolding KeptIs
   kept-over h = over h refl
 
-  pub kept-none : (a .code ≡ 0 → ⊥) → KeptIs a apart o o true
+  pub kept-none : a .fine ≡ false → KeptIs a apart o o true
   unfolding KeptIs
   kept-none h = none h refl
 
 -- a name spelled apart, into u, and kept: it is told as a whole
 module _ {u u′ o : List ℕ} {a : Ends} (room : length o < cap) where
   kept-by : {o₁ : List ℕ} (x : Spelt) → Told x u u′ 0 a → KeptAll a u′ o o₁ → ToldWhole x o o₁ 0 a
-  unfolding codeOf ToldBy wholeBy
-  kept-by (bad k) m (none h e) = record { told = record { code = m .code; is = m .is }; whole = e }
-  kept-by (bad k) m (over h e) = record { told = record { code = m .code; is = m .is }; whole = e }
-  kept-by (bad k) m (copied c h l e) = let no-way : ⊥ = omega (arith, m .code, m .is, c) in absurd no-way
-  kept-by (good t f) m (none h e) = absurd (h (m .code))
+  unfolding isGood ToldBy wholeBy
+  kept-by (bad k) m (none h e) = record { told = record { fine = m .fine; is = m .is }; whole = e }
+  kept-by (bad k) m (over h e) = record { told = record { fine = m .fine; is = m .is }; whole = e }
+  kept-by (bad k) m (copied c h l e) = absurd (false≢true (sym (m .fine) ∙ c))
+  kept-by (good t f) m (none h e) = absurd (false≢true (sym h ∙ m .fine))
   kept-by (good t f) m (over h e) =
       let past : length o < 0 + length t = omega (arith, h, m .is .0 .ends) in
       record {
         told = record {
-          code = m .code;
+          fine = m .fine;
           is = (
             record { ends = m .is .0 .ends; wrote = λ (l : 0 + length t ≤ length o). let no-way : ⊥ = omega (arith, past, l) in absurd no-way; same = ap length e; room = room },
             m .is .1,
@@ -145,13 +147,13 @@ module _ {u u′ o : List ℕ} {a : Ends} (room : length o < cap) where
       let stands = e ∙ ap (sets o 0) text in
       let fits : 0 + length t ≤ length o = omega (arith, long, h) in
       record {
-        told = record { code = m .code; is = (record { ends = m .is .0 .ends; wrote = λ k. stands; same = ap length stands ∙ length-sets o 0 t; room = room }, m .is .1) };
+        told = record { fine = m .fine; is = (record { ends = m .is .0 .ends; wrote = λ k. stands; same = ap length stands ∙ length-sets o 0 t; room = room }, m .is .1) };
         whole = stands ∙ sym (pick-true _ _ _ (le-leb _ _ fits));
       }
 
-  again-by : {o₂ : List ℕ} {b : Ends} (x : Spelt) → Told x u u′ 0 a → a .code ≡ 0 → a .at ≤ length o → Told x o o₂ 0 b → ToldWhole x o o₂ 0 b
-  unfolding codeOf ToldBy wholeBy
-  again-by (bad k) m c h q = let no-way : ⊥ = omega (arith, m .code, m .is, c) in absurd no-way
+  again-by : {o₂ : List ℕ} {b : Ends} (x : Spelt) → Told x u u′ 0 a → a .fine ≡ true → a .at ≤ length o → Told x o o₂ 0 b → ToldWhole x o o₂ 0 b
+  unfolding isGood ToldBy wholeBy
+  again-by (bad k) m c h q = absurd (false≢true (sym (m .fine) ∙ c))
   again-by (good t f) m c h q =
       let fits : 0 + length t ≤ length o = omega (arith, m .is .0 .ends, h, room) in
       record { told = q; whole = q .is .0 .wrote fits ∙ sym (pick-true _ _ _ (le-leb _ _ fits)) }
@@ -164,13 +166,13 @@ module _ {x : Spelt} {u u′ o o₁ : List ℕ} {a : Ends} {t : Bool} (h : lengt
   pub again-told : {o₂ : List ℕ} {b : Ends} → t ≡ false → Told x o₁ o₂ 0 b → ToldWhole x o o₂ 0 b
   unfolding KeptIs
   again-told n q =
-      let w : (a .code ≡ 0) × (a .at ≤ length o) × (o₁ ≡ o) = rw n at k in
+      let w : (a .fine ≡ true) × (a .at ≤ length o) × (o₁ ≡ o) = rw n at k in
       again-by (slice-room o h) x m (w .0) (w .1) (rw (w .2) at q)
 
 -- what is told as a whole is a call's answer
 answer-told : (x : Spelt) {a : Ends} {ans : Spelled} {o o′ : List ℕ} → length o * 1 < cap → ToldWhole x o o′ 0 a → ans ≡ answeredBy a (length o′) → SpellIs (outcomeOf x) o ans o′
 answer-told x {o = o} h w e =
-    record { result = e ∙ ap (answeredBy _) (ap length (w .whole) ∙ whole-long x o) ∙ answered-by (slice-room o h) x (w .told); buffer = w .whole ∙ whole-filled x o }
+    spell-is (e ∙ ap (answeredBy _) (ap length (w .whole) ∙ whole-long x o) ∙ answered-by (slice-room o h) x (w .told)) (w .whole ∙ whole-filled x o)
 
 take-map : {A B : Type 0} (n : ℕ) (l : List A) (f : A → B) → take n (map f l) ≡ map f (take n l)
 take-map zero l f = refl
@@ -234,8 +236,8 @@ module _ (s places : List ℕ) (c : Settings) (start : Start) (languages guesses
 
 -- ---- the refusals in their order
 
-refused-told : {k p : ℕ} {x : Outcome} (o : List ℕ) → x ≡ refusedBy k p → SpellIs x o (Refused k p) o
-unfolding toldOf filledBy
+refused-told : {why : Refusal} {p : ℕ} {x : Outcome} (o : List ℕ) → x ≡ refusedBy why p → SpellIs x o (Refused why p) o
+unfolding numbersOf numbersIn filledBy
 refused-told o e = rw e (record { result = refl; buffer = refl })
 
 pub desk-at : (s places : List ℕ) (d : Desk) (l g a : ℕ) → DeskIs s places d → d ≡ Open l g a → AtDesk s places l g a
@@ -254,11 +256,11 @@ module _ (c : Settings) (start : Start) (name : Text) (r : Named) (found : Found
   part-short o = omega (arith, length-take (length name - 0) o, name-short)
 
 module _ (c : Settings) (start : Start) (s places : List ℕ) (name : Text) (r : Named) (found : FoundIs (checkedThen c start name) r) where
-  pub at-wrong : (o : List ℕ) (k p : ℕ) → r ≡ Wrong k p → SpellIs (callOf c start s name) o (Refused k p) o
-  at-wrong o k p e = refused-told o (wrong-name c start s name r k p found e)
+  pub at-wrong : (o : List ℕ) (why : Refusal) (p : ℕ) → r ≡ Wrong why p → SpellIs (callOf c start s name) o (Refused why p) o
+  at-wrong o why p e = refused-told o (wrong-name c start s name r why p found e)
 
   module _ (e : r ≡ Fine) where
-    pub at-shut : (o : List ℕ) (d : Desk) (p : ℕ) → DeskIs s places d → d ≡ Shut p → SpellIs (callOf c start s name) o (Refused 5 p) o
+    pub at-shut : (o : List ℕ) (d : Desk) (p : ℕ) → DeskIs s places d → d ≡ Shut p → SpellIs (callOf c start s name) o (Refused PackBroken p) o
     unfolding onPack
     at-shut o d p w q = refused-told o (fine-call c start s name r found e ∙ ap (onPack c start s name) (desk-no s places d p w q))
 
@@ -267,14 +269,14 @@ module _ (c : Settings) (start : Start) (s places : List ℕ) (name : Text) (r :
       few-at = omega (arith, desk .languages-are, languages-few s (packIn s) guesses (desk .is) (desk .guesses-are))
 
       module _ (t : Bool) (et : t ≡ haveLanguages languages start) where
-        on-pack : callOf c start s name ≡ pick t (outcomeOf (spelledBy (stepsOf s (packIn s) c) start (lowerText name))) (refusedBy 6 0)
+        on-pack : callOf c start s name ≡ pick t (outcomeOf (spelledBy (stepsOf s (packIn s) c) start (lowerText name))) (refusedBy NoSuchLanguage 0)
         unfolding onPack
         on-pack =
             fine-call c start s name r found e ∙ ap (onPack c start s name) (desk .is)
-            ∙ ap (λ (b : Bool). pick b (outcomeOf (spelledBy (stepsOf s (packIn s) c) start (lowerText name))) (refusedBy 6 0))
+            ∙ ap (λ (b : Bool). pick b (outcomeOf (spelledBy (stepsOf s (packIn s) c) start (lowerText name))) (refusedBy NoSuchLanguage 0))
             (ap (λ (n : ℕ). haveLanguages n start) (sym (desk .languages-are)) ∙ sym et)
 
-        pub at-none : (o : List ℕ) → t ≡ false → SpellIs (callOf c start s name) o (Refused 6 0) o
+        pub at-none : (o : List ℕ) → t ≡ false → SpellIs (callOf c start s name) o (Refused NoSuchLanguage 0) o
         at-none o y = refused-told o (on-pack ∙ pick-false _ _ _ y)
 
         -- spelled by the call of the lower-cased name, which stands in a buffer
@@ -294,7 +296,7 @@ module _ (c : Settings) (start : Start) (s places : List ℕ) (name : Text) (r :
 
 -- the promise of a call allows one answer and one content of the buffer
 pub spell-one : {x : Outcome} {out o o′ : List ℕ} {r r′ : Spelled} → SpellIs x out r o → SpellIs x out r′ o′ → (r ≡ r′) × (o ≡ o′)
-spell-one a b = (one (a .result) (b .result), one (a .buffer) (b .buffer))
+spell-one a b = (numbers-one _ _ (one (a .result) (b .result)), one (a .buffer) (b .buffer))
 
 pub scratch-new : (a b : ℕ) → a ≡ 131072 → b ≡ 1024 → Scratch (length (replicate {A = ℕ} a 0)) (length (replicate {A = ℕ} b 0))
 scratch-new a b ea eb = record { store-is = length-replicate {A = ℕ} a 0 ∙ ea; marks-is = length-replicate {A = ℕ} b 0 ∙ eb }

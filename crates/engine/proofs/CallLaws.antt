@@ -34,6 +34,8 @@ use Rattle.pack.proofs.Laws.{is-pack, languages-few, guesses-within, names-stri
 use Rattle.prefixes.specs.declared.prefixes.NameType.{NameType}
 use Rattle.choices.specs.Texts.{Text}
 use Rattle.choices.proofs.TextLaws.{clash}
+use Rattle.refusals.specs.declared.Refusal.{Refusal}
+use Rattle.refusals.specs.declared.Refusal.the-variants.{NotUtf8, OutsideRange, NameTooLong, SettingUnknown}
 use Rattle.engine.specs.Calls.{kindKnown, settingsKnown, haveLanguages, typeOf, startSet, Outcome, refusedBy, key, unless, onPack, lettersThen, checkedThen, callOf}
 use Rattle.engine.specs.Walks.{packBy, packIn, ByTable, Blank, Placed, DeskIs, callFor, foundBy, FoundIs}
 use Rattle.engine.specs.declared.call.Settings.{Settings}
@@ -107,11 +109,11 @@ pub ruleset start-laws = (have-guessed, have-given, set-guessed, set-given, case
 
 -- ---- a room that is too small
 
-pub place-kept : (n m : ℕ) → n < m → spelled.Refused 9 n ≡ spelled.Refused 9 (min n m)
-place-kept n m h = ap (spelled.Refused 9) (omega arith)
+pub place-kept : (why : Refusal) (n m : ℕ) → n < m → spelled.Refused why n ≡ spelled.Refused why (min n m)
+place-kept why n m h = ap (spelled.Refused why) (omega arith)
 
-pub place-cut : (n m : ℕ) → m ≤ n → spelled.Refused 9 m ≡ spelled.Refused 9 (min n m)
-place-cut n m h = ap (spelled.Refused 9) (omega arith)
+pub place-cut : (why : Refusal) (n m : ℕ) → m ≤ n → spelled.Refused why m ≡ spelled.Refused why (min n m)
+place-cut why n m h = ap (spelled.Refused why) (omega arith)
 
 -- ---- a desk
 
@@ -243,21 +245,21 @@ call-made c start languages guesses other guess set kind ek es = rw (ek, es) ref
 -- ---- the refusals before the pack
 
 module _ (name : Text) where
-  pub found-long : 96 < length name → FoundIs (lettersThen name) (Wrong 3 0)
+  pub found-long : 96 < length name → FoundIs (lettersThen name) (Wrong NameTooLong 0)
   unfolding lettersThen foundBy
   found-long h = record { is = λ rest. sym (pick-true _ _ _ (lt-ltb _ _ h)) }
 
-  letters-by : (x y : Found) → length name ≤ 96 → firstIll name ≡ x → firstOutside name ≡ y → (rest : Outcome) → unless 1 x (unless 2 y rest) ≡ lettersThen name rest
+  letters-by : (x y : Found) → length name ≤ 96 → firstIll name ≡ x → firstOutside name ≡ y → (rest : Outcome) → unless NotUtf8 x (unless OutsideRange y rest) ≡ lettersThen name rest
   unfolding lettersThen
-  letters-by x y h p q rest = sym (pick-false _ _ _ (le-ltb _ _ h) ∙ ap₂ (λ (f g : Found). unless 1 f (unless 2 g rest)) p q)
+  letters-by x y h p q rest = sym (pick-false _ _ _ (le-ltb _ _ h) ∙ ap₂ (λ (f g : Found). unless NotUtf8 f (unless OutsideRange g rest)) p q)
 
   module _ (x : Found) (h : length name ≤ 96) (e : x ≡ firstIll name) where
-    pub found-ill : (place : ℕ) → x ≡ At place → FoundIs (lettersThen name) (Wrong 1 place)
+    pub found-ill : (place : ℕ) → x ≡ At place → FoundIs (lettersThen name) (Wrong NotUtf8 place)
     unfolding foundBy unless
     found-ill place p = record { is = letters-by (At place) _ h (sym e ∙ p) refl }
 
     module _ (y : Found) (p : x ≡ Nothing) (e′ : y ≡ firstOutside name) where
-      pub found-outside : (place : ℕ) → y ≡ At place → FoundIs (lettersThen name) (Wrong 2 place)
+      pub found-outside : (place : ℕ) → y ≡ At place → FoundIs (lettersThen name) (Wrong OutsideRange place)
       unfolding foundBy unless
       found-outside place q = record { is = letters-by Nothing (At place) h (sym e ∙ p) (sym e′ ∙ q) }
 
@@ -270,7 +272,7 @@ module _ (c : Settings) (start : Start) (name : Text) (t : Bool) (k : t ≡ sett
   unfolding checkedThen
   found-known r e w = record { is = λ rest. w .is rest ∙ sym (pick-true _ _ _ (sym k ∙ e)) }
 
-  pub found-unknown : t ≡ false → FoundIs (checkedThen c start name) (Wrong 4 0)
+  pub found-unknown : t ≡ false → FoundIs (checkedThen c start name) (Wrong SettingUnknown 0)
   unfolding checkedThen foundBy
   found-unknown e = record { is = λ rest. sym (pick-false _ _ _ (sym k ∙ e)) }
 
@@ -278,7 +280,7 @@ pub ruleset found-laws = (found-long, found-ill, found-outside, found-none, foun
 
 -- ---- what that tells
 
-fine-by : (t u : Bool) (x : Outcome) → key [] false ≡ pick t (pick u (refusedBy 3 0) x) (refusedBy 4 0) → (t ≡ true) × (u ≡ false)
+fine-by : (t u : Bool) (x : Outcome) → key [] false ≡ pick t (pick u (refusedBy NameTooLong 0) x) (refusedBy SettingUnknown 0) → (t ≡ true) × (u ≡ false)
 unfolding pick
 fine-by false u x e = clash (cc)
 fine-by true true x e = clash (cc)
@@ -298,9 +300,9 @@ module _ (c : Settings) (start : Start) where
     call-by x w e = sym (w .is _) ∙ ap (λ (y : Named). foundBy y (onPack c start s name (packOf s))) e
 
     -- a call is refused as its name is
-    pub wrong-name : (code place : ℕ) → FoundIs (checkedThen c start name) r → r ≡ Wrong code place → callOf c start s name ≡ refusedBy code place
+    pub wrong-name : (why : Refusal) (place : ℕ) → FoundIs (checkedThen c start name) r → r ≡ Wrong why place → callOf c start s name ≡ refusedBy why place
     unfolding foundBy
-    wrong-name code place = call-by (Wrong code place)
+    wrong-name why place = call-by (Wrong why place)
 
     -- else the pack is looked at
     pub fine-call : FoundIs (checkedThen c start name) r → r ≡ Fine → callOf c start s name ≡ onPack c start s name (packOf s)

@@ -7,7 +7,7 @@ use native.Mathlib.Omega.{arith}
 use lib.Dec.{leb}
 use lib.ListN.{length, take, drop, length-drop}
 use lib.Seq.{take-all, length-sets}
-use borrow.Author.Tests.{eq-eqb, ne-eqb, le-leb, lt-ltb}
+use borrow.Author.Tests.{eq-eqb, le-leb, lt-ltb}
 use Rattle.base.specs.Pick.{pick, and, pick-true, pick-false, pick-all, and-yes}
 use Rattle.languages.specs.Sets.{singleOf, BitsBelow}
 use Rattle.languages.specs.declared.sets.LanguageSet.{LanguageSet}
@@ -28,6 +28,10 @@ use Rattle.pack.specs.Places.{textBytes}
 use Rattle.pack.specs.Guessing.{guessed, guessedAt}
 use Rattle.pack.proofs.Laws.{languages-few, guesses-within, guess-told, guessed-below}
 use Rattle.choices.specs.Texts.{Text}
+use Rattle.refusals.specs.Numbers.{numberOf}
+use Rattle.refusals.specs.declared.Refusal.{Refusal}
+use Rattle.refusals.specs.declared.Refusal.the-variants.{TextTooLong, TooManyTexts}
+use Rattle.refusals.proofs.NumberLaws.{number-one}
 use Rattle.phoneme_builder.specs.Sets.{Spelling, refusal, texts}
 use Rattle.phoneme_builder.specs.Passes.{wordOf, joined}
 use Rattle.phoneme_builder.specs.Tables.{matcher, areLists}
@@ -36,9 +40,9 @@ use Rattle.phoneme_builder.specs.declared.words.Worded.{Worded}
 use Rattle.phoneme_builder.specs.declared.words.Worded.the-variants.{Done, TooLong, TooMany, Unfit}
 use Rattle.engine.specs.Spelling.{bad, good, or, onePart, eachWord, partedAs, spelledName, afreshBy}
 use Rattle.engine.specs.Calls.{languageBy, languageOf, speltBy, wordBy, stepsBy}
-use Rattle.engine.specs.Walks.{packIn, Ready, Scratch, afreshOf, stepsAt, startAt, listsOf, codeOf, ToldBy, Told, wholeBy, ToldWhole, EndedIs, bothOf, HyphenAt}
+use Rattle.engine.specs.Walks.{packIn, Ready, Scratch, afreshOf, stepsAt, startAt, listsOf, isGood, ToldBy, Told, wholeBy, ToldWhole, EndedIs, bothOf, HyphenAt}
 use Rattle.engine.proofs.SpellingLaws.{not-or, parted-split, name-parted, name-plain, name-words}
-use Rattle.engine.proofs.ToldLaws.{both-told}
+use Rattle.engine.proofs.ToldLaws.{bad-told, both-told}
 use Rattle.engine.specs.declared.call.Call.{Call}
 use Rattle.engine.specs.declared.encode.Ends.{Ends}
 use Rattle.engine.specs.declared.encode.Lists.{Lists}
@@ -46,11 +50,11 @@ use Rattle.engine.specs.declared.encode.Lists.{Lists}
 -- ---- what a word's answer tells
 
 module _ {o o′ : List ℕ} {at : ℕ} {r : Ends} (room : length o < cap) where
-  whole-good : (t : Text) (f : Bool) → r .at ≡ min (at + length t) cap → r .flag ≡ f → r .code ≡ 0 → o′ ≡ placed o at t → ToldWhole (good t f) o o′ at r
-  unfolding codeOf ToldBy wholeBy placed
+  whole-good : (t : Text) (f : Bool) → r .at ≡ min (at + length t) cap → r .flag ≡ f → r .fine ≡ true → o′ ≡ placed o at t → ToldWhole (good t f) o o′ at r
+  unfolding isGood ToldBy wholeBy placed
   whole-good t f ea ef ec eo = record {
     told = record {
-      code = ec;
+      fine = ec;
       is = (
         record {
           ends = ea;
@@ -64,9 +68,9 @@ module _ {o o′ : List ℕ} {at : ℕ} {r : Ends} (room : length o < cap) where
     whole = eo;
   }
 
-  whole-bad : (k : ℕ) → r .code ≡ k → 0 < k → o′ ≡ o → ToldWhole (bad k) o o′ at r
-  unfolding codeOf ToldBy wholeBy
-  whole-bad k ec h eo = record { told = record { code = ec; is = h }; whole = eo }
+  whole-bad : (a why : Refusal) → numberOf a ≡ numberOf why → (r .fine ≡ false) × (r .why ≡ a) → o′ ≡ o → ToldWhole (bad why) o o′ at r
+  unfolding wholeBy
+  whole-bad a why e w eo = record { told = bad-told (w .0) (w .1 ∙ number-one a why e); whole = eo }
 
   word-told : (x : Spelling) (answer : Worded) → answerOf answer ≡ answered x → o′ ≡ placedAs x o at → EndedIs answer at r → ToldWhole (speltBy x) o o′ at r
   unfolding answerOf answered placedAs EndedIs speltBy
@@ -78,8 +82,8 @@ module _ {o o′ : List ℕ} {at : ℕ} {r : Ends} (room : length o < cap) where
   word-told (texts l flag) TooMany e b w = clash (cc)
   word-told (texts l flag) Unfit e b w = clash (cc)
   word-told (refusal k) (Done n f) e b w = clash (cc)
-  word-told (refusal k) TooLong e b w = let ek : 7 ≡ k = cc in whole-bad k (w ∙ ek) (omega arith) b
-  word-told (refusal k) TooMany e b w = let ek : 8 ≡ k = cc in whole-bad k (w ∙ ek) (omega arith) b
+  word-told (refusal k) TooLong e b w = whole-bad TextTooLong k (cc) w b
+  word-told (refusal k) TooMany e b w = whole-bad TooManyTexts k (cc) w b
   word-told (refusal k) Unfit e b w = clash (cc)
 
 -- ---- a call that is ready
@@ -250,26 +254,27 @@ or-rest true b e = clash (cc)
 or-rest false b e = refl
 
 module _ (first second : Ends) (at : ℕ) where
-  pub both-joined : (flag : Bool) → first .code ≡ 0 → flag ≡ or (first .flag) (second .flag) → record { at = at; flag = flag; code = second .code } ≡ bothOf first second at
+  pub both-joined : (flag : Bool) → first .fine ≡ true → flag ≡ or (first .flag) (second .flag)
+      → record { at = at; flag = flag; fine = second .fine; why = second .why } ≡ bothOf first second at
   unfolding bothOf
-  both-joined flag h e = ap (λ (f : Bool). record { at = at; flag = f; code = second .code }) e ∙ sym (pick-true _ _ _ (eq-eqb _ _ h))
+  both-joined flag h e = ap (λ (f : Bool). record { at = at; flag = f; fine = second .fine; why = second .why }) e ∙ sym (pick-true _ _ _ h)
 
-  pub both-kept : (first .code ≡ 0 → ⊥) → first ≡ bothOf first second at
+  pub both-kept : first .fine ≡ false → first ≡ bothOf first second at
   unfolding bothOf
-  both-kept h = sym (pick-false _ _ _ (ne-eqb _ _ h))
+  both-kept h = sym (pick-false _ _ _ h)
 
 module _ (a : Worded) (at : ℕ) where
-  pub ended-done : (n p : ℕ) (f : Bool) → a ≡ Done n f → p ≡ min (at + n) cap → EndedIs a at (record { at = p; flag = f; code = 0 })
+  pub ended-done : (n p : ℕ) (f : Bool) (why : Refusal) → a ≡ Done n f → p ≡ min (at + n) cap → EndedIs a at (record { at = p; flag = f; fine = true; why = why })
   unfolding EndedIs
-  ended-done n p f e h = rw e (h, refl, refl)
+  ended-done n p f why e h = rw e (h, refl, refl)
 
-  pub ended-long : a ≡ TooLong → EndedIs a at (record { at = at; flag = false; code = 7 })
+  pub ended-long : a ≡ TooLong → EndedIs a at (record { at = at; flag = false; fine = false; why = TextTooLong })
   unfolding EndedIs
-  ended-long e = rw e refl
+  ended-long e = rw e (refl, refl)
 
-  pub ended-many : a ≡ TooMany → EndedIs a at (record { at = at; flag = false; code = 8 })
+  pub ended-many : a ≡ TooMany → EndedIs a at (record { at = at; flag = false; fine = false; why = TooManyTexts })
   unfolding EndedIs
-  ended-many e = rw e refl
+  ended-many e = rw e (refl, refl)
 
   pub ended-unfit : (r : Ends) → a ≡ Unfit → EndedIs a at r
   unfolding EndedIs

@@ -1,3 +1,4 @@
+pub mod NumberLaws
 pub mod SpellingLaws
 pub mod ToldLaws
 pub mod IndexLaws

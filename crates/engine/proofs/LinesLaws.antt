@@ -26,11 +26,15 @@ use Rattle.prefixes.specs.declared.prefixes.Prefix.the-variants.{Parted, Whole}
 use Rattle.pack.specs.Packs.{Verdict, accepted, refused}
 use Rattle.choices.specs.Texts.{Text}
 use Rattle.choices.specs.Apply.{Entry}
+use Rattle.refusals.specs.Numbers.{numberOf}
+use Rattle.refusals.specs.declared.Refusal.{Refusal}
+use Rattle.refusals.specs.declared.Refusal.the-variants.{NotUtf8, OutsideRange, NoRoom}
 use Rattle.phoneme_builder.specs.Sets.{Spelling, refusal, texts, united}
 use Rattle.phoneme_builder.specs.Passes.{Matcher, Ran, tooLong, ran, raised, onRan, finalText, finalFrom, finalPass, then, mainOf, wordOf}
 use Rattle.engine.specs.Spelling.{Spelt, bad, good, Steps, both, hyphened, andWords, eachWord, onePart, byWords, byPrefix, nameBy, nameFrom, spelledName}
-use Rattle.engine.specs.Calls.{speltBy, wordBy, stepsBy, stepsOf, spelledBy, Outcome, refusedBy, key, outcomeOf, unless, onPack, lettersThen, checkedThen, callOf, toldOf, filledBy, SpellIs, numbersOf}
+use Rattle.engine.specs.Calls.{speltBy, wordBy, stepsBy, stepsOf, spelledBy, Outcome, refusedBy, key, outcomeOf, unless, onPack, lettersThen, checkedThen, callOf, toldOf, filledBy, SpellIs, refusedAs, numbersOf}
 use Rattle.engine.specs.Lines.{decimalBy, decimal, flagDigit, answerLine, refusalLine, lineBy, most, room, textOf, lineOf, lineFor, linesFrom, wholeLines, Taken, andTaken, noneTaken, takeLines, taken, LinesIs, LineAt, headOf, DoneIs, waitsFor, RefusedIs}
+use Rattle.engine.proofs.NumberLaws.{told-is}
 use Rattle.engine.proofs.EncodeLaws.{rest-is}
 use Rattle.engine.specs.declared.call.Settings.{Settings}
 use Rattle.engine.specs.declared.call.Start.{Start}
@@ -128,16 +132,16 @@ module _ (n : ℕ) (o o₁ : List ℕ) (at p : ℕ) where
 -- ---- the line of a refusal
 
 pub refusal-put : (code place : ℕ) {o o₁ o₂ o₃ o₄ : List ℕ} {at p q e r : ℕ}
-    → Put o o₁ at p (decimal code) → Put o₁ o₂ p q (32 ∷ []) → Put o₂ o₃ q e (decimal place) → Put o₃ o₄ e r (10 ∷ []) → Put o o₄ at r (refusalLine (numbersOf (Refused code place)))
-unfolding refusalLine numbersOf
+    → Put o o₁ at p (decimal code) → Put o₁ o₂ p q (32 ∷ []) → Put o₂ o₃ q e (decimal place) → Put o₃ o₄ e r (10 ∷ []) → Put o o₄ at r (refusalLine (refusedAs code place))
+unfolding refusalLine
 refusal-put code place w x y z = put-then w (put-then x (put-then y z))
 
 module _ (code place size : ℕ) (o : List ℕ) (at : ℕ) (t : Bool) (w : t ≡ waitsFor code place size) where
   pub refused-waits : t ≡ true → RefusedIs code place size o o at at
   refused-waits e = record { waits = λ _. (refl, refl); line = λ z. absurd (false≢true (sym z ∙ sym w ∙ e)) }
 
-  module _ (e : t ≡ false) (none none′ : List ℕ) (n : ℕ) (h : (at ≤ size) × (size ≤ length o)) (x : Put none none′ 0 n (refusalLine (numbersOf (Refused code place)))) where
-    pub refused-fits : (o′ : List ℕ) (r : ℕ) → n ≤ size - at → Put o o′ at r (refusalLine (numbersOf (Refused code place))) → RefusedIs code place size o o′ at r
+  module _ (e : t ≡ false) (none none′ : List ℕ) (n : ℕ) (h : (at ≤ size) × (size ≤ length o)) (x : Put none none′ 0 n (refusalLine (refusedAs code place))) where
+    pub refused-fits : (o′ : List ℕ) (r : ℕ) → n ≤ size - at → Put o o′ at r (refusalLine (refusedAs code place)) → RefusedIs code place size o o′ at r
     refused-fits o′ r f y = record {
       waits = λ z. absurd (false≢true (sym e ∙ w ∙ z));
       line = λ _. record {
@@ -260,14 +264,14 @@ part-filled (key t f) a k o l =
 part-back : (x : Outcome) (a e : ℕ) (o : List ℕ) (r : Spelled) (m : List ℕ) → (a ≤ e) × (e ≤ length o)
     → SpellIs x (take (e - a) (drop a o)) r m → PartIs x a (e - a) o r (take a o ++ (m ++ drop (e - a) (drop a o)))
 part-back x a e o r m h p = record {
-  result = p .result ∙ ap (toldOf x) (omega (arith, h .0, h .1, length-take (e - a) (drop a o), length-drop a o));
+  result = told-is p ∙ ap (toldOf x) (omega (arith, h .0, h .1, length-take (e - a) (drop a o), length-drop a o));
   buffer = ap (λ (l : List ℕ). take a o ++ (l ++ drop (e - a) (drop a o))) (p .buffer) ∙ part-filled x a (e - a) o (omega (arith, h .0, h .1));
 }
 
 -- ---- no refusal but that for room is 9
 
 unfoldable WordBelow : Spelling → Type 0
-WordBelow (refusal k) = k < 9
+WordBelow (refusal k) = numberOf k < 9
 WordBelow (texts l f) = Unit {0}
 
 raised-below : (up : Bool) (s : Spelling) → WordBelow s → WordBelow (raised up s)
@@ -276,13 +280,13 @@ raised-below up (refusal k) h = h
 raised-below up (texts l f) h = tt
 
 united-below : (g : LanguageSet) (xs l : List Entry) (rest : List Entry → Spelling) → ((m : List Entry) → WordBelow (rest m)) → WordBelow (united g xs l rest)
-unfolding WordBelow united
+unfolding WordBelow numberOf united
 united-below g [] l rest h = h l
 united-below g (x ∷ xs) l rest h =
     pick-all WordBelow _ _ _ (united-below g xs _ rest h) (pick-all WordBelow _ _ _ (omega arith) (united-below g xs _ rest h))
 
 ran-below : (g : LanguageSet) (o : Ran) (l : List Entry) (rest : List Entry → Spelling) → ((m : List Entry) → WordBelow (rest m)) → WordBelow (onRan g o l rest)
-unfolding WordBelow onRan
+unfolding WordBelow numberOf onRan
 ran-below g tooLong l rest h = omega arith
 ran-below g (ran new flag) l rest h = raised-below flag _ (united-below g new l rest h)
 
@@ -297,12 +301,12 @@ then-below (refusal k) rest h g = h
 then-below (texts l flag) rest h g = raised-below flag _ (g l)
 
 main-below : (o : Ran) → WordBelow (mainOf o)
-unfolding WordBelow mainOf
+unfolding WordBelow numberOf mainOf
 main-below tooLong = omega arith
 main-below (ran l flag) = tt
 
 unfoldable NameBelow : Spelt → Type 0
-NameBelow (bad k) = k < 9
+NameBelow (bad k) = numberOf k < 9
 NameBelow (good t f) = Unit {0}
 
 answer-below : (s : Spelling) → WordBelow s → NameBelow (speltBy s)
@@ -341,13 +345,13 @@ module _ (afresh : Text → Spelt) (low : (t : Text) → NameBelow (afresh t)) w
 
 name-below : (n : ℕ) (c : Steps) → ((g : LanguageSet) (w : Text) → NameBelow (c .word g w)) → (g : LanguageSet) (s : Text) → NameBelow (nameFrom n c g s)
 unfolding NameBelow nameFrom nameBy byWords onePart
-name-below zero c low g s = omega arith
+name-below zero c low g s = tt
 name-below (suc n) c low g s =
     let again : (t : Text) → NameBelow (nameFrom n c (c .guess t) t) = λ t. name-below n c low (c .guess t) t in
     prefix-below _ again _ s _ (pick-all NameBelow _ _ _ (pick-all NameBelow _ _ _ (low g _) (low g _)) (each-below _ again _))
 
 unfoldable pub Below : Outcome → Type 0
-Below (refusedBy k place) = k < 9
+Below (refusedBy k place) = numberOf k < 9
 Below (key t f) = Unit {0}
 
 outcome-below : (x : Spelt) → NameBelow x → Below (outcomeOf x)
@@ -355,21 +359,21 @@ unfolding NameBelow Below outcomeOf
 outcome-below (bad k) h = h
 outcome-below (good t f) h = h
 
-unless-below : (code : ℕ) (at : Found) (rest : Outcome) → code < 9 → Below rest → Below (unless code at rest)
+unless-below : (why : Refusal) (at : Found) (rest : Outcome) → numberOf why < 9 → Below rest → Below (unless why at rest)
 unfolding Below unless
-unless-below code (At place) rest h k = h
-unless-below code Nothing rest h k = k
+unless-below why (At place) rest h k = h
+unless-below why Nothing rest h k = k
 
 pack-below : (c : Settings) (start : Start) (s name : List ℕ) (v : Verdict) → Below (onPack c start s name v)
-unfolding Below onPack spelledBy spelledName stepsOf stepsBy wordBy wordOf finalPass
+unfolding Below numberOf onPack spelledBy spelledName stepsOf stepsBy wordBy wordOf finalPass
 pack-below c start s name (refused place) = omega arith
 pack-below c start s name (accepted p) =
     pick-all Below _ _ _ (outcome-below _ (name-below _ _ (λ g w. answer-below _ (then-below _ _ (main-below _) (λ l. then-below _ _ (final-below _ _ _ l []) (λ m. final-below _ _ _ m [])))) _ _)) (omega arith)
 
 pub call-below : (c : Settings) (start : Start) (s name : List ℕ) → Below (callOf c start s name)
-unfolding Below callOf checkedThen lettersThen
+unfolding Below numberOf callOf checkedThen lettersThen
 call-below c start s name =
-    pick-all Below _ _ _ (pick-all Below _ _ _ (omega arith) (unless-below 1 _ _ (omega arith) (unless-below 2 _ _ (omega arith) (pack-below c start s name _)))) (omega arith)
+    pick-all Below _ _ _ (pick-all Below _ _ _ (omega arith) (unless-below NotUtf8 _ _ (omega arith) (unless-below OutsideRange _ _ (omega arith) (pack-below c start s name _)))) (omega arith)
 
 -- ---- the line of a name
 
@@ -378,13 +382,13 @@ pub line-answer : (size : ℕ) (t : Text) (f : Bool) → length t ≤ room size 
 unfolding lineOf textOf toldOf lineBy
 line-answer size t f h = ap (λ (r : Spelled). lineBy r t) (pick-true _ _ _ (le-leb _ _ h))
 
-pub line-long : (size : ℕ) (t : Text) (f : Bool) → room size < length t → lineOf size (key t f) ≡ refusalLine (numbersOf (Refused 9 (min (length t) most)))
-unfolding lineOf textOf toldOf lineBy
+pub line-long : (size : ℕ) (t : Text) (f : Bool) → room size < length t → lineOf size (key t f) ≡ refusalLine (refusedAs 9 (min (length t) most))
+unfolding lineOf textOf toldOf lineBy numbersOf numberOf
 line-long size t f h = ap (λ (r : Spelled). lineBy r t) (pick-false _ _ _ (lt-leb _ _ h))
 
-line-other : (size k place : ℕ) → lineOf size (refusedBy k place) ≡ refusalLine (numbersOf (Refused k place))
-unfolding lineOf textOf toldOf lineBy
-line-other size k place = refl
+pub line-other : (size : ℕ) (why : Refusal) (place : ℕ) → lineOf size (refusedBy why place) ≡ refusalLine (refusedAs (numberOf why) place)
+unfolding lineOf textOf toldOf lineBy numbersOf
+line-other size why place = refl
 
 -- what an answer in the part tells of the call
 record Answered (x : Outcome) (a space : ℕ) (o o₁ : List ℕ) (written : ℕ) (flag : Bool) : Type 0 where
@@ -403,13 +407,13 @@ record Long (x : Outcome) (space : ℕ) (o o₁ : List ℕ) (code place : ℕ) :
   over : space < length text
   same : o₁ ≡ o
 
-record Other (x : Outcome) (o o₁ : List ℕ) (code place : ℕ) : Type 0 where
-  is : x ≡ refusedBy code place
-  low : code < 9
+record Other (x : Outcome) (o o₁ : List ℕ) (why : Refusal) (place : ℕ) : Type 0 where
+  is : x ≡ refusedBy why place
+  low : numberOf why < 9
   same : o₁ ≡ o
 
 answered-by : (t : Text) (f : Bool) (a space : ℕ) (o o₁ : List ℕ) (written : ℕ) (flag b : Bool) → leb (length t) space ≡ b
-    → Done written flag ≡ pick b (Done (length t) f) (Refused 9 (min (length t) most)) → o₁ ≡ pick b (sets o a t) o → Answered (key t f) a space o o₁ written flag
+    → Done written flag ≡ pick b (Done (length t) f) (Refused NoRoom (min (length t) most)) → o₁ ≡ pick b (sets o a t) o → Answered (key t f) a space o o₁ written flag
 unfolding pick
 answered-by t f a space o o₁ written flag true e p q =
     let long : length t ≡ written = cc in
@@ -421,20 +425,22 @@ unfolding toldOf partFilled
 answered-of (refusedBy k place) a space o o₁ r written flag p e = let no : Done written flag ≡ Refused k place = sym e ∙ p .result in clash (cc)
 answered-of (key t f) a space o o₁ r written flag p e = answered-by t f a space o o₁ written flag _ refl (sym e ∙ p .result) (p .buffer)
 
-long-by : (t : Text) (f : Bool) (a space : ℕ) (o o₁ : List ℕ) (code place : ℕ) (b : Bool) → leb (length t) space ≡ b
-    → Refused code place ≡ pick b (Done (length t) f) (Refused 9 (min (length t) most)) → o₁ ≡ pick b (sets o a t) o → Long (key t f) space o o₁ code place
-unfolding pick
-long-by t f a space o o₁ code place true e p q = clash (cc)
-long-by t f a space o o₁ code place false e p q = record { text = t; flag = f; is = refl; code-is = cc; place-is = cc; over = leb-false _ _ e; same = q }
+long-by : (t : Text) (f : Bool) (a space : ℕ) (o o₁ : List ℕ) (why : Refusal) (place : ℕ) (b : Bool) → leb (length t) space ≡ b
+    → Refused why place ≡ pick b (Done (length t) f) (Refused NoRoom (min (length t) most)) → o₁ ≡ pick b (sets o a t) o → Long (key t f) space o o₁ (numberOf why) place
+unfolding pick numberOf
+long-by t f a space o o₁ why place true e p q = clash (cc)
+long-by t f a space o o₁ why place false e p q =
+    let why-is : why ≡ NoRoom = cc in
+    record { text = t; flag = f; is = refl; code-is = ap numberOf why-is; place-is = cc; over = leb-false _ _ e; same = q }
 
-refused-of : (x : Outcome) (a space : ℕ) (o o₁ : List ℕ) (r : Spelled) (code place : ℕ) → Below x → PartIs x a space o r o₁ → r ≡ Refused code place
-    → Long x space o o₁ code place ⊎ Other x o o₁ code place
+refused-of : (x : Outcome) (a space : ℕ) (o o₁ : List ℕ) (r : Spelled) (why : Refusal) (place : ℕ) → Below x → PartIs x a space o r o₁ → r ≡ Refused why place
+    → Long x space o o₁ (numberOf why) place ⊎ Other x o o₁ why place
 unfolding Below toldOf partFilled
-refused-of (refusedBy k at) a space o o₁ r code place l p e =
-    let same : Refused k at ≡ Refused code place = sym (p .result) ∙ e in
-    let code-is : k ≡ code = cc in
-    inr (record { is = cc; low = omega arith; same = p .buffer })
-refused-of (key t f) a space o o₁ r code place l p e = inl (long-by t f a space o o₁ code place _ refl (sym e ∙ p .result) (p .buffer))
+refused-of (refusedBy k at) a space o o₁ r why place l p e =
+    let same : Refused k at ≡ Refused why place = sym (p .result) ∙ e in
+    let why-is : k ≡ why = cc in
+    inr (record { is = cc; low = rw why-is at l; same = p .buffer })
+refused-of (key t f) a space o o₁ r why place l p e = inl (long-by t f a space o o₁ why place _ refl (sym e ∙ p .result) (p .buffer))
 
 -- the part of the buffer from a to e, for an answer behind `at`
 record Lent (o : List ℕ) (at size a e : ℕ) : Type 0 where
@@ -485,14 +491,15 @@ module _ {o : List ℕ} {at size a e : ℕ} (w : Lent o at size a e) where
     line-long-by {code} {place} false h p d =
         let large : size < place + 5 = leb-false _ _ (rw (eq-eqb _ _ (p .code-is)) at h) in
         let over : room (length o) < length (p .text) = omega (arith, lent-room, lent-space, p .place-is, p .over) in
-        let line-is : lineOf (length o) x ≡ refusalLine (numbersOf (Refused code place)) =
-        ap (lineOf (length o)) (p .is) ∙ line-long (length o) (p .text) (p .flag) over ∙ ap₂ (λ (k n : ℕ). refusalLine (numbersOf (Refused k n))) (sym (p .code-is)) (sym (p .place-is)) in
+        let line-is : lineOf (length o) x ≡ refusalLine (refusedAs code place) =
+        ap (lineOf (length o)) (p .is) ∙ line-long (length o) (p .text) (p .flag) over ∙ ap₂ (λ (k n : ℕ). refusalLine (refusedAs k n)) (sym (p .code-is)) (sym (p .place-is)) in
         rw (line-is, ← p .same) (d .line h)
 
-    line-refused : {code place : ℕ} → Long x (e - a) o o₁ code place ⊎ Other x o o₁ code place → RefusedIs code place size o₁ o₂ at r → LineAt (lineOf (length o) x) size o o₂ at r
+    line-refused : (why : Refusal) {place : ℕ} → Long x (e - a) o o₁ (numberOf why) place ⊎ Other x o o₁ why place → RefusedIs (numberOf why) place size o₁ o₂ at r → LineAt (lineOf (length o) x) size o o₂ at r
     unfolding waitsFor
-    line-refused {code} {place} (inl p) d = line-long-by _ refl p d
-    line-refused {code} {place} (inr p) d = rw (p .is, line-other (length o) code place, ← p .same) (d .line (and-first _ _ (ne-eqb code 9 (λ z. absurd (omega (arith, p .low))))))
+    line-refused why (inl p) d = line-long-by _ refl p d
+    line-refused why {place} (inr p) d =
+        rw (p .is, line-other (length o) why place, ← p .same) (d .line (and-first _ _ (ne-eqb (numberOf why) 9 (λ z. absurd (omega (arith, p .low))))))
 
 module _ (o : List ℕ) (at size a e : ℕ) (h : (at ≤ size) × (size ≡ min (length o) most)) (f : a ≡ min (at + 4) size) (g : e ≡ max a (size - 1)) where
   pub lent-order : a ≤ e
@@ -519,17 +526,18 @@ module _ (o : List ℕ) (at size a e : ℕ) (h : (at ≤ size) × (size ≡ min 
     unfolding lineFor
     put-done written flag q d = line-done lent (answered-of _ a (e - a) o o₁ r written flag part-here q) d
 
-    pub put-refused : (code place : ℕ) → r ≡ Refused code place → RefusedIs code place size o₁ o₂ at next → LineAt (lineFor settings start pack (length o) name) size o o₂ at next
+    pub put-refused : (why : Refusal) (code place : ℕ) → r ≡ Refused why place → code ≡ numberOf why → RefusedIs code place size o₁ o₂ at next
+        → LineAt (lineFor settings start pack (length o) name) size o o₂ at next
     unfolding lineFor
-    put-refused code place q d = line-refused lent (refused-of _ a (e - a) o o₁ r code place (call-below settings start pack name) part-here q) d
+    put-refused why code place q n d = line-refused lent why (refused-of _ a (e - a) o o₁ r why place (call-below settings start pack name) part-here q) (rw n at d)
 
 -- ---- the lines of a block
 
 by-some : (r : Spelled) (t : Text) → 0 < length (lineBy r t)
 unfolding lineBy refusalLine numbersOf
 by-some (Done written flag) t = let long : length (lineBy (Done written flag) t) ≡ 5 + length t = answer-long written flag t in omega (arith, long)
-by-some (Refused code place) t =
-    let long : length (lineBy (Refused code place) t) ≡ length (decimal code) + suc (length (decimal place ++ 10 ∷ [])) = length-append (decimal code) _ in
+by-some (Refused why place) t =
+    let long : length (lineBy (Refused why place) t) ≡ length (decimal (numberOf why)) + suc (length (decimal place ++ 10 ∷ [])) = length-append (decimal (numberOf why)) _ in
     omega (arith, long)
 
 line-some : (settings : Settings) (start : Start) (pack : List ℕ) (size : ℕ) (name : Text) → 0 < length (lineFor settings start pack size name)

@@ -1,6 +1,6 @@
 -- What `spell_name` and `spell_words` ask of each other. Assumes nothing.
 use mathlib.Core.Path.{_≡_, refl, _∙_}
-use mathlib.Core.Bool.{false}
+use mathlib.Core.Bool.{true, false}
 use mathlib.Core.List.{List}
 use Prim.Native.Nat.{ℕ, _+_, _-_, _*_, _≤_, _<_, zero-le}
 use native.Mathlib.Omega.{arith}
@@ -14,6 +14,7 @@ use Rattle.prefixes.specs.declared.prefixes.NameType.{NameType}
 use Rattle.prefixes.specs.declared.prefixes.Prefix.{Prefix}
 use Rattle.prefixes.specs.declared.prefixes.Prefix.the-variants.{Parted}
 use Rattle.name_parts.proofs.Laws.{slice-room, word-later, past-within, word-shorter}
+use Rattle.refusals.specs.declared.Refusal.{Refusal}
 use Rattle.engine.specs.Spelling.{Spelt, partedAs, spelledName, eachWord, afreshBy}
 use Rattle.engine.specs.Walks.{Scratch, afreshOf, stepsAt, startAt, Told, bothOf, HyphenAt}
 use Rattle.engine.specs.declared.call.Call.{Call}
@@ -72,9 +73,10 @@ pub record WordsHeld (f : Text → Spelt) (name : Text) (o₀ o : List ℕ) (at 
   pub marks-same : b ≡ b₀
   pub out-same : length o ≡ length o₀
 
-pub held-start : (f : Text → Spelt) (name : Text) (o : List ℕ) (at a b : ℕ) → at ≤ cap → length o * 1 < cap → WordsHeld f name o o at 0 (record { at = at; flag = false; code = 0 }) a b a b
-held-start f name o at a b h r = record {
-  told = words-start f name o at h (slice-room o r);
+pub held-start : (f : Text → Spelt) (name : Text) (o : List ℕ) (at : ℕ) (why : Refusal) (a b : ℕ) → at ≤ cap → length o * 1 < cap
+    → WordsHeld f name o o at 0 (record { at = at; flag = false; fine = true; why = why }) a b a b
+held-start f name o at why a b h r = record {
+  told = words-start f name o at why h (slice-room o r);
   within = zero-le;
   store-same = refl;
   marks-same = refl;

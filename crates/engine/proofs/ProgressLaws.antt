@@ -22,14 +22,16 @@ use Rattle.name_parts.proofs.Laws.{clash}
 use Rattle.pack.specs.Reading.{Read, cut, got, readByte}
 use Rattle.pack.specs.Packs.{Verdict, accepted, refused, Rule, readNames, readGuesses, readList, section, placeIn, listSections, endSection, packOf}
 use Rattle.choices.specs.Texts.{Text}
+use Rattle.refusals.specs.Numbers.{numberOf}
+use Rattle.refusals.specs.declared.Refusal.{Refusal}
+use Rattle.refusals.specs.declared.Refusal.the-variants.{NotUtf8, OutsideRange, NameTooLong}
 use Rattle.engine.specs.Spelling.{Spelt, bad, good}
-use Rattle.engine.specs.Calls.{Outcome, refusedBy, key, outcomeOf, unless, onPack, lettersThen, checkedThen, callOf, toldOf, numbersOf}
-use Rattle.engine.specs.Lines.{decimalBy, decimal, refusalLine, lineBy, most, room, textOf, lineOf, lineFor, linesFrom, wholeLines, andTaken, takeLines, taken, LinesIs}
+use Rattle.engine.specs.Calls.{Outcome, refusedBy, key, outcomeOf, unless, onPack, lettersThen, checkedThen, callOf, refusedAs}
+use Rattle.engine.specs.Lines.{decimalBy, decimal, refusalLine, most, room, lineOf, lineFor, linesFrom, wholeLines, andTaken, takeLines, taken, LinesIs}
 use Rattle.engine.specs.declared.call.Settings.{Settings}
 use Rattle.engine.specs.declared.call.Start.{Start}
 use Rattle.engine.specs.declared.lines.Lines.{Lines}
-use Rattle.engine.specs.declared.spelling.Spelled.the-variants.{Refused}
-use Rattle.engine.proofs.LinesLaws.{lines-more, take-fits, answer-long, Below, call-below, line-answer, line-long}
+use Rattle.engine.proofs.LinesLaws.{lines-more, take-fits, answer-long, Below, call-below, line-answer, line-long, line-other}
 
 -- ---- digits
 
@@ -58,8 +60,8 @@ place-short : (n : ℕ) → n < 100000000000000000000 → length (decimal n) ≤
 unfolding decimal tens
 place-short n h = digits-few 19 n n h
 
-refusal-short : (k p : ℕ) → k < 10 → p < 100000000000000000000 → length (refusalLine (numbersOf (Refused k p))) ≤ 23
-unfolding refusalLine numbersOf
+refusal-short : (k p : ℕ) → k < 10 → p < 100000000000000000000 → length (refusalLine (refusedAs k p)) ≤ 23
+unfolding refusalLine
 refusal-short k p h l =
     omega (arith, code-short k h, place-short p l, length-append (decimal k) ((32 ∷ []) ++ (decimal p ++ 10 ∷ [])), length-append (decimal p) (10 ∷ []))
 
@@ -128,10 +130,10 @@ unfolding PlaceIn outcomeOf
 spelt-in b (bad k) = zero-le
 spelt-in b (good t f) = tt
 
-unless-in : (b code : ℕ) (at : Found) (rest : Outcome) → ((q : ℕ) → at ≡ At q → q ≤ b) → PlaceIn b rest → PlaceIn b (unless code at rest)
+unless-in : (b : ℕ) (why : Refusal) (at : Found) (rest : Outcome) → ((q : ℕ) → at ≡ At q → q ≤ b) → PlaceIn b rest → PlaceIn b (unless why at rest)
 unfolding PlaceIn unless
-unless-in b code (At place) rest h k = h place refl
-unless-in b code Nothing rest h k = k
+unless-in b why (At place) rest h k = h place refl
+unless-in b why Nothing rest h k = k
 
 on-pack-in : (c : Settings) (start : Start) (s name : List ℕ) (b : ℕ) (v : Verdict) → length s ≤ b → FaultIn (length s) v → PlaceIn b (onPack c start s name v)
 unfolding PlaceIn FaultIn onPack
@@ -139,13 +141,13 @@ on-pack-in c start s name b (refused place) h l = omega arith
 on-pack-in c start s name b (accepted p) h l = pick-all (PlaceIn b) _ _ _ (spelt-in b _) zero-le
 
 letters-in : (name : Text) (rest : Outcome) (b : ℕ) (t : Bool) → ltb 96 (length name) ≡ t → 96 ≤ b → PlaceIn b rest
-    → PlaceIn b (pick t (refusedBy 3 0) (unless 1 (firstIll name) (unless 2 (firstOutside name) rest)))
+    → PlaceIn b (pick t (refusedBy NameTooLong 0) (unless NotUtf8 (firstIll name) (unless OutsideRange (firstOutside name) rest)))
 unfolding PlaceIn pick firstIll firstOutside piecesOf
 letters-in name rest b true e h k = zero-le
 letters-in name rest b false e h k =
     let few : length name ≤ 96 = ltb-false _ _ e in
-    unless-in b 1 _ _ (λ q l. let m = ill-place (length name) name 0 q l in omega arith)
-    (unless-in b 2 _ _ (λ q l. let m = outside-place (length name) name 0 q l in omega arith) k)
+    unless-in b NotUtf8 _ _ (λ q l. let m = ill-place (length name) name 0 q l in omega arith)
+    (unless-in b OutsideRange _ _ (λ q l. let m = outside-place (length name) name 0 q l in omega arith) k)
 
 call-in : (c : Settings) (start : Start) (s name : List ℕ) → PlaceIn (length s + 96) (callOf c start s name)
 unfolding callOf checkedThen lettersThen PlaceIn
@@ -154,13 +156,9 @@ call-in c start s name =
 
 -- ---- a line and its buffer
 
-line-refusal : (size k place : ℕ) → lineOf size (refusedBy k place) ≡ refusalLine (numbersOf (Refused k place))
-unfolding lineOf textOf toldOf lineBy
-line-refusal size k place = refl
-
 line-fits-by : (size b : ℕ) (x : Outcome) → 32 ≤ size → b < 100000000000000000000 → Below x → PlaceIn b x → length (lineOf size x) ≤ min size most
 unfolding Below PlaceIn room
-line-fits-by size b (refusedBy k place) h l code there = omega (arith, refusal-short k place (omega arith) (omega arith), ap length (line-refusal size k place))
+line-fits-by size b (refusedBy k place) h l code there = omega (arith, refusal-short (numberOf k) place (omega arith) (omega arith), ap length (line-other size k place))
 line-fits-by size b (key t f) h l code there = elim (decLe (length t) (room size)) [
   | yes m ↦ omega (arith, ap length (line-answer size t f m), answer-long (length t) f t)
   | no m ↦ omega (arith, ap length (line-long size t f (omega arith)), refusal-short 9 (min (length t) most) (omega arith) (omega arith))

@@ -23,6 +23,9 @@ use Rattle.prefixes.specs.declared.prefixes.NameType.the-variants.{Ashkenazi, G
 use Rattle.pack.specs.Packs.{Pack, Rule, Verdict, accepted, refused, packOf, any}
 use Rattle.pack.specs.Places.{textBytes}
 use Rattle.pack.specs.Guessing.{guessed}
+use Rattle.refusals.specs.Numbers.{numberOf}
+use Rattle.refusals.specs.declared.Refusal.{Refusal}
+use Rattle.refusals.specs.declared.Refusal.the-variants.{NotUtf8, OutsideRange, NameTooLong, SettingUnknown, PackBroken, NoSuchLanguage, NoRoom}
 use Rattle.choices.specs.Texts.{Text}
 use Rattle.choices.specs.Apply.{Entry}
 use Rattle.phoneme_builder.specs.Sets.{Spelling, refusal, texts}
@@ -104,7 +107,7 @@ spelledBy c start low = spelledName c (startSet start (c .guess low)) (spaced lo
 
 -- what a call comes to, before the room of its buffer is looked at: a refusal and its place, or a text and the flag
 pub data Outcome : Type 0 where
-  refusedBy : ℕ → ℕ → Outcome
+  refusedBy : Refusal → ℕ → Outcome
   key : Text → Bool → Outcome
 
 unfoldable pub outcomeOf : Spelt → Outcome
@@ -112,48 +115,61 @@ outcomeOf (bad k) = refusedBy k 0
 outcomeOf (good t f) = key t f
 
 -- a refusal at the place that was found
-unfoldable pub unless : ℕ → Found → Outcome → Outcome
-unless code (At place) rest = refusedBy code place
-unless code Nothing rest = rest
+unfoldable pub unless : Refusal → Found → Outcome → Outcome
+unless why (At place) rest = refusedBy why place
+unless why Nothing rest = rest
 
 unfoldable pub onPack : Settings → Start → List ℕ → Text → Verdict → Outcome
-onPack c start s name (refused place) = refusedBy 5 place
+onPack c start s name (refused place) = refusedBy PackBroken place
 onPack c start s name (accepted p) =
-    pick (haveLanguages (length (p .names)) start) (outcomeOf (spelledBy (stepsOf s p c) start (lowerText name))) (refusedBy 6 0)
+    pick (haveLanguages (length (p .names)) start) (outcomeOf (spelledBy (stepsOf s p c) start (lowerText name))) (refusedBy NoSuchLanguage 0)
 
 -- the refusals of a name, 3, 1 and 2, and then the rest
 unfoldable pub lettersThen : Text → Outcome → Outcome
-lettersThen name rest = pick (ltb 96 (length name)) (refusedBy 3 0) (unless 1 (firstIll name) (unless 2 (firstOutside name) rest))
+lettersThen name rest = pick (ltb 96 (length name)) (refusedBy NameTooLong 0) (unless NotUtf8 (firstIll name) (unless OutsideRange (firstOutside name) rest))
 
 unfoldable pub checkedThen : Settings → Start → Text → Outcome → Outcome
-checkedThen c start name rest = pick (settingsKnown c start) (lettersThen name rest) (refusedBy 4 0)
+checkedThen c start name rest = pick (settingsKnown c start) (lettersThen name rest) (refusedBy SettingUnknown 0)
 
 -- "Spelling checks in the order 4, 3, 1, 2, 5, 6; then 7 and 8 as the Rust's order of work meets them"
 unfoldable pub callOf : Settings → Start → List ℕ → Text → Outcome
 callOf c start s name = checkedThen c start name (onPack c start s name (packOf s))
 
--- "9 last": the answer with a buffer of so many bytes; place "length needed, 4294967295 if more"
-unfoldable pub toldOf : Outcome → ℕ → Spelled
-toldOf (refusedBy k place) room = Refused k place
-toldOf (key t f) room = pick (leb (length t) room) (Done (length t) f) (Refused 9 (min (length t) 4294967295))
-
--- "A refusal .. writes nothing; a success leaves bytes after the answer unchanged."
-unfoldable pub filledBy : Outcome → List ℕ → List ℕ
-filledBy (refusedBy k place) out = out
-filledBy (key t f) out = pick (leb (length t) (length out)) (sets out 0 t) out
-
--- the promise of a call: one result, and one content of the lent buffer
-pub record SpellIs (x : Outcome) (out : List ℕ) (r : Spelled) (out′ : List ℕ) : Type 0 where
-  pub result : r ≡ toldOf x (length out)
-  pub buffer : out′ ≡ filledBy x out
-
--- ---- the paper's numbers of an answer: code, place and flag ("A refusal has the flag down")
+-- ---- the paper's numbers of an answer: code, place and flag
 
 pub record Numbers : Type 0 where
   pub code : ℕ
   pub place : ℕ
   pub flag : Bool
 
+-- 0: "done", "bytes written"
+abbrev pub doneAs : ℕ → Bool → Numbers
+doneAs written flag = record { code = 0; place = written; flag = flag }
+
+-- "A refusal has the flag down"
+abbrev pub refusedAs : ℕ → ℕ → Numbers
+refusedAs code place = record { code = code; place = place; flag = false }
+
+-- what a call comes to in a buffer of so many bytes; "9 last", its place "length needed, 4294967295 if more"
+unfoldable pub numbersIn : Outcome → ℕ → Numbers
+numbersIn (refusedBy why place) room = refusedAs (numberOf why) place
+numbersIn (key t f) room = pick (leb (length t) room) (doneAs (length t) f) (refusedAs (numberOf NoRoom) (min (length t) 4294967295))
+
 unfoldable pub numbersOf : Spelled → Numbers
-numbersOf (Done written flag) = record { code = 0; place = written; flag = flag }
-numbersOf (Refused code place) = record { code = code; place = place; flag = false }
+numbersOf (Done written flag) = doneAs written flag
+numbersOf (Refused why place) = refusedAs (numberOf why) place
+
+-- "A refusal .. writes nothing; a success leaves bytes after the answer unchanged."
+unfoldable pub filledBy : Outcome → List ℕ → List ℕ
+filledBy (refusedBy why place) out = out
+filledBy (key t f) out = pick (leb (length t) (length out)) (sets out 0 t) out
+
+-- the promise of a call: one result, and one content of the lent buffer
+pub record SpellIs (x : Outcome) (out : List ℕ) (r : Spelled) (out′ : List ℕ) : Type 0 where
+  pub result : numbersOf r ≡ numbersIn x (length out)
+  pub buffer : out′ ≡ filledBy x out
+
+-- the answer that has these numbers
+unfoldable pub toldOf : Outcome → ℕ → Spelled
+toldOf (refusedBy why place) room = Refused why place
+toldOf (key t f) room = pick (leb (length t) room) (Done (length t) f) (Refused NoRoom (min (length t) 4294967295))

@@ -9,7 +9,7 @@ use lib.Seq.{sets}
 use Rattle.base.specs.Pick.{pick, and}
 use Rattle.texts.specs.Parts.{placeOf, has}
 use Rattle.choices.specs.Texts.{Text}
-use Rattle.engine.specs.Calls.{Outcome, refusedBy, key, callOf, toldOf, Numbers, numbersOf}
+use Rattle.engine.specs.Calls.{Outcome, refusedBy, key, callOf, toldOf, Numbers, refusedAs, numbersOf}
 use Rattle.engine.specs.declared.call.Settings.{Settings}
 use Rattle.engine.specs.declared.call.Start.{Start}
 use Rattle.engine.specs.declared.lines.Lines.{Lines}
@@ -42,7 +42,7 @@ refusalLine n = decimal (n .code) ++ ((32 ∷ []) ++ (decimal (n .place) ++ 10 �
 -- "one name a line", t being the answer's text
 unfoldable pub lineBy : Spelled → Text → Text
 lineBy (Done written flag) t = answerLine (numbersOf (Done written flag)) t
-lineBy (Refused code place) t = refusalLine (numbersOf (Refused code place))
+lineBy (Refused why place) t = refusalLine (numbersOf (Refused why place))
 
 -- ---- its room
 
@@ -56,7 +56,7 @@ room size = min size most - 5
 
 -- "answer"
 unfoldable pub textOf : Outcome → Text
-textOf (refusedBy k place) = []
+textOf (refusedBy why place) = []
 textOf (key t f) = t
 
 -- "answer .. longer than the output buffer": 9 where a line with it has no room in the whole buffer
@@ -127,4 +127,4 @@ waitsFor code place size = and (eqb code 9) (leb (place + 5) size)
 -- nothing for an answer that waits, else the line of a refusal where it fits
 pub record RefusedIs (code place size : ℕ) (o o′ : List ℕ) (at next : ℕ) : Type 0 where
   pub waits : waitsFor code place size ≡ true → (next ≡ at) × (o′ ≡ o)
-  pub line : waitsFor code place size ≡ false → LineAt (refusalLine (numbersOf (Refused code place))) size o o′ at next
+  pub line : waitsFor code place size ≡ false → LineAt (refusalLine (refusedAs code place)) size o o′ at next

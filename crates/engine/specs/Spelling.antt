@@ -4,6 +4,7 @@ use mathlib.Core.Bool.{Bool, true, false}
 use mathlib.Core.List.{List, [], _∷_, _++_}
 use lib.ListN.{length, drop}
 use Rattle.base.specs.Pick.{pick}
+use Rattle.refusals.specs.declared.Refusal.{Refusal}
 use Rattle.choices.specs.Texts.{Text}
 use Rattle.languages.specs.declared.sets.LanguageSet.{LanguageSet}
 use Rattle.name_parts.specs.Words.{wordsOf, wordAt, oneWord}
@@ -14,9 +15,9 @@ use Rattle.prefixes.specs.declared.prefixes.NameType.the-variants.{Ashkenazi, G
 use Rattle.prefixes.specs.declared.prefixes.Prefix.{Prefix}
 use Rattle.prefixes.specs.declared.prefixes.Prefix.the-variants.{Parted, Whole}
 
--- an answer's text and flag, or the number of a refusal (7 or 8)
+-- an answer's text and flag, or a refusal (7 or 8)
 pub data Spelt : Type 0 where
-  bad : ℕ → Spelt
+  bad : Refusal → Spelt
   good : Text → Bool → Spelt
 
 -- what these steps rest on: guessing (step 1), a word spelled with a set (steps 6 to 9), and two of the settings
@@ -75,9 +76,9 @@ byPrefix Whole afresh s whole = whole
 unfoldable pub nameBy : Steps → (Text → Spelt) → LanguageSet → Text → Spelt
 nameBy c afresh g s = byPrefix (partedAs (c .kind) s) afresh s (byWords c afresh g s)
 
--- "Each is shorter than the name it came from", so the length is fuel enough
+-- "Each is shorter than the name it came from", so the length is fuel enough: without it nothing is spelled, which is never met
 unfoldable pub nameFrom : ℕ → Steps → LanguageSet → Text → Spelt
-nameFrom zero c g s = bad 0
+nameFrom zero c g s = good [] false
 nameFrom (suc f) c g s = nameBy c (λ (t : Text). nameFrom f c (c .guess t) t) g s
 
 -- the name s, its hyphens now spaces, with the set g

@@ -15,6 +15,7 @@ use Rattle.prefixes.specs.declared.prefixes.Prefix.{Prefix}
 use Rattle.prefixes.specs.declared.prefixes.Prefix.the-variants as prefix
 use Rattle.pack.specs.Packs.{Pack, Verdict, accepted, refused, packOf, listCount, any}
 use Rattle.pack.specs.Places.{textBytes, placesOf}
+use Rattle.refusals.specs.declared.Refusal.the-variants.{TextTooLong, TooManyTexts, NoRoom}
 use Rattle.choices.specs.Texts.{Text}
 use Rattle.phoneme_builder.specs.Passes.{firstMatch}
 use Rattle.phoneme_builder.specs.Tables.{matcher}
@@ -157,21 +158,21 @@ pub record Wrote (t : Text) (o o′ : List ℕ) (at next : ℕ) : Type 0 where
   pub same : length o′ ≡ length o
   pub room : length o < cap
 
-unfoldable pub codeOf : Spelt → ℕ
-codeOf (bad k) = k
-codeOf (good t f) = 0
+unfoldable pub isGood : Spelt → Bool
+isGood (bad why) = false
+isGood (good t f) = true
 
 unfoldable pub ToldBy : Spelt → List ℕ → List ℕ → ℕ → Ends → Type 0
-ToldBy (bad k) o o′ at r = 0 < k
+ToldBy (bad why) o o′ at r = r .why ≡ why
 ToldBy (good t f) o o′ at r = Wrote t o o′ at (r .at) × (r .flag ≡ f)
 
 pub record Told (x : Spelt) (o o′ : List ℕ) (at : ℕ) (r : Ends) : Type 0 where
-  pub code : r .code ≡ codeOf x
+  pub fine : r .fine ≡ isGood x
   pub is : ToldBy x o o′ at r
 
 -- the same, and what does not fit as a whole is not written at all
 unfoldable pub wholeBy : Spelt → List ℕ → ℕ → List ℕ
-wholeBy (bad k) o at = o
+wholeBy (bad why) o at = o
 wholeBy (good t f) o at = pick (leb (at + length t) (length o)) (sets o at t) o
 
 pub record ToldWhole (x : Spelt) (o o′ : List ℕ) (at : ℕ) (r : Ends) : Type 0 where
@@ -180,14 +181,14 @@ pub record ToldWhole (x : Spelt) (o o′ : List ℕ) (at : ℕ) (r : Ends) : Typ
 
 -- what a word's answer comes to: its end, or its refusal
 unfoldable pub EndedIs : Worded → ℕ → Ends → Type 0
-EndedIs (Done length flag) at r = (r .at ≡ min (at + length) cap) × (r .flag ≡ flag) × (r .code ≡ 0)
-EndedIs TooLong at r = r .code ≡ 7
-EndedIs TooMany at r = r .code ≡ 8
+EndedIs (Done length flag) at r = (r .at ≡ min (at + length) cap) × (r .flag ≡ flag) × (r .fine ≡ true)
+EndedIs TooLong at r = (r .fine ≡ false) × (r .why ≡ TextTooLong)
+EndedIs TooMany at r = (r .fine ≡ false) × (r .why ≡ TooManyTexts)
 EndedIs Unfit at r = Unit {0}
 
 -- two answers as one that ends at a place
 unfoldable pub bothOf : Ends → Ends → ℕ → Ends
-bothOf first second at = pick (eqb (first .code) 0) (record { at = at; flag = or (first .flag) (second .flag); code = second .code }) first
+bothOf first second at = pick (first .fine) (record { at = at; flag = or (first .flag) (second .flag); fine = second .fine; why = second .why }) first
 
 -- a hyphen where the name is read already
 pub record HyphenAt (o o′ : List ℕ) (at p next : ℕ) : Type 0 where
@@ -198,7 +199,7 @@ pub record HyphenAt (o o′ : List ℕ) (at p next : ℕ) : Type 0 where
 
 unfoldable pub foundBy : Named → Outcome → Outcome
 foundBy Fine rest = rest
-foundBy (Wrong code place) rest = refusedBy code place
+foundBy (Wrong why place) rest = refusedBy why place
 
 -- what is found of a name before the pack is looked at
 pub record FoundIs (f : Outcome → Outcome) (r : Named) : Type 0 where
@@ -206,19 +207,19 @@ pub record FoundIs (f : Outcome → Outcome) (r : Named) : Type 0 where
 
 -- an answer held apart, written where it fits; or not, as it is a refusal or has no room
 pub data KeptAll (a : Ends) (apart o o′ : List ℕ) : Type 0 where
-  none : (a .code ≡ 0 → ⊥) → o′ ≡ o → KeptAll a apart o o′
+  none : a .fine ≡ false → o′ ≡ o → KeptAll a apart o o′
   over : length o < a .at → o′ ≡ o → KeptAll a apart o o′
-  copied : a .code ≡ 0 → a .at ≤ length o → a .at ≤ length apart → o′ ≡ sets o 0 (take (a .at) apart) → KeptAll a apart o o′
+  copied : a .fine ≡ true → a .at ≤ length o → a .at ≤ length apart → o′ ≡ sets o 0 (take (a .at) apart) → KeptAll a apart o o′
 
 -- the same; or that it fits, but is too long to be held apart
 unfoldable pub KeptIs : Ends → List ℕ → List ℕ → List ℕ → Bool → Type 0
 KeptIs a apart o o′ true = KeptAll a apart o o′
-KeptIs a apart o o′ false = (a .code ≡ 0) × (a .at ≤ length o) × (o′ ≡ o)
+KeptIs a apart o o′ false = (a .fine ≡ true) × (a .at ≤ length o) × (o′ ≡ o)
 
 -- an answer of so many bytes, or that they have no room
 unfoldable pub answeredBy : Ends → ℕ → Spelled
 answeredBy a room =
-    pick (eqb (a .code) 0) (pick (leb (a .at) room) (spelled.Done (a .at) (a .flag)) (spelled.Refused 9 (min (a .at) 4294967295))) (spelled.Refused (a .code) 0)
+    pick (a .fine) (pick (leb (a .at) room) (spelled.Done (a .at) (a .flag)) (spelled.Refused NoRoom (min (a .at) 4294967295))) (spelled.Refused (a .why) 0)
 
 -- a name with no prefix, of which a test holds
 unfoldable pub wholeAnd : Prefix → Bool → Bool

@@ -20,15 +20,17 @@ use languages::Single;
 use phoneme_builder::Worded;
 use prefixes::NameType;
 use prefixes::Prefix;
+use refusals::Refusal;
 
 // No slice has more bytes; a place stays at most this.
 const CAP: usize = 0x8000_0000_0000_0000;
 
-// Where an answer ends and its flag; or the code of a refusal, which is not 0.
+// Where an answer ends and its flag, if it is fine (`why` then says nothing); else why it is refused.
 pub struct Ends {
     pub at: usize,
     pub flag: bool,
-    pub code: u8,
+    pub fine: bool,
+    pub why: Refusal,
 }
 
 // The numbers of the three lists that a word is spelled by.
@@ -81,22 +83,26 @@ fn ended(answer: Worded, at: usize) -> Ends
         Worded::Done { length, flag } => Ends {
             at: forward(at, length),
             flag,
-            code: 0,
+            fine: true,
+            why: Refusal::NoRoom,
         },
         Worded::TooLong => Ends {
             at,
             flag: false,
-            code: 7,
+            fine: false,
+            why: Refusal::TextTooLong,
         },
         Worded::TooMany => Ends {
             at,
             flag: false,
-            code: 8,
+            fine: false,
+            why: Refusal::TooManyTexts,
         },
         Worded::Unfit => Ends {
             at,
             flag: false,
-            code: 8,
+            fine: false,
+            why: Refusal::TooManyTexts,
         },
     }
 }
@@ -215,11 +221,13 @@ fn either(a: bool, b: bool) -> bool
 fn both(first: Ends, second: Ends, at: usize) -> Ends
     ensures { λ r. ⌜ r ≡ bothOf first second at ⌝ }
 {
-    if first.code == 0 {
+    if first.fine {
+        let why = second.why;
         Ends {
             at,
             flag: either(first.flag, second.flag),
-            code: second.code,
+            fine: second.fine,
+            why,
         }
     } else {
         first
@@ -289,7 +297,8 @@ fn spell_words(
     let mut all = Ends {
         at,
         flag: false,
-        code: 0,
+        fine: true,
+        why: Refusal::NoRoom,
     };
     let mut p: usize = 0;
     loop {

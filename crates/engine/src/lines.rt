@@ -3,10 +3,9 @@ ghost use mathlib.Core.Path.{_≡_};
 ghost use Prim.Native.Nat.{_+_, _-_, _≤_, min, max};
 ghost use lib.ListN.{length};
 ghost use Rattle.name_parts.specs.Writing.{Put};
-ghost use Rattle.engine.specs.Calls.{numbersOf};
+ghost use Rattle.engine.specs.Calls.{refusedAs};
 ghost use Rattle.engine.specs.Walks.{DeskIs, Scratch};
 ghost use Rattle.engine.specs.Lines.{most, decimal, refusalLine, lineFor, LinesIs, LineAt, headOf, DoneIs, waitsFor, RefusedIs};
-ghost use Rattle.engine.specs.declared.spelling.Spelled.the-variants.{Refused};
 use crate::call::Desk;
 use crate::call::Settings;
 use crate::call::Start;
@@ -34,7 +33,7 @@ fn put_decimal(n: usize, out: &mut [u8], at: usize) -> usize
 
 // The line of a refusal, as far as there is room.
 fn put_refusal(code: u8, place: usize, out: &mut [u8], at: usize) -> usize
-    ensures { λ r. ⌜ Put (now (out .entry)) (now (out .exit)) at r (refusalLine (numbersOf (Refused code place))) ⌝ }
+    ensures { λ r. ⌜ Put (now (out .entry)) (now (out .exit)) at r (refusalLine (refusedAs code place)) ⌝ }
 {
     let p = put_decimal(code as usize, out, at);
     let q = name_parts::push(out, p, b' ');
@@ -143,7 +142,9 @@ fn put_line(
         &mut out[a..e],
     ) {
         Spelled::Done { written, flag } => done_line(written, flag, out, at, size),
-        Spelled::Refused { code, place } => refused_line(code, place, out, at, size),
+        Spelled::Refused { why, place } => {
+            refused_line(refusals::number_of(why), place, out, at, size)
+        }
     }
 }
 

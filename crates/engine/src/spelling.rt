@@ -23,17 +23,18 @@ use crate::encode::spell_name;
 use crate::encode::spell_plain;
 use letters::Found;
 use prefixes::Prefix;
+use refusals::Refusal;
 
-// How many bytes were written, and the flag; or the number of a refusal and its place (01, What the desk gets).
+// How many bytes were written, and the flag; or a refusal and its place (01, What the desk gets).
 pub enum Spelled {
     Done { written: usize, flag: bool },
-    Refused { code: u8, place: usize },
+    Refused { why: Refusal, place: usize },
 }
 
 // What is found of a name before the pack is looked at.
 pub enum Named {
     Fine,
-    Wrong { code: u8, place: usize },
+    Wrong { why: Refusal, place: usize },
 }
 
 // Refusals 3, 1 and 2.
@@ -41,12 +42,21 @@ fn letters_of(name: &[u8]) -> Named
     ensures { λ r. ⌜ FoundIs (lettersThen (now (name .entry))) r ⌝ }
 {
     if 96 < name.len() {
-        return Named::Wrong { code: 3, place: 0 };
+        return Named::Wrong {
+            why: Refusal::NameTooLong,
+            place: 0,
+        };
     }
     match letters::first_ill(name) {
-        Found::At(place) => Named::Wrong { code: 1, place },
+        Found::At(place) => Named::Wrong {
+            why: Refusal::NotUtf8,
+            place,
+        },
         Found::Nothing => match letters::first_outside(name) {
-            Found::At(place) => Named::Wrong { code: 2, place },
+            Found::At(place) => Named::Wrong {
+                why: Refusal::OutsideRange,
+                place,
+            },
             Found::Nothing => Named::Fine,
         },
     }
@@ -59,7 +69,10 @@ fn refusal_of(settings: Settings, start: Start, name: &[u8]) -> Named
     if are_known(settings, start) {
         letters_of(name)
     } else {
-        Named::Wrong { code: 4, place: 0 }
+        Named::Wrong {
+            why: Refusal::SettingUnknown,
+            place: 0,
+        }
     }
 }
 
@@ -67,7 +80,7 @@ fn refusal_of(settings: Settings, start: Start, name: &[u8]) -> Named
 fn answer(a: Ends, room: usize) -> Spelled
     ensures { λ r. ⌜ r ≡ answeredBy a room ⌝ }
 {
-    if a.code == 0 {
+    if a.fine {
         if a.at <= room {
             Spelled::Done {
                 written: a.at,
@@ -75,20 +88,18 @@ fn answer(a: Ends, room: usize) -> Spelled
             }
         } else if a.at < 4294967295 {
             Spelled::Refused {
-                code: 9,
+                why: Refusal::NoRoom,
                 place: a.at,
             }
         } else {
             Spelled::Refused {
-                code: 9,
+                why: Refusal::NoRoom,
                 place: 4294967295,
             }
         }
     } else {
-        Spelled::Refused {
-            code: a.code,
-            place: 0,
-        }
+        let why = a.why;
+        Spelled::Refused { why, place: 0 }
     }
 }
 
@@ -108,7 +119,7 @@ fn keep(a: Ends, apart: &[u8], out: &mut [u8]) -> bool
     ensures { λ r. ⌜ KeptIs a (now (apart .entry)) (now (out .entry)) (now (out .exit)) r ⌝ }
 {
     let n = a.at;
-    if a.code == 0 {
+    if a.fine {
         if n <= out.len() {
             if n <= apart.len() {
                 name_parts::copy(&apart[0..n], out, 0);
@@ -181,12 +192,18 @@ pub(crate) fn spell_at(
                     let a = spell_lowered(store, marks, pack, places, call, &low[0..n], out);
                     answer(a, out.len())
                 } else {
-                    Spelled::Refused { code: 6, place: 0 }
+                    Spelled::Refused {
+                        why: Refusal::NoSuchLanguage,
+                        place: 0,
+                    }
                 }
             }
-            Desk::Shut { place } => Spelled::Refused { code: 5, place },
+            Desk::Shut { place } => Spelled::Refused {
+                why: Refusal::PackBroken,
+                place,
+            },
         },
-        Named::Wrong { code, place } => Spelled::Refused { code, place },
+        Named::Wrong { why, place } => Spelled::Refused { why, place },
     }
 }
 

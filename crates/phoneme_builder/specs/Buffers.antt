@@ -10,6 +10,7 @@ use Rattle.languages.specs.declared.sets.LanguageSet.{LanguageSet}
 use Rattle.choices.specs.Texts.{Text, byOrder}
 use Rattle.choices.specs.Apply.{Alternative, Entry, Outcome, refused, held, insert, enter}
 use Rattle.choices.specs.Choices.{Increasing}
+use Rattle.refusals.specs.declared.Refusal.the-variants.{TooManyTexts}
 use Rattle.phoneme_builder.specs.Sets.{Spelling, refusal, united}
 use Rattle.phoneme_builder.specs.declared.set.Found.{Found}
 use Rattle.phoneme_builder.specs.declared.set.Found.the-variants.{At, Free}
@@ -200,7 +201,7 @@ HeldBy TooMany store marks = Unit {0}
 
 unfoldable pub spellingBy : United → List ℕ → List ℕ → (List Entry → Spelling) → Spelling
 spellingBy (Into k) store marks rest = rest (entries store marks k)
-spellingBy TooMany store marks rest = refusal 8
+spellingBy TooMany store marks rest = refusal TooManyTexts
 
 -- the texts xs united into l for the set g, whatever is done with the result
 pub record UnitedIs (g : LanguageSet) (xs l : List Entry) (r : United) (store marks : List ℕ) : Type 0 where

@@ -14,6 +14,7 @@ use Rattle.phonemes.specs.Expressions.{bar, piecesIn, textOf, setOf}
 use Rattle.pack.specs.Packs.{Rule}
 use Rattle.choices.specs.Texts.{Text}
 use Rattle.choices.specs.Apply.{Alternative, Entry, Outcome, refused, held, apply, start}
+use Rattle.refusals.specs.declared.Refusal.the-variants.{TextTooLong}
 use Rattle.phoneme_builder.specs.Sets.{appended, Spelling, refusal, texts, united}
 
 -- ---- the turns of a pass
@@ -99,7 +100,7 @@ raised up (refusal c) = refusal c
 raised up (texts l flag) = texts l (pick up true flag)
 
 unfoldable pub onRan : LanguageSet → Ran → List Entry → (List Entry → Spelling) → Spelling
-onRan g tooLong l rest = refusal 7
+onRan g tooLong l rest = refusal TextTooLong
 onRan g (ran new flag) l rest = raised flag (united g new l rest)
 
 -- "each text is run the same way from its own set"
@@ -119,7 +120,7 @@ then (refusal c) rest = refusal c
 then (texts l flag) rest = raised flag (rest l)
 
 unfoldable pub mainOf : Ran → Spelling
-mainOf tooLong = refusal 7
+mainOf tooLong = refusal TextTooLong
 mainOf (ran l flag) = texts l flag
 
 -- a word: the main pass "from one empty text with the set", then the final passes, common and then language

@@ -10,6 +10,8 @@ use Rattle.base.specs.Pick.{pick, and}
 use lib.ListN.{length, take, drop}
 use Rattle.choices.specs.Texts.{Text}
 use Rattle.choices.specs.Apply.{Entry}
+use Rattle.refusals.specs.Numbers.{numberOf}
+use Rattle.refusals.specs.declared.Refusal.the-variants.{TextTooLong, TooManyTexts}
 use Rattle.phoneme_builder.specs.Sets.{Spelling, refusal, texts}
 use Rattle.phoneme_builder.specs.Passes.{offered, Match, none, by, Turn, Ran, tooLong, ran, flagged, run, raised, joined}
 use Rattle.phoneme_builder.specs.Buffers.{AltsIn, alternatives, IsSet, textsOf, part, Arena, SetAt, entriesAt, Stayed, Only, Rooms}
@@ -106,8 +108,8 @@ FinalKept finished.TooMany b to = Unit {0}
 
 unfoldable pub finishedBy : Finished → Arena → ℕ → (List Entry → Spelling) → Spelling
 finishedBy (finished.Into k flag) b to rest = raised flag (rest (entriesAt b to k))
-finishedBy finished.TooLong b to rest = refusal 7
-finishedBy finished.TooMany b to rest = refusal 8
+finishedBy finished.TooLong b to rest = refusal TextTooLong
+finishedBy finished.TooMany b to rest = refusal TooManyTexts
 
 -- one text's run, united into the result so far, whatever is done with it
 pub record TextFinished (a b : Arena) (old to : ℕ) (s : (List Entry → Spelling) → Spelling) (r : Finished) : Type 0 where
@@ -119,8 +121,8 @@ pub record TextFinished (a b : Arena) (old to : ℕ) (s : (List Entry → Spelli
 -- the texts of set `to`
 unfoldable pub textsBy : Finished → Arena → ℕ → Spelling
 textsBy (finished.Into k flag) b to = texts (entriesAt b to k) flag
-textsBy finished.TooLong b to = refusal 7
-textsBy finished.TooMany b to = refusal 8
+textsBy finished.TooLong b to = refusal TextTooLong
+textsBy finished.TooMany b to = refusal TooManyTexts
 
 pub record FinishedAt (b : Arena) (to : ℕ) (s : Spelling) (r : Finished) : Type 0 where
   pub rooms : Rooms b
@@ -165,7 +167,7 @@ areBuffers store marks alts = and (eqb store 131072) (and (eqb marks 1024) (eqb 
 abbrev pub spellings : List Entry → List Text
 spellings l = map (λ (e : Entry). e .text) l
 
--- what a word's answer says in the paper's numbers: its length and flag, or a refusal; or that the call was not fit
+-- what a word's answer says in the paper's numbers: its length and flag, or a refusal's number; or that the call was not fit
 pub data Answer : Type 0 where
   done : ℕ → Bool → Answer
   refusedBy : ℕ → Answer
@@ -173,12 +175,12 @@ pub data Answer : Type 0 where
 
 unfoldable pub answerOf : Worded → Answer
 answerOf (worded.Done length flag) = done length flag
-answerOf worded.TooLong = refusedBy 7
-answerOf worded.TooMany = refusedBy 8
+answerOf worded.TooLong = refusedBy (numberOf TextTooLong)
+answerOf worded.TooMany = refusedBy (numberOf TooManyTexts)
 answerOf worded.Unfit = unfit
 
 unfoldable pub answered : Spelling → Answer
-answered (refusal c) = refusedBy c
+answered (refusal why) = refusedBy (numberOf why)
 answered (texts l flag) = done (length (joined (spellings l))) flag
 
 unfoldable pub placedAs : Spelling → List ℕ → ℕ → List ℕ

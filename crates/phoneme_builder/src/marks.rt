@@ -2,7 +2,12 @@
 // so is a text of a set, with its row and its length.
 ghost use mathlib.Core.Path.{_≡_};
 ghost use Prim.Native.Nat.{_<_};
-ghost use Rattle.phoneme_builder.specs.Buffers.{packedOf, firstOf, secondOf};
+ghost use lib.Bits.{bitOr};
+ghost use Rattle.languages.specs.Coded.{IsCode};
+ghost use Rattle.phoneme_builder.specs.Buffers.{packedOf, langsOf, firstOf, secondOf};
+
+// The code of no languages: merged into a set, it adds nothing.
+pub(crate) const NO_LANGUAGES: u64 = 0;
 
 pub(crate) fn packed(set: u64, first: usize, second: usize) -> u64
     requires { ⌜ (set < 17179869184) × (first < 256) × (second < 256) ⌝ }
@@ -21,4 +26,13 @@ pub(crate) fn second_of(x: u64) -> usize
     ensures { λ r. ⌜ r ≡ secondOf x ⌝ }
 {
     (x % 256) as usize
+}
+
+// A mark with the languages g merged into its own.
+pub(crate) fn merged(x: u64, g: u64) -> u64
+    requires { ⌜ IsCode (langsOf x) ⌝ }
+    requires { ⌜ IsCode g ⌝ }
+    ensures { λ r. ⌜ r ≡ packedOf (bitOr (langsOf x) g) (firstOf x) (secondOf x) ⌝ }
+{
+    packed(x / 65536 | g, first_of(x), second_of(x))
 }

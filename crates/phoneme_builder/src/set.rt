@@ -8,7 +8,9 @@ ghost use lib.ListN.{length, take, drop};
 ghost use Rattle.languages.specs.Coded.{decoded, IsCode};
 ghost use Rattle.choices.specs.Apply.{insert, start};
 ghost use Rattle.phoneme_builder.specs.Buffers.{findL, insAt, entry, put, firstOf, secondOf, textOf, textsOf, entries, IsSet, SetIs, arena, Rooms, SetAt, entriesAt, TextIn, textIn, LangsIn, langsIn, CopiedIs, GrownAt};
+use crate::marks::NO_LANGUAGES;
 use crate::marks::first_of;
+use crate::marks::merged;
 use crate::marks::packed;
 use crate::marks::second_of;
 
@@ -66,7 +68,8 @@ pub(crate) fn open_at(marks: &mut [u64], p: usize, n: usize, v: u64)
     marks[n] = x;
 }
 
-// Enters the text of `long` bytes in row n, with the languages g, among the n; an equal text already there stays as it was.
+// Enters the text of `long` bytes in row n, with the languages g, among the n; an equal text already there stays as it was: nothing is
+// added to its languages.
 fn enter(store: &[u8], marks: &mut [u64], n: usize, long: usize, g: u64) -> usize
     requires { ⌜ IsSet (now store) (now marks) n ⌝ }
     requires { ⌜ IsCode g ⌝ }
@@ -75,7 +78,10 @@ fn enter(store: &[u8], marks: &mut [u64], n: usize, long: usize, g: u64) -> usiz
 {
     let a = n * 128;
     match find(store, marks, n, &store[a..a + long]) {
-        Found::At(_) => n,
+        Found::At(p) => {
+            marks[p] = merged(marks[p], NO_LANGUAGES);
+            n
+        }
         Found::Free(p) => {
             open_at(marks, p, n, packed(g, n, long));
             n + 1

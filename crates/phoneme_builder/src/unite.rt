@@ -1,14 +1,12 @@
 // Uniting the results of a final pass (01, Spelling a name, step 8).
+ghost use mathlib.Core.Path.{_≡_};
 ghost use mathlib.Core.List.{[], _∷_};
 ghost use Prim.Native.Nat.{_≤_};
-ghost use lib.Bits.{bitOr};
 ghost use lib.ListN.{length};
 ghost use Rattle.languages.specs.Coded.{decoded, IsCode};
-ghost use mathlib.Core.Path.{_≡_};
-ghost use Rattle.phoneme_builder.specs.Buffers.{packedOf, firstOf, secondOf, langsOf, entry, entries, IsSet, UnitedIs, arena, Rooms, SetAt, entryIn, entriesAt, TextIn, UnitedAt};
-use crate::marks::first_of;
+ghost use Rattle.phoneme_builder.specs.Buffers.{entry, entries, IsSet, UnitedIs, arena, Rooms, SetAt, entryIn, entriesAt, TextIn, UnitedAt};
+use crate::marks::merged;
 use crate::marks::packed;
-use crate::marks::second_of;
 use crate::set::Found;
 use crate::set::copy_text;
 use crate::set::find;
@@ -20,15 +18,6 @@ use crate::set::write;
 pub(crate) enum United {
     Into(usize),
     TooMany,
-}
-
-// A mark with the languages g merged into its own.
-fn merged(x: u64, g: u64) -> u64
-    requires { ⌜ IsCode (langsOf x) ⌝ }
-    requires { ⌜ IsCode g ⌝ }
-    ensures { λ r. ⌜ r ≡ packedOf (bitOr (langsOf x) g) (firstOf x) (secondOf x) ⌝ }
-{
-    packed(x / 65536 | g, first_of(x), second_of(x))
 }
 
 // The text a with the languages ga: an equal text takes its old set merged with g, the set of the text being worked on.

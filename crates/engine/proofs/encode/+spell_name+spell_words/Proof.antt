@@ -168,7 +168,7 @@ spell-words-afresh-requires : (t : ℕ) → spell-words-lts.Need-afresh-requires
 spell-words-afresh-requires t c κs = search needs
 
 spell-words-loop-holds : (t : ℕ) → spell-words-lts.Need-loop-holds (spell-words-calls t) (spell-words-at t) spell-words.Post spell-words-Inv-loop spell-words-μ-loop
-spell-words-loop-holds t c = held-start _ _ _ _ _ _ (c .before .before .before .before .before .before .before .pre .1 .1 .1 .1 .0) (c .before .before .before .before .before .before .before .good .1 .1 .1 .1 .1 .1 .0 .1)
+spell-words-loop-holds t c = held-start _ _ _ _ _ _ _ (c .before .before .before .before .before .before .before .pre .1 .1 .1 .1 .0) (c .before .before .before .before .before .before .before .good .1 .1 .1 .1 .1 .1 .0 .1)
 
 spell-words-next-word-requires : (t : ℕ) → spell-words-lts.Need-next-word-requires (spell-words-calls t) (spell-words-at t) spell-words.Post spell-words-Inv-loop spell-words-μ-loop
 spell-words-next-word-requires t c κs = search needs

@@ -67,8 +67,8 @@ answer-requires c κs = search needs
 enum-known-desk-2 : tie.Need-enum-known-desk-2
 enum-known-desk-2 c = search needs
 
-enum-known-code : tie.Need-enum-known-code
-enum-known-code c = search needs
+enum-known-why : tie.Need-enum-known-why
+enum-known-why c = search needs
 
 same-length : tie.Need-same-length
 same-length c = c .before .before .before .before .before .before .store .given
@@ -89,7 +89,7 @@ returns-3 : tie.Need-returns-3
 returns-3 c = at-shut _ _ _ _ _ _ (c .before .before .before .before .before .refusal-of .ensures) (c .before .before .before .enum-told .given .1) _ _ _ (c .before .before .before .before .before .before .before .before .before .before .before .before .pre .1) (c .before .desk2 .given .1)
 
 returns-4 : tie.Need-returns-4
-returns-4 c = at-wrong _ _ _ (c .before .before .before .before .before .before .before .before .before .before .args .places .now) _ _ (c .before .before .before .refusal-of .ensures) _ _ _ (c .before .code .given .1)
+returns-4 c = at-wrong _ _ _ (c .before .before .before .before .before .before .before .before .before .before .args .places .now) _ _ (c .before .before .before .refusal-of .ensures) _ _ _ (c .before .why .given .1)
 
 pub spell-at-spec : {M : Type 1} → statement M
 spell-at-spec =
@@ -113,7 +113,7 @@ spell-at-spec =
     spell-lowered-requires
     answer-requires
     enum-known-desk-2
-    enum-known-code
+    enum-known-why
     same-length
     same-length-2
     same-length-3

@@ -11,7 +11,7 @@ use Rattle.phoneme_builder.proofs.set.find.Reads as find-reads
 use Rattle.phoneme_builder.proofs.set.open_at.Reads as open-at-reads
 use Rattle.phoneme_builder.proofs.set.write.Reads as write-reads
 use Rattle.phoneme_builder.proofs.marks.packed.Reads as packed-reads
-use Rattle.phoneme_builder.proofs.unite.merged.Reads as merged-reads
+use Rattle.phoneme_builder.proofs.marks.merged.Reads as merged-reads
 
 find-requires : tie.Need-find-requires
 find-requires c κs = c .before .before .before .before .before .pre .0

@@ -1,12 +1,12 @@
 use borrow.Author.Needs.{needs}
 use native.Mathlib.Omega.{arith}
 use Rattle.phoneme_builder.proofs.MarkLaws.{code-small}
-use Rattle.phoneme_builder.proofs.UniteLaws.{merged-is}
+use Rattle.phoneme_builder.proofs.MarkLaws.{merged-is}
 use Rattle.languages.proofs.CodedLaws.{or-code}
-use Rattle.phoneme_builder.proofs.unite.merged.Statement.{statement}
-use Rattle.phoneme_builder.proofs.unite.merged.Tie as tie
-use Rattle.phoneme_builder.proofs.unite.merged.Reads as reads
-use Rattle.phoneme_builder.proofs.unite.merged.Lts as lts
+use Rattle.phoneme_builder.proofs.marks.merged.Statement.{statement}
+use Rattle.phoneme_builder.proofs.marks.merged.Tie as tie
+use Rattle.phoneme_builder.proofs.marks.merged.Reads as reads
+use Rattle.phoneme_builder.proofs.marks.merged.Lts as lts
 use Rattle.phoneme_builder.proofs.marks.first_of.Reads as first-of-reads
 use Rattle.phoneme_builder.proofs.marks.packed.Reads as packed-reads
 use Rattle.phoneme_builder.proofs.marks.second_of.Reads as second-of-reads
