@@ -19,9 +19,12 @@ fn settings_of(tells: &[usize; 9]) -> Settings {
 fn answered(s: Spelled, room: usize) -> Said {
     match s {
         Spelled::Done { written, flag } => Said::Line(0, flag as usize, written, room),
-        Spelled::Refused { code, place } => {
-            Said::Line(code as usize, place, cases::NO_NUMBER, room)
-        }
+        Spelled::Refused { why, place } => Said::Line(
+            refusals::number_of(why) as usize,
+            place,
+            cases::NO_NUMBER,
+            room,
+        ),
     }
 }
 

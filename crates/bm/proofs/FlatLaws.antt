@@ -17,6 +17,9 @@ use Rattle.loader.specs.Loading as load
 use Rattle.loader.specs.Loading.{Numbers, answer, AnswerIs}
 use Rattle.loader.specs.declared.loading.Loaded.{Loaded}
 use Rattle.loader.specs.declared.loading.Loaded.the-variants as loaded
+use Rattle.refusals.specs.Numbers.{numberOf}
+use Rattle.refusals.specs.declared.Refusal.{Refusal}
+use Rattle.engine.specs.Calls as spelling
 use Rattle.engine.specs.Calls.{Outcome, SpellIs, numbersOf}
 use Rattle.engine.specs.Lines.{lineFor, LinesIs}
 use Rattle.engine.specs.declared.call.Settings.{Settings}
@@ -37,9 +40,9 @@ pub tail-done : (s : Spelled) (tail : List ℕ) (n : ℕ) (f : Bool) → s ≡ D
 unfolding numbersOf numbered
 tail-done s tail n f e = rw (e, bit-is f) (record { code = refl; numbers = refl })
 
-pub tail-refused : (s : Spelled) (tail : List ℕ) (k p : ℕ) → s ≡ Refused k p → TailIs s tail (set (set tail 0 p) 1 0) k
+pub tail-refused : (s : Spelled) (tail : List ℕ) (why : Refusal) (p k : ℕ) → s ≡ Refused why p → k ≡ numberOf why → TailIs s tail (set (set tail 0 p) 1 0) k
 unfolding numbersOf numbered flagBit
-tail-refused s tail k p e = rw e (record { code = refl; numbers = refl })
+tail-refused s tail why p k e h = rw e (record { code = h; numbers = refl })
 
 -- ---- a name
 
@@ -52,9 +55,9 @@ pub spell-flat : (x : Outcome) (out out′ tail tail′ : List ℕ) (s : Spelled
 spell-flat x out out′ tail tail′ s r h w q =
     let t = le-ltb (length tail) 2 h in
     record {
-      code = pick-no _ _ _ _ t (q .code ∙ ap (λ (a : Spelled). numbersOf a .code) (w .result));
+      code = pick-no _ _ _ _ t (q .code ∙ ap (λ (n : spelling.Numbers). n .code) (w .result));
       buffer = pick-no _ _ _ _ t (w .buffer);
-      numbers = pick-no _ _ _ _ t (q .numbers ∙ ap (λ (a : Spelled). numbered (numbersOf a) tail) (w .result));
+      numbers = pick-no _ _ _ _ t (q .numbers ∙ ap (λ (n : spelling.Numbers). numbered n tail) (w .result));
     }
 
 -- ---- a pack

@@ -1,4 +1,4 @@
--- Answers as numbers, for C. An answer's numbers are the paper's: `numbersOf` of crate engine.
+-- Answers as numbers, for C. An answer's numbers are the paper's: `numbersIn` and `numbersOf` of crate engine.
 use mathlib.Core.Path.{_≡_}
 use Prim.Native.Nat.{ℕ}
 use mathlib.Core.Bool.{Bool, true, false}
@@ -13,7 +13,7 @@ use Rattle.pack.specs.declared.sections.Checked.{Checked}
 use Rattle.pack.specs.declared.sections.Checked.the-variants as checked
 use Rattle.rule_lists.specs.Outcomes as loading
 use Rattle.loader.specs.Loading as load
-use Rattle.engine.specs.Calls.{Outcome, toldOf, filledBy, Numbers, numbersOf}
+use Rattle.engine.specs.Calls.{Outcome, Numbers, numbersIn, numbersOf, filledBy}
 use Rattle.engine.specs.Lines.{taken}
 use Rattle.engine.specs.declared.call.Settings.{Settings}
 use Rattle.engine.specs.declared.call.Start.{Start}
@@ -40,9 +40,9 @@ pub record TailIs (s : Spelled) (tail tail′ : List ℕ) (r : ℕ) : Type 0 whe
 
 -- the promise of a call for C: its code, the content of the buffer, and the content of the tail
 pub record SpellFlat (x : Outcome) (out out′ tail tail′ : List ℕ) (r : ℕ) : Type 0 where
-  pub code : r ≡ pick (ltb (length tail) 2) 255 (numbersOf (toldOf x (length out)) .code)
+  pub code : r ≡ pick (ltb (length tail) 2) 255 (numbersIn x (length out) .code)
   pub buffer : out′ ≡ pick (ltb (length tail) 2) out (filledBy x out)
-  pub numbers : tail′ ≡ pick (ltb (length tail) 2) tail (numbered (numbersOf (toldOf x (length out))) tail)
+  pub numbers : tail′ ≡ pick (ltb (length tail) 2) tail (numbered (numbersIn x (length out)) tail)
 
 -- 0 where a pack is accepted, 5 and the place of the section at fault where it is not
 unfoldable pub checkNumbers : Checked → Numbers

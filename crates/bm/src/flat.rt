@@ -25,10 +25,10 @@ fn number(s: Spelled, tail: &mut [u64]) -> u32
             tail[1] = flag as u64;
             0
         }
-        Spelled::Refused { code, place } => {
+        Spelled::Refused { why, place } => {
             tail[0] = place as u64;
             tail[1] = 0;
-            code as u32
+            refusals::number_of(why) as u32
         }
     }
 }

@@ -4,6 +4,7 @@ use Rattle.bm.proofs.flat.number.Statement.{statement}
 use Rattle.bm.proofs.flat.number.Tie as tie
 use Rattle.bm.proofs.flat.number.Reads as reads
 use Rattle.bm.proofs.flat.number.Lts as lts
+use Rattle.refusals.proofs.number_of.Reads as number-of-reads
 
 enum-known-s : tie.Need-enum-known-s
 enum-known-s c = search needs
@@ -25,6 +26,9 @@ slice-write-tail-3 c = search needs
 
 slice-write-tail-4 : tie.Need-slice-write-tail-4
 slice-write-tail-4 c = search needs
+
+number-of-requires : tie.Need-number-of-requires
+number-of-requires c κs = search needs
 
 cast-result : tie.Need-cast-result
 cast-result c = search needs
@@ -52,6 +56,7 @@ number-spec =
     enum-known-s-2
     slice-write-tail-3
     slice-write-tail-4
+    number-of-requires
     cast-result
     same-length
     returns
