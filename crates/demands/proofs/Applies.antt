@@ -179,19 +179,19 @@ raised-inv u (refusal c) m f e = clash (cc)
 raised-inv u (texts k d) m f e = (d, cc, cc)
 
 -- uniting goes on to the rest
-united-by : (t u : Bool) (x y : Spelling) (m : List Entry) (f : Bool) (P : Type 0) → (x ≡ texts m f → P) → (y ≡ texts m f → P)
-    → pick t x (pick u (refusal 8) y) ≡ texts m f → P
+united-by : (t u : Bool) (x y z : Spelling) (m : List Entry) (f : Bool) (P : Type 0) → (x ≡ texts m f → P) → (y ≡ texts m f → P) → (z ≡ texts m f → P)
+    → pick t x (pick u y z) ≡ texts m f → P
 unfolding pick
-united-by true u x y m f P p q e = p e
-united-by false true x y m f P p q e = clash (cc)
-united-by false false x y m f P p q e = q e
+united-by true u x y z m f P p q r e = p e
+united-by false true x y z m f P p q r e = q e
+united-by false false x y z m f P p q r e = r e
 
 united-rest : (g : LanguageSet) (xs l : List Entry) (rest : List Entry → Spelling) (m : List Entry) (f : Bool) → united g xs l rest ≡ texts m f
     → (k : List Entry) × (rest k ≡ texts m f)
 unfolding united
 united-rest g [] l rest m f e = (l, e)
 united-rest g (x ∷ xs) l rest m f e =
-    united-by (holds (x .text) l) (leb 256 (length l)) _ _ m f _ (united-rest g xs (remerged (x .text) g l) rest m f) (united-rest g xs (insert x l) rest m f) e
+    united-by (holds (x .text) l) (leb 256 (length l)) _ _ _ m f _ (united-rest g xs (remerged (x .text) g l) rest m f) (λ k. clash (cc)) (united-rest g xs (insert x l) rest m f) e
 
 module _ (limit : ℕ) (names : List ℕ) (rules : Matcher) where
   TextReached : Entry → Type 0
