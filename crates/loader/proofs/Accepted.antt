@@ -18,17 +18,18 @@ use Rattle.regex_optim.specs.declared.OptimizedRegex.{OptimizedRegex}
 use Rattle.regex_optim.specs.declared.OptimizedRegex.the-variants.{AllStringsMatcher, IsEmpty, Equals, StartsWith, EndsWith, EqualsChar, StartsWithChar, EndsWithChar, Outside}
 use Rattle.phonemes.specs.declared.answers.Expression.{Expression}
 use Rattle.phonemes.specs.declared.answers.Expression.the-variants.{Good, Malformed, Stranger}
+use Rattle.pack.specs.Reading.{Read, cut, got}
 use Rattle.pack.specs.Packs.{Guess, Rule, Pack, accepted, packOf, all, guessesGood, isForm, isGood, ruleGood, listGood, listCount}
 use Rattle.pack_bytes.specs.Bytes.{namesBytes, packBytes, Each, none, more, GoodPack}
 use Rattle.pack_bytes.proofs.Laws.{packed}
-use Rattle.bundles.specs.Bundles.{File, Found, missing, found, readBundle, wellFormed, filesOf}
+use Rattle.bundles.specs.Bundles.{File, Found, missing, found, readBundle}
 use Rattle.rule_lists.specs.Outcomes as outcome
 use Rattle.rule_lists.specs.Lines.{lengthFault, contextFault, expressionFault, orElse, ruleFault}
 use Rattle.rule_lists.specs.Lists.{prefixOf, listFiles, listsOf}
 use Rattle.rule_lists.proofs.WalkLaws.{GoodRead}
 use Rattle.rule_lists.proofs.FileLaws.{list-good}
 use Rattle.loader.specs.Guesses.{guessesOf}
-use Rattle.loader.specs.Loading.{onType, onListed, namesOf, guessFile, listsIn, packIn, loadOf, written, answer, filled, AnswerIs, LoadIs}
+use Rattle.loader.specs.Loading.{onType, onListed, namesOf, guessFile, listsIn, packIn, onBundle, loadOf, written, answer, filled, AnswerIs, LoadIs}
 use Rattle.loader.specs.declared.loading.Loaded.{Loaded}
 use Rattle.loader.specs.declared.loading.Loaded.the-variants.{Done}
 use Rattle.loader.proofs.FileLaws.{fine-is, then-fine}
@@ -55,19 +56,24 @@ parts-of kind fs p e =
     let c = then-fine _ _ p (b .2) in
     rw (← fine-is (c .2)) (record { names = a .1; guesses = b .1; lists = c .1 })
 
--- the type whose files were loaded
+-- the type and the files that were loaded
 pub record LoadedFrom (s : List ℕ) (p : Pack) : Type 0 where
   pub kind : NameType
-  pub parts : PartsOf kind (filesOf s) p
+  pub files : List File
+  pub rest : List ℕ
+  pub read : readBundle s ≡ got files rest
+  pub parts : PartsOf kind files p
 
-good-bundle : (kind : NameType) (s : List ℕ) (p : Pack) → pick (wellFormed (readBundle s)) (packIn kind (filesOf s)) (outcome.refused 10 0 0) ≡ outcome.fine p → LoadedFrom s p
-good-bundle kind s p e = ⊎-elim (λ w. record { kind = kind; parts = parts-of kind (filesOf s) p (w .1) }) (λ w. clash (cc (w .1))) (pick-inv _ _ _ _ e)
+good-bundle : (kind : NameType) (s : List ℕ) (p : Pack) (x : Read (List File)) → readBundle s ≡ x → onBundle x (packIn kind) ≡ outcome.fine p → LoadedFrom s p
+unfolding onBundle
+good-bundle kind s p cut r e = clash (cc)
+good-bundle kind s p (got fs q) r e = ⊎-elim (λ w. record { kind = kind; files = fs; rest = q; read = r; parts = parts-of kind fs p (w .1) }) (λ w. clash (cc (w .1))) (pick-inv _ _ _ _ e)
 
 loaded-from : (ty : ℕ) (s : List ℕ) (p : Pack) → loadOf ty s ≡ outcome.fine p → LoadedFrom s p
 unfolding loadOf onType
-loaded-from zero s p e = good-bundle Ashkenazi s p e
-loaded-from (suc zero) s p e = good-bundle Generic s p e
-loaded-from (suc (suc zero)) s p e = good-bundle Sephardic s p e
+loaded-from zero s p e = good-bundle Ashkenazi s p _ refl e
+loaded-from (suc zero) s p e = good-bundle Generic s p _ refl e
+loaded-from (suc (suc zero)) s p e = good-bundle Sephardic s p _ refl e
 loaded-from (suc (suc (suc n))) s p e = clash (cc)
 
 -- ---- they are good
@@ -158,7 +164,7 @@ unfolding written answer
 written-by ty s out out′ n (outcome.fine p) e a =
     let f : take n out′ ≡ packBytes p = fits (packBytes p) out out′ n (a .result) (a .buffer) in
     let v = loaded-from ty s p e in
-    record { it = p; loads = e; front = f; accepts = rw f (packed p (good-pack (v .kind) (filesOf s) p (v .parts))) }
+    record { it = p; loads = e; front = f; accepts = rw f (packed p (good-pack (v .kind) (v .files) p (v .parts))) }
 written-by ty s out out′ n (outcome.refused c l f) e a = clash (cc (a .result))
 
 -- THE LAW: what `load` leaves where it is done is an accepted pack, and it is the definition's

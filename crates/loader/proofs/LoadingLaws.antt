@@ -13,14 +13,15 @@ use Rattle.languages.specs.Names.{stringsOf}
 use Rattle.name_parts.specs.Writing.{Put}
 use Rattle.name_parts.proofs.Laws.{put-then, clash}
 use Rattle.prefixes.specs.declared.prefixes.NameType.{NameType}
+use Rattle.pack.specs.Reading.{Read, cut, got}
 use Rattle.pack.specs.Packs.{Guess, Rule, Pack, namesGood}
 use Rattle.pack_bytes.specs.Bytes.{countBytes, namesBytes, guessBytes, listBytes, packBytes}
 use Rattle.held.specs.Tables.{bytesOf}
 use Rattle.bundles.specs.Bundles.{File, Found, missing, found, readBundle, wellFormed, filesOf, fileNamed}
-use Rattle.bundles.specs.Walks.{Finds}
+use Rattle.bundles.specs.Places.{numbersOf, fileAt}
 use Rattle.bundles.specs.declared.FileAt.{FileAt}
 use Rattle.bundles.specs.declared.FileAt.the-variants as file-at
-use Rattle.bundles.proofs.Laws.{found-is, found-order, found-within, missing-is}
+use Rattle.bundles.proofs.Laws.{found-is, found-order, found-within, missing-is, files-read}
 use Rattle.rule_lists.specs.Outcomes.{Outcome, fine, refused, andThen, Told}
 use Rattle.rule_lists.specs.Lists.{prefixOf, twoOf, threeOf, listFiles, listsOf}
 use Rattle.rule_lists.proofs.ListLaws.{lists-length}
@@ -28,7 +29,7 @@ use Rattle.rule_lists.specs.declared.writing.Written.{Written}
 use Rattle.rule_lists.specs.declared.writing.Written.the-variants as wrote
 use Rattle.loader.specs.Languages.{languagesOf}
 use Rattle.loader.specs.Guesses.{guessesOf}
-use Rattle.loader.specs.Loading.{onType, languagesPart, langPart, onListed, namesOf, guessFile, listsIn, packIn, loadOf, written, answer, filled, AnswerIs}
+use Rattle.loader.specs.Loading.{onType, languagesPart, langPart, onListed, namesOf, guessFile, listsIn, packIn, onBundle, loadOf, written, answer, filled, AnswerIs}
 use Rattle.loader.specs.Walks.{NamesTold, NamesAre, GuessesTold, kindOf, frontBytes, packedOf}
 use Rattle.loader.proofs.LanguageLaws.{strings-names, languages-good, languages-few}
 use Rattle.loader.proofs.GuessLaws.{guesses-few}
@@ -43,7 +44,7 @@ use Rattle.loader.specs.declared.guesses.Guessed.the-variants as guessed
 
 -- ---- the language list
 
-module _ (kind : NameType) (s : List ℕ) (e : FileAt) (w : Finds s (fileNamed (prefixOf kind ++ languagesPart) 0 (filesOf s)) e) where
+module _ (kind : NameType) (s : List ℕ) (e : FileAt) (w : numbersOf e ≡ fileAt s (prefixOf kind ++ languagesPart)) where
   pub names-found : (k a b : ℕ) (out out′ : List ℕ) (r : Names) → e ≡ file-at.At k a b → NamesAre (take (b - a) (drop a s)) k out r out′ → NamesTold (namesOf kind (filesOf s)) r out′
   unfolding NamesAre namesOf onListed
   names-found k a b out out′ r h x = rw (found-is s _ e w k a b h) x
@@ -301,21 +302,32 @@ is-unknown (suc zero) x k e = clash (cc)
 is-unknown (suc (suc zero)) x k e = clash (cc)
 is-unknown (suc (suc (suc n))) x k e = refl
 
+bundle-bad : {A : Type 0} (x : Read (List File)) (k : List File → Outcome A) → wellFormed x ≡ false → onBundle x k ≡ refused 10 0 0
+unfolding onBundle
+bundle-bad cut k b = refl
+bundle-bad (got fs r) k b = pick-false _ _ _ b
+
+-- the files that the code finds are those of a bundle that is well formed
+bundle-good : {A : Type 0} (s : List ℕ) (x : Read (List File)) (k : List File → Outcome A) → readBundle s ≡ x → wellFormed x ≡ true → onBundle x k ≡ k (filesOf s)
+unfolding onBundle wellFormed
+bundle-good s cut k e b = clash (cc)
+bundle-good s (got fs r) k e b = pick-true _ _ _ b ∙ ap k (sym (files-read s fs r e))
+
 module _ (ty : ℕ) (s out : List ℕ) (x : Kind) (e : x ≡ kindOf ty) where
   pub load-unknown : x ≡ kinds.Unknown → AnswerIs (written (loadOf ty s)) out (loaded.Refused 4 0 0) out
   unfolding loadOf
   load-unknown h = refused-is (loadOf ty s) 4 0 0 out (is-unknown ty _ _ (sym e ∙ h))
 
   module _ (kind : NameType) (h : x ≡ kinds.Is kind) where
-    known-is : loadOf ty s ≡ pick (wellFormed (readBundle s)) (packIn kind (filesOf s)) (refused 10 0 0)
+    known-is : loadOf ty s ≡ onBundle (readBundle s) (packIn kind)
     unfolding loadOf
     known-is = is-known ty kind _ _ (sym e ∙ h)
 
     pub load-bad : wellFormed (readBundle s) ≡ false → AnswerIs (written (loadOf ty s)) out (loaded.Refused 10 0 0) out
-    load-bad b = refused-is (loadOf ty s) 10 0 0 out (known-is ∙ pick-false _ _ _ b)
+    load-bad b = refused-is (loadOf ty s) 10 0 0 out (known-is ∙ bundle-bad _ _ b)
 
     pub load-good : (out′ : List ℕ) (z : Loaded) → wellFormed (readBundle s) ≡ true → AnswerIs (written (packIn kind (filesOf s))) out z out′ → AnswerIs (written (loadOf ty s)) out z out′
-    load-good out′ z b a = rw (known-is ∙ pick-true _ _ _ b) a
+    load-good out′ z b a = rw (known-is ∙ bundle-good s _ _ refl b) a
 
 pub ruleset names-laws = (names-found, names-order, names-within, names-missing)
 

@@ -12,7 +12,7 @@ use Rattle.name_parts.proofs.Laws.{clash, put-then}
 use Rattle.pack.specs.Packs.{Guess}
 use Rattle.pack_bytes.specs.Bytes.{countBytes}
 use Rattle.bundles.specs.Bundles.{filesOf, fileNamed}
-use Rattle.bundles.specs.Walks.{Finds}
+use Rattle.bundles.specs.Places.{numbersOf, fileAt}
 use Rattle.bundles.specs.declared.FileAt.{FileAt}
 use Rattle.bundles.specs.declared.FileAt.the-variants as file-at
 use Rattle.bundles.proofs.Laws.{missing-is, found-is, found-order, found-within}
@@ -52,7 +52,7 @@ pub ruleset kind-laws = (kind-ashkenazi, kind-generic, kind-sephardic, kind-unkn
 
 module _ (kind : NameType) (part s : List ℕ) (r : FileAt) where
   abbrev Named : List ℕ → Type 0
-  Named name = Finds s (fileNamed name 0 (filesOf s)) r
+  Named name = numbersOf r ≡ fileAt s name
 
   pub file-ashkenazi : kind ≡ Ashkenazi → Named (97 ∷ 115 ∷ 104 ∷ part) → Named (prefixOf kind ++ part)
   unfolding prefixOf
@@ -90,7 +90,7 @@ unfolding GuessesTold andThen
 refused-by (fine gs) o at c l f o′ w = let e = w .1 in clash (cc)
 refused-by (refused d m g) o at c l f o′ w = w
 
-module _ (kind : NameType) (s : List ℕ) (x : FileAt) (e : Finds s (fileNamed (prefixOf kind ++ langPart) 0 (filesOf s)) x) (names o : List ℕ) (at : ℕ) where
+module _ (kind : NameType) (s : List ℕ) (x : FileAt) (e : numbersOf x ≡ fileAt s (prefixOf kind ++ langPart)) (names o : List ℕ) (at : ℕ) where
   pub load-missing : x ≡ file-at.Missing → GuessesTold (guessFile kind (filesOf s) names) o at (Refused 11 0 0) o
   unfolding guessFile onListed GuessesTold
   load-missing q = rw (missing-is s _ x e q) refl

@@ -8,9 +8,10 @@ use lib.Seq.{sets}
 use Rattle.base.specs.Pick.{pick}
 use Rattle.prefixes.specs.declared.prefixes.NameType.{NameType}
 use Rattle.prefixes.specs.declared.prefixes.NameType.the-variants.{Ashkenazi, Generic, Sephardic}
+use Rattle.pack.specs.Reading.{Read, cut, got}
 use Rattle.pack.specs.Packs.{Guess, Rule, Pack}
 use Rattle.pack_bytes.specs.Bytes.{namesBytes, packBytes}
-use Rattle.bundles.specs.Bundles.{File, Found, missing, found, readBundle, wellFormed, filesOf, fileNamed}
+use Rattle.bundles.specs.Bundles.{File, Found, missing, found, readBundle, wellFormed, fileNamed}
 use Rattle.rule_lists.specs.Outcomes.{Outcome, fine, refused, andThen}
 use Rattle.rule_lists.specs.Lists.{listsOf, listFiles, prefixOf}
 use Rattle.loader.specs.Languages.{languagesOf}
@@ -55,9 +56,13 @@ packIn kind fs =
     andThen (listsIn kind fs names) λ lists.
     fine (record { names = names; guesses = guesses; lists = lists })
 
--- "10 bundle badly formed"
+-- "10 bundle badly formed": the files of a bundle are those that were read
+unfoldable pub onBundle : {A : Type 0} → Read (List File) → (List File → Outcome A) → Outcome A
+onBundle cut k = refused 10 0 0
+onBundle (got files r) k = pick (wellFormed (got files r)) (k files) (refused 10 0 0)
+
 unfoldable pub loadOf : ℕ → List ℕ → Outcome Pack
-loadOf ty s = onType ty (refused 4 0 0) (λ kind. pick (wellFormed (readBundle s)) (packIn kind (filesOf s)) (refused 10 0 0))
+loadOf ty s = onType ty (refused 4 0 0) (λ kind. onBundle (readBundle s) (packIn kind))
 
 -- ---- the answer, and what is left in the buffer
 

@@ -4,8 +4,8 @@ ghost use mathlib.Core.List.{List, _++_};
 ghost use Prim.Native.Nat.{ℕ, _≤_, min};
 ghost use lib.ListN.{length};
 ghost use Rattle.name_parts.specs.Writing.{Put, cap};
-ghost use Rattle.bundles.specs.Bundles.{filesOf, fileNamed};
-ghost use Rattle.bundles.specs.Walks.{Finds};
+ghost use Rattle.bundles.specs.Bundles.{filesOf};
+ghost use Rattle.bundles.specs.Places.{fileAt};
 ghost use Rattle.rule_lists.specs.Outcomes.{Told};
 ghost use Rattle.rule_lists.specs.Lists.{prefixOf};
 ghost use Rattle.loader.specs.Loading.{languagesPart, langPart, namesOf, guessFile, packIn, written, AnswerIs, LoadIs};
@@ -56,7 +56,7 @@ fn kind_of(name_type: u32) -> Kind
 
 // The language list of a type.
 fn languages_file(kind: NameType, bundle: &[u8]) -> FileAt
-    ensures { λ r. ⌜ Finds (now (bundle .entry)) (fileNamed (prefixOf kind ++ languagesPart) 0 (filesOf (now (bundle .entry)))) r ⌝ }
+    ensures { λ r. ⌜ Rattle.bundles.specs.Places.numbersOf r ≡ fileAt (now (bundle .entry)) (prefixOf kind ++ languagesPart) ⌝ }
 {
     match kind {
         NameType::Ashkenazi => bundles::find_file(bundle, b"ash_languages"),
@@ -67,7 +67,7 @@ fn languages_file(kind: NameType, bundle: &[u8]) -> FileAt
 
 // The guessing file of a type.
 fn guessing_file(kind: NameType, bundle: &[u8]) -> FileAt
-    ensures { λ r. ⌜ Finds (now (bundle .entry)) (fileNamed (prefixOf kind ++ langPart) 0 (filesOf (now (bundle .entry)))) r ⌝ }
+    ensures { λ r. ⌜ Rattle.bundles.specs.Places.numbersOf r ≡ fileAt (now (bundle .entry)) (prefixOf kind ++ langPart) ⌝ }
 {
     match kind {
         NameType::Ashkenazi => bundles::find_file(bundle, b"ash_lang"),

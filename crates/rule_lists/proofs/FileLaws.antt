@@ -14,7 +14,7 @@ use Rattle.pack.specs.Packs.{Rule, ordered}
 use Rattle.pack_bytes.specs.Bytes.{textBytes, textPut, countBytes, ruleBytes, listBytes}
 use Rattle.pack_bytes.specs.Bytes as bytes
 use Rattle.bundles.specs.Bundles.{File, Found, missing, found, filesOf, fileNamed}
-use Rattle.bundles.specs.Walks.{Finds}
+use Rattle.bundles.specs.Places.{numbersOf, fileAt}
 use Rattle.bundles.specs.declared.FileAt.{FileAt}
 use Rattle.bundles.specs.declared.FileAt.the-variants.{At, Missing}
 use Rattle.bundles.proofs.Laws.{missing-is, found-is}
@@ -113,15 +113,15 @@ module _ (names : List ℕ) (fs : List File) (k : ℕ) (s : List ℕ) (t : Met R
       (ap (keyBytes rulePut (keptOf t)) (ap (λ (m : ℕ). keysOf rows m 0 []) (sym kept) ∙ keys-rows bundle rows (keptOf t) (kept-rows h few))
       ∙ finished-keys firstOf rulePut t short (within-all t) (omega (arith, kept)) ∙ rules-short names (finished firstOf t) good-finished)
 
-module _ (bundle names wanted : List ℕ) (f : FileAt) (w : Finds bundle (fileNamed wanted 0 (filesOf bundle)) f) where
+module _ (bundle names wanted : List ℕ) (f : FileAt) (w : numbersOf f ≡ fileAt bundle wanted) where
   pub list-missing : f ≡ Missing → (o : List ℕ) (at : ℕ) → Told listBytes (listOf names (filesOf bundle) wanted) o o at (Refused 11 0 0)
   unfolding listOf listIn Told
-  list-missing q o at = rw (missing-is bundle _ f w q) refl
+  list-missing q o at = rw (missing-is bundle wanted f w q) refl
 
   module _ (k a b : ℕ) (q : f ≡ At k a b) where
     list-found : listOf names (filesOf bundle) wanted ≡ andThen (counted (readListed (filesFor names (filesOf bundle)) k (linesOf names (take (b - a) (drop a bundle))))) (λ t. fine (finished firstOf t))
     unfolding listOf listIn
-    list-found = ap (listIn names (filesOf bundle)) (found-is bundle _ f w k a b q)
+    list-found = ap (listIn names (filesOf bundle)) (found-is bundle wanted f w k a b q)
 
     module _ (g : Collected) (rows : List ℕ) (v : CollectIs bundle (counted (readListed (filesFor names (filesOf bundle)) k (linesOf names (take (b - a) (drop a bundle))))) g rows) where
       pub list-refused : (c l i : ℕ) → g ≡ collected.Refused c l i → (o o′ : List ℕ) (at : ℕ) → Told listBytes (listOf names (filesOf bundle) wanted) o o′ at (Refused c l i)
