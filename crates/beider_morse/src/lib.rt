@@ -13,6 +13,7 @@ pub use engine::Spelled;
 pub use engine::Start;
 pub use loader::Loaded;
 pub use pack::Checked;
+pub use refusals::Refusal;
 
 // The pack of a bundle of rule files: its length, or the refusal.
 pub fn load(name_type: u32, bundle: &[u8], out: &mut [u8]) -> Loaded

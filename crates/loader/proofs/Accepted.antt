@@ -9,8 +9,12 @@ use native.Mathlib.Omega.{arith}
 use lib.Dec.{leb, ltb}
 use lib.ListN.{length, take}
 use lib.Seq.{sets-eq, length-sets, take-at}
-use borrow.Author.Tests.{leb-true, le-leb, lt-ltb, eq-eqb, eqb-true, eqb-false}
+use borrow.Author.Tests.{leb-true, le-leb, lt-ltb, eq-eqb}
 use Rattle.base.specs.Pick.{pick, pick-true, pick-inv, and-yes}
+use Rattle.refusals.specs.declared.Refusal.{Refusal}
+use Rattle.refusals.specs.declared.Refusal.the-variants.{PatternEmpty}
+use Rattle.refusals.specs.Numbers.{numberOf}
+use Rattle.refusals.proofs.NumberLaws.{number-one, number-some}
 use Rattle.name_parts.proofs.Laws.{clash}
 use Rattle.prefixes.specs.declared.prefixes.NameType.{NameType}
 use Rattle.prefixes.specs.declared.prefixes.NameType.the-variants.{Ashkenazi, Generic, Sephardic}
@@ -24,22 +28,39 @@ use Rattle.pack_bytes.specs.Bytes.{namesBytes, packBytes, Each, none, more, Goo
 use Rattle.pack_bytes.proofs.Laws.{packed}
 use Rattle.bundles.specs.Bundles.{File, Found, missing, found, readBundle}
 use Rattle.rule_lists.specs.Outcomes as outcome
+use Rattle.rule_lists.specs.declared.lines.Fault.{Fault}
+use Rattle.rule_lists.specs.declared.lines.Fault.the-variants.{Is, Without}
 use Rattle.rule_lists.specs.Lines.{lengthFault, contextFault, expressionFault, orElse, ruleFault}
 use Rattle.rule_lists.specs.Lists.{prefixOf, listFiles, listsOf}
 use Rattle.rule_lists.proofs.WalkLaws.{GoodRead}
 use Rattle.rule_lists.proofs.FileLaws.{list-good}
 use Rattle.loader.specs.Guesses.{guessesOf}
-use Rattle.loader.specs.Loading.{onType, onListed, namesOf, guessFile, listsIn, packIn, onBundle, loadOf, written, answer, filled, AnswerIs, LoadIs}
+use Rattle.loader.specs.Loading.{onType, onListed, namesOf, guessFile, listsIn, packIn, onBundle, loadOf, written, Numbers, doneAt, refusedAt, numbersOf, answer, filled, AnswerIs, LoadIs}
 use Rattle.loader.specs.declared.loading.Loaded.{Loaded}
-use Rattle.loader.specs.declared.loading.Loaded.the-variants.{Done}
+use Rattle.loader.specs.declared.loading.Loaded.the-variants.{Done, Refused}
 use Rattle.loader.proofs.FileLaws.{fine-is, then-fine}
 use Rattle.loader.proofs.LanguageLaws.{strings-names}
 use Rattle.loader.proofs.GuessLaws.{guesses-good}
 use Rattle.loader.proofs.LoadingLaws.{names-good, lists-counted}
 
--- one answer and one content
+-- ---- no two answers have the same numbers, and so one answer and one content
+
+not-done : {A : Type 0} (w : Refusal) (p f n : ℕ) → refusedAt w p f ≡ doneAt n → A
+not-done w p f n e = let z : numberOf w ≡ 0 = ap (λ (m : Numbers). m .code) e in absurd (omega (arith, number-some w))
+
+pub numbers-one : (x y : Loaded) → numbersOf x ≡ numbersOf y → x ≡ y
+unfolding numbersOf
+numbers-one (Done n) (Done m) e = ap Done (ap (λ (k : Numbers). k .place) e)
+numbers-one (Done n) (Refused w p f) e = not-done w p f n (sym e)
+numbers-one (Refused w p f) (Done n) e = not-done w p f n e
+numbers-one (Refused w p f) (Refused v q g) e =
+    let why : w ≡ v = number-one w v (ap (λ (k : Numbers). k .code) e) in
+    let place : p ≡ q = ap (λ (k : Numbers). k .place) e in
+    let file : f ≡ g = ap (λ (k : Numbers). k .file) e in
+    cc
+
 pub load-one : (ty : ℕ) (s : List ℕ) {out o o′ : List ℕ} {r r′ : Loaded} → LoadIs ty s out r o → LoadIs ty s out r′ o′ → (r ≡ r′) × (o ≡ o′)
-load-one ty s x y = (x .result ∙ sym (y .result), x .buffer ∙ sym (y .buffer))
+load-one ty s x y = (numbers-one _ _ (x .result ∙ sym (y .result)), x .buffer ∙ sym (y .buffer))
 
 -- ---- the parts of a pack that was loaded
 
@@ -78,11 +99,12 @@ loaded-from (suc (suc (suc n))) s p e = clash (cc)
 
 -- ---- they are good
 
-else-inv : (a b : ℕ) → orElse a b ≡ 0 → (a ≡ 0) × (b ≡ 0)
+else-inv : (a b : Fault) → orElse a b ≡ Without → (a ≡ Without) × (b ≡ Without)
 unfolding orElse
-else-inv a b e = ⊎-elim (λ w. (eqb-true a 0 (w .0), w .1)) (λ w. absurd (eqb-false a 0 (w .0) (w .1))) (pick-inv _ _ _ _ e)
+else-inv Without b e = (refl, e)
+else-inv (Is w) b e = clash (cc)
 
-form-good : (f : OptimizedRegex) → contextFault f ≡ 0 → isForm f ≡ true
+form-good : (f : OptimizedRegex) → contextFault f ≡ Without → isForm f ≡ true
 unfolding contextFault isForm
 form-good AllStringsMatcher e = refl
 form-good IsEmpty e = refl
@@ -92,17 +114,17 @@ form-good EndsWith e = refl
 form-good EqualsChar e = refl
 form-good StartsWithChar e = refl
 form-good EndsWithChar e = refl
-form-good Outside e = absurd (omega arith)
+form-good Outside e = clash (cc)
 
-expression-good : (x : Expression) → expressionFault x ≡ 0 → isGood x ≡ true
+expression-good : (x : Expression) → expressionFault x ≡ Without → isGood x ≡ true
 unfolding expressionFault isGood
 expression-good (Good n) e = refl
-expression-good Malformed e = absurd (omega arith)
-expression-good Stranger e = absurd (omega arith)
+expression-good Malformed e = clash (cc)
+expression-good Stranger e = clash (cc)
 
-some-pattern : (p l r e : ℕ) → lengthFault p l r e ≡ 0 → ltb 0 p ≡ true
+some-pattern : (p l r e : ℕ) → lengthFault p l r e ≡ Without → ltb 0 p ≡ true
 unfolding lengthFault
-some-pattern zero l r e h = absurd (omega (arith, sym (pick-true _ 13 _ (eq-eqb 0 0 refl)) ∙ h))
+some-pattern zero l r e h = let z = sym (pick-true _ (Is PatternEmpty) _ (eq-eqb 0 0 refl)) ∙ h in clash (cc)
 some-pattern (suc p) l r e h = lt-ltb 0 (suc p) (omega arith)
 
 -- a rule that was read without a fault keeps the pack's rules
@@ -152,20 +174,20 @@ pub record Written (ty : ℕ) (s : List ℕ) (n : ℕ) (out′ : List ℕ) : Typ
   pub front : take n out′ ≡ packBytes it
   pub accepts : packOf (take n out′) ≡ accepted it
 
-fits : (b out out′ : List ℕ) (n : ℕ) → Done n ≡ answer (outcome.fine b) (length out) → out′ ≡ filled (outcome.fine b) out → take n out′ ≡ b
+fits : (b out out′ : List ℕ) (n : ℕ) → doneAt n ≡ answer (outcome.fine b) (length out) → out′ ≡ filled (outcome.fine b) out → take n out′ ≡ b
 unfolding answer filled
-fits b out out′ n r h = ⊎-elim (λ w. yes-so (w .0) (cc (w .1))) (λ w. clash (cc (w .1))) (pick-inv _ _ _ _ (sym r))
+fits b out out′ n r h = ⊎-elim (λ w. yes-so (w .0) (ap (λ (m : Numbers). m .place) (w .1))) (λ w. not-done _ _ _ n (w .1)) (pick-inv _ _ _ _ (sym r))
   where
     yes-so : leb (length b) (length out) ≡ true → length b ≡ n → take n out′ ≡ b
     yes-so t e = rw (h ∙ pick-true _ _ _ t ∙ sets-eq b out 0 (omega (arith, leb-true (length b) (length out) t))) (take-at b _ n e)
 
 written-by : (ty : ℕ) (s out out′ : List ℕ) (n : ℕ) (x : outcome.Outcome Pack) → loadOf ty s ≡ x → AnswerIs (written x) out (Done n) out′ → Written ty s n out′
-unfolding written answer
+unfolding written answer numbersOf
 written-by ty s out out′ n (outcome.fine p) e a =
     let f : take n out′ ≡ packBytes p = fits (packBytes p) out out′ n (a .result) (a .buffer) in
     let v = loaded-from ty s p e in
     record { it = p; loads = e; front = f; accepts = rw f (packed p (good-pack (v .kind) (v .files) p (v .parts))) }
-written-by ty s out out′ n (outcome.refused c l f) e a = clash (cc (a .result))
+written-by ty s out out′ n (outcome.refused c l f) e a = not-done c l f n (sym (a .result))
 
 -- THE LAW: what `load` leaves where it is done is an accepted pack, and it is the definition's
 pub load-accepted : (ty : ℕ) (s out out′ : List ℕ) (n : ℕ) → LoadIs ty s out (Done n) out′ → Written ty s n out′
@@ -173,9 +195,9 @@ load-accepted ty s out out′ n a = written-by ty s out out′ n (loadOf ty s) r
 
 -- for a program that takes the pack out of its buffer
 within-by : (x : outcome.Outcome (List ℕ)) (out out′ : List ℕ) (n : ℕ) → AnswerIs x out (Done n) out′ → n ≤ length out′
-unfolding answer filled
-within-by (outcome.refused c l f) out out′ n a = clash (cc (a .result))
-within-by (outcome.fine b) out out′ n a = ⊎-elim (λ w. yes-so (w .0) (cc (w .1))) (λ w. clash (cc (w .1))) (pick-inv _ _ _ _ (sym (a .result)))
+unfolding answer filled numbersOf
+within-by (outcome.refused c l f) out out′ n a = not-done c l f n (sym (a .result))
+within-by (outcome.fine b) out out′ n a = ⊎-elim (λ w. yes-so (w .0) (ap (λ (m : Numbers). m .place) (w .1))) (λ w. not-done _ _ _ n (w .1)) (pick-inv _ _ _ _ (sym (a .result)))
   where
     yes-so : leb (length b) (length out) ≡ true → length b ≡ n → n ≤ length out′
     yes-so t e =

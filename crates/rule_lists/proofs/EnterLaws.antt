@@ -5,6 +5,7 @@ use Prim.Native.Nat.{ℕ, zero, suc, _≤_, _<_}
 use native.Mathlib.Omega.{arith}
 use borrow.Author.Tests.{le-leb, lt-leb}
 use Rattle.base.specs.Pick.{pick, pick-false}
+use Rattle.refusals.specs.declared.Refusal.the-variants.{FileMissing, IncludeTooDeep}
 use Rattle.bundles.specs.Bundles.{filesOf, fileNamed}
 use Rattle.bundles.specs.Places.{numbersOf, fileAt}
 use Rattle.bundles.specs.declared.FileAt.{FileAt}
@@ -13,11 +14,11 @@ use Rattle.bundles.proofs.Laws.{missing-is, found-is, found-order, found-within
 use Rattle.rule_lists.specs.Walks.{entryIn, entryOf, EntersIs}
 use Rattle.rule_lists.specs.declared.walk.Entered.the-variants.{Go, Not}
 
-pub enter-deep : (s name : List ℕ) (left n : ℕ) → left ≡ 0 → EntersIs s (entryOf s left name n) (Not 17)
+pub enter-deep : (s name : List ℕ) (left n : ℕ) → left ≡ 0 → EntersIs s (entryOf s left name n) (Not IncludeTooDeep)
 unfolding EntersIs entryOf
 enter-deep s name left n e = rw e refl
 
-pub enter-many : (s name : List ℕ) (left n : ℕ) → (left ≡ 0 → ⊥) → 256 ≤ n → EntersIs s (entryOf s left name n) (Not 17)
+pub enter-many : (s name : List ℕ) (left n : ℕ) → (left ≡ 0 → ⊥) → 256 ≤ n → EntersIs s (entryOf s left name n) (Not IncludeTooDeep)
 unfolding EntersIs entryOf pick
 enter-many s name zero n z h = absurd (z refl)
 enter-many s name (suc left) n z h = rw (le-leb 256 n h) refl
@@ -35,7 +36,7 @@ module _ (s name : List ℕ) (left n : ℕ) (z : left ≡ 0 → ⊥) (h : n < 25
       rw (entry-of s name left n z h, found-is s name r f k a b e)
       (a, b, refl, record { is = refl; order = found-order s name r f k a b e; within = found-within s name r f k a b e })
 
-  pub enter-none : r ≡ file-at.Missing → EntersIs s (entryOf s left name n) (Not 11)
+  pub enter-none : r ≡ file-at.Missing → EntersIs s (entryOf s left name n) (Not FileMissing)
   unfolding EntersIs entryIn
   enter-none e = rw (entry-of s name left n z h, missing-is s name r f e) refl
 

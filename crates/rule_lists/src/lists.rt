@@ -15,6 +15,7 @@ use crate::writing::Written;
 use bundles::FileAt;
 use languages::Next;
 use prefixes::NameType;
+use refusals::Refusal;
 
 // Writes the list of a listed file.
 fn write_list(
@@ -38,11 +39,11 @@ fn write_list(
                         at: crate::writing::put_rows(bundle, rows, lasts, n, out, at),
                     }
                 }
-                Collected::Refused { code, line, file } => Written::Refused { code, line, file },
+                Collected::Refused { why, line, file } => Written::Refused { why, line, file },
             }
         }
         FileAt::Missing => Written::Refused {
-            code: 11,
+            why: Refusal::FileMissing,
             line: 0,
             file: 0,
         },
@@ -118,7 +119,7 @@ fn write_two(
                 p,
             )
         }
-        Written::Refused { code, line, file } => Written::Refused { code, line, file },
+        Written::Refused { why, line, file } => Written::Refused { why, line, file },
     }
 }
 
@@ -151,7 +152,7 @@ fn write_three(
         Written::Done { at: p } => {
             write_two(bundle, names, prefix, language, lasts, rows, out, p)
         }
-        Written::Refused { code, line, file } => Written::Refused { code, line, file },
+        Written::Refused { why, line, file } => Written::Refused { why, line, file },
     }
 }
 
@@ -205,8 +206,8 @@ fn write_all(
                         place = q;
                         from = end;
                     }
-                    Written::Refused { code, line, file } => {
-                        return Written::Refused { code, line, file };
+                    Written::Refused { why, line, file } => {
+                        return Written::Refused { why, line, file };
                     }
                 }
             }
