@@ -6,34 +6,27 @@ use mathlib.Core.List.{List, [], _∷_}
 use mathlib.Core.Logic.{_⊎_, ⊎-elim}
 use Prim.Native.Nat.{ℕ, zero, suc, _≤_}
 use native.Mathlib.Omega.{arith}
-use lib.Dec.{leb, ltb}
+use lib.Dec.{leb}
 use lib.ListN.{length, take}
 use lib.Seq.{sets-eq, length-sets, take-at}
-use borrow.Author.Tests.{leb-true, le-leb, lt-ltb, eq-eqb}
+use borrow.Author.Tests.{leb-true, le-leb}
 use Rattle.base.specs.Pick.{pick, pick-true, pick-inv, and-yes}
 use Rattle.refusals.specs.declared.Refusal.{Refusal}
-use Rattle.refusals.specs.declared.Refusal.the-variants.{PatternEmpty}
 use Rattle.refusals.specs.Numbers.{numberOf}
 use Rattle.refusals.proofs.NumberLaws.{number-one, number-some}
 use Rattle.name_parts.proofs.Laws.{clash}
 use Rattle.prefixes.specs.declared.prefixes.NameType.{NameType}
 use Rattle.prefixes.specs.declared.prefixes.NameType.the-variants.{Ashkenazi, Generic, Sephardic}
-use Rattle.regex_optim.specs.declared.OptimizedRegex.{OptimizedRegex}
-use Rattle.regex_optim.specs.declared.OptimizedRegex.the-variants.{AllStringsMatcher, IsEmpty, Equals, StartsWith, EndsWith, EqualsChar, StartsWithChar, EndsWithChar, Outside}
-use Rattle.phonemes.specs.declared.answers.Expression.{Expression}
-use Rattle.phonemes.specs.declared.answers.Expression.the-variants.{Good, Malformed, Stranger}
 use Rattle.pack.specs.Reading.{Read, cut, got}
-use Rattle.pack.specs.Packs.{Guess, Rule, Pack, accepted, packOf, all, guessesGood, isForm, isGood, ruleGood, listGood, listCount}
+use Rattle.pack.specs.Packs.{Guess, Rule, Pack, accepted, packOf, all, guessesGood, ruleGood, listGood, listCount}
 use Rattle.pack_bytes.specs.Bytes.{namesBytes, packBytes, Each, none, more, GoodPack}
 use Rattle.pack_bytes.proofs.Laws.{packed}
 use Rattle.bundles.specs.Bundles.{File, Found, missing, found, readBundle}
 use Rattle.rule_lists.specs.Outcomes as outcome
-use Rattle.rule_lists.specs.declared.lines.Fault.{Fault}
-use Rattle.rule_lists.specs.declared.lines.Fault.the-variants.{Is, Without}
-use Rattle.rule_lists.specs.Lines.{lengthFault, contextFault, expressionFault, orElse, ruleFault}
 use Rattle.rule_lists.specs.Lists.{prefixOf, listFiles, listsOf}
 use Rattle.rule_lists.proofs.WalkLaws.{GoodRead}
 use Rattle.rule_lists.proofs.FileLaws.{list-good}
+use Rattle.rule_lists.proofs.GoodLaws.{rule-good}
 use Rattle.loader.specs.Guesses.{guessesOf}
 use Rattle.loader.specs.Loading.{onType, onListed, namesOf, guessFile, listsIn, packIn, onBundle, loadOf, written, Numbers, doneAt, refusedAt, numbersOf, answer, filled, AnswerIs, LoadIs}
 use Rattle.loader.specs.declared.loading.Loaded.{Loaded}
@@ -98,44 +91,6 @@ loaded-from (suc (suc zero)) s p e = good-bundle Sephardic s p _ refl e
 loaded-from (suc (suc (suc n))) s p e = clash (cc)
 
 -- ---- they are good
-
-else-inv : (a b : Fault) → orElse a b ≡ Without → (a ≡ Without) × (b ≡ Without)
-unfolding orElse
-else-inv Without b e = (refl, e)
-else-inv (Is w) b e = clash (cc)
-
-form-good : (f : OptimizedRegex) → contextFault f ≡ Without → isForm f ≡ true
-unfolding contextFault isForm
-form-good AllStringsMatcher e = refl
-form-good IsEmpty e = refl
-form-good Equals e = refl
-form-good StartsWith e = refl
-form-good EndsWith e = refl
-form-good EqualsChar e = refl
-form-good StartsWithChar e = refl
-form-good EndsWithChar e = refl
-form-good Outside e = clash (cc)
-
-expression-good : (x : Expression) → expressionFault x ≡ Without → isGood x ≡ true
-unfolding expressionFault isGood
-expression-good (Good n) e = refl
-expression-good Malformed e = clash (cc)
-expression-good Stranger e = clash (cc)
-
-some-pattern : (p l r e : ℕ) → lengthFault p l r e ≡ Without → ltb 0 p ≡ true
-unfolding lengthFault
-some-pattern zero l r e h = let z = sym (pick-true _ (Is PatternEmpty) _ (eq-eqb 0 0 refl)) ∙ h in clash (cc)
-some-pattern (suc p) l r e h = lt-ltb 0 (suc p) (omega arith)
-
--- a rule that was read without a fault keeps the pack's rules
-rule-good : (names : List ℕ) (r : Rule) → GoodRead names r → ruleGood names r ≡ true
-unfolding ruleGood ruleFault
-rule-good names r g =
-    let a = else-inv _ _ (g .fault) in
-    let b = else-inv _ _ (a .1) in
-    let c = else-inv _ _ (b .1) in
-    and-yes _ _ (and-yes _ _ (g .pattern) (and-yes _ _ (g .left) (and-yes _ _ (g .right) (g .expression))))
-    (and-yes _ _ (some-pattern _ _ _ _ (a .0)) (and-yes _ _ (form-good _ (b .0)) (and-yes _ _ (form-good _ (c .0)) (expression-good _ (c .1)))))
 
 rules-good : (names : List ℕ) (rs : List Rule) → Each (GoodRead names) rs → all (ruleGood names) rs ≡ true
 unfolding all

@@ -219,7 +219,8 @@ fn write_all(
 }
 
 // Writes what fits of the lists of a type from a place on: the rule files in `bundle`, for the languages of `names`, strings behind
-// their length bytes. The end is told, or the first refusal.
+// their length bytes. The end is told, or the first refusal: then nothing is said of `out`, which may hold the lists before it. Public
+// for crate loader alone, which measures into a buffer of its own first, so that a refusal of `load` leaves its caller's as it was.
 pub fn write_lists(
     kind: NameType,
     bundle: &[u8],
