@@ -238,6 +238,12 @@ def guessing_all():
             yield guessing_case(pattern, text)
 
 
+def guessing_blanks():
+    """"holds no blank": neither a space nor a tab, in a box or outside."""
+    for pattern in (" ", "\t", "a b", "a\tb", " a", "\ta", "a ", "a\t", "[a b]", "[a\tb]", "^\t$", "[^\t]"):
+        yield guessing_case(pattern, "a b")
+
+
 def guessing_random(rng, count):
     for _ in range(count):
         pattern = rng.choice(("", "", "^"))

@@ -84,7 +84,8 @@ def stored(layer):
     for case in cases.cases_of(layer, 1, 2000):
         kinds.setdefault(case[0].split("\n")[-1].split(" ")[0], []).append(case)
     rng = random.Random(layer)
-    return [case for word, kind in kinds.items() for case in rng.sample(kind, min(700 if word == "lower" else STORED, len(kind)))]
+    named = list(cases.guessing_blanks()) if layer == "guessing" else []
+    return [case for word, kind in kinds.items() for case in rng.sample(kind, min(700 if word == "lower" else STORED, len(kind)))] + named
 
 
 def store(layers):

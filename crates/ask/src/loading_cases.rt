@@ -9,7 +9,9 @@ const ROOM: usize = 98304;
 fn answered(loaded: Loaded, room: usize) -> Said {
     match loaded {
         Loaded::Done { length } => Said::Line(0, length, cases::NO_NUMBER, room),
-        Loaded::Refused { code, place, file } => Said::Line(code as usize, place, file, room),
+        Loaded::Refused { why, place, file } => {
+            Said::Line(refusals::number_of(why) as usize, place, file, room)
+        }
     }
 }
 

@@ -12,6 +12,8 @@ use Rattle.choices.specs.Texts.{Text}
 use Rattle.pack.specs.Packs.{packOf, verdictOf}
 use Rattle.pack.specs.declared.sections.Checked.{Checked}
 use Rattle.pack.specs.declared.sections.Checked.the-variants as checked
+use Rattle.refusals.specs.Numbers.{numberOf}
+use Rattle.refusals.specs.declared.Refusal.{Refusal}
 use Rattle.rule_lists.specs.Outcomes as loading
 use Rattle.loader.specs.Loading as load
 use Rattle.loader.specs.Loading.{Numbers, answer, AnswerIs}
@@ -114,7 +116,7 @@ module _ (x : loading.Outcome (List ℕ)) (out out′ tail : List ℕ) (s : Load
   load-numbers : (n : Numbers) → load.numbersOf s ≡ n → LoadFlat x out out′ tail (placed n tail) (n .code)
   load-numbers n e =
       let t = le-ltb (length tail) 2 h in
-      let v : n ≡ load.numbersOf (answer x (length out)) = sym e ∙ ap load.numbersOf (w .result) in
+      let v : n ≡ answer x (length out) = sym e ∙ w .result in
       record {
         code = pick-no _ _ _ _ t (ap (λ (a : Numbers). a .code) v);
         buffer = pick-no _ _ _ _ t (w .buffer);
@@ -125,9 +127,9 @@ module _ (x : loading.Outcome (List ℕ)) (out out′ tail : List ℕ) (s : Load
   unfolding load.numbersOf placed
   load-done n e = load-numbers (record { code = 0; place = n; file = 0 }) (ap load.numbersOf e)
 
-  pub load-refused : (c p f : ℕ) → s ≡ loaded.Refused c p f → LoadFlat x out out′ tail (set (set tail 0 p) 1 f) c
+  pub load-refused : (c : Refusal) (p f k : ℕ) → s ≡ loaded.Refused c p f → k ≡ numberOf c → LoadFlat x out out′ tail (set (set tail 0 p) 1 f) k
   unfolding load.numbersOf placed
-  load-refused c p f e = load-numbers (record { code = c; place = p; file = f }) (ap load.numbersOf e)
+  load-refused c p f k e q = load-numbers (record { code = k; place = p; file = f }) (ap load.numbersOf e ∙ ap (λ (m : ℕ). record { code = m; place = p; file = f }) (sym q))
 
 pub ruleset flat-laws = (load-short, load-done, load-refused, tail-done, tail-refused, spell-short, spell-flat, check-short, check-accepted, check-refused, lines-short, lines-flat)
 

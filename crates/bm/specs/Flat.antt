@@ -64,6 +64,6 @@ unfoldable pub placed : load.Numbers → List ℕ → List ℕ
 placed n tail = set (set tail 0 (n .place)) 1 (n .file)
 
 pub record LoadFlat (x : loading.Outcome (List ℕ)) (out out′ tail tail′ : List ℕ) (r : ℕ) : Type 0 where
-  pub code : r ≡ pick (ltb (length tail) 2) 255 (load.numbersOf (load.answer x (length out)) .code)
+  pub code : r ≡ pick (ltb (length tail) 2) 255 (load.answer x (length out) .code)
   pub buffer : out′ ≡ pick (ltb (length tail) 2) out (load.filled x out)
-  pub numbers : tail′ ≡ pick (ltb (length tail) 2) tail (placed (load.numbersOf (load.answer x (length out))) tail)
+  pub numbers : tail′ ≡ pick (ltb (length tail) 2) tail (placed (load.answer x (length out)) tail)

@@ -47,10 +47,10 @@ pub extern "C" fn bm_load(name_type: u32, bundle: &[u8], out: &mut [u8], tail: &
             tail[1] = 0;
             0
         }
-        Loaded::Refused { code, place, file } => {
+        Loaded::Refused { why, place, file } => {
             tail[0] = place as u64;
             tail[1] = file as u64;
-            code
+            refusals::number_of(why) as u32
         }
     }
 }

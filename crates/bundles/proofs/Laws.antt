@@ -3,21 +3,23 @@ use mathlib.Core.Path.{_≡_, refl, sym, ap, ap₂, _∙_}
 use mathlib.Core.Bool.{Bool, true, false}
 use mathlib.Core.List.{List, [], _∷_, map}
 use Prim.Native.Nat.{ℕ, zero, suc, _+_, _-_, _≤_, _<_}
-use native.Mathlib.Nat.{not-suc-le-zero, add-sub-cancel-left}
+use native.Mathlib.Nat.{not-suc-le-zero, add-sub-cancel-left, lt-of-not-le}
+use native.Mathlib.Decide.{decLe}
 use native.Mathlib.Numerals.{add-one}
 use native.Mathlib.Omega.{arith}
 use lib.Dec.{eqb, leb}
-use lib.ListN.{length, take, drop, length-drop}
+use lib.ListN.{length, take, drop, length-take, length-drop}
 use lib.Seq.{drop-drop}
 use borrow.Author.Tests.{le-leb, lt-leb, eq-eqb, ne-eqb}
 use Rattle.base.specs.Pick.{pick, and, pick-true, pick-false}
+use Rattle.refusals.specs.Numbers.{numberOf}
 use Rattle.letters.specs.Order.{orderOf, sameText}
 use Rattle.letters.specs.declared.order.Order.{Order}
 use Rattle.letters.specs.declared.order.Order.the-variants.{Less, Equal, Greater}
 use Rattle.languages.specs.Names.{stringAt}
 use Rattle.languages.specs.declared.names.Next.{Next}
 use Rattle.languages.specs.declared.names.Next.the-variants as next
-use Rattle.pack.specs.Reading.{Read, cut, got, andThen, readMany}
+use Rattle.pack.specs.Reading.{Read, cut, got, andThen, readNumber, readMany}
 use Rattle.pack.specs.Packs.{isLess, increasing, isNil}
 use Rattle.pack.specs.Guessing.{behind, readSome}
 use Rattle.pack.specs.Walks.{numberAt}
@@ -26,7 +28,8 @@ use Rattle.pack.specs.declared.reading.Number.the-variants as number
 use Rattle.pack.proofs.Readers.{clash, count-of, count-cut, mask-of, mask-cut, text-is, text-cut}
 use Rattle.pack.proofs.GuessLaws.{some-one}
 use Rattle.bundles.specs.Bundles.{File, file, readContent, readFile, readBundle, nameOf, wellFormed, filesOf, Found, missing, found, fileNamed}
-use Rattle.bundles.specs.Walks.{followsIn, Placed, EntryIs, Stands, Finds}
+use Rattle.bundles.specs.Places.{Numbers, stands, nowhere, numbersOf, contentFrom, contentTo, placeAmong, fileAt}
+use Rattle.bundles.specs.Walks.{followsIn, Placed, EntryIs, Stands}
 use Rattle.bundles.specs.declared.FileAt.{FileAt}
 use Rattle.bundles.specs.declared.FileAt.the-variants as file-at
 use Rattle.bundles.specs.declared.Entry.{Entry}
@@ -64,6 +67,7 @@ module _ (s : List ℕ) (at : ℕ) (x : Next) (g : x ≡ stringAt s at) where
           record {
             reads = rw (w .reads, m .reads, long)
                 (ap₂ (λ (i : ℕ) (l : List ℕ). got (file (take (b - a) (drop a s)) (take i (drop c s))) l) size (drop-drop n c s));
+            begins = w .begins;
             named = omega (arith, w .size);
             apart = m .ends;
             order = omega arith;
@@ -232,82 +236,169 @@ some-cut (suc n) l e = rw e refl
 
 pub record Seeking (s name : List ℕ) (at left k : ℕ) : Type 0 where
   pub small : k + left ≤ 4294967296
-  pub is : fileNamed name 0 (filesOf s) ≡ fileNamed name k (readSome readFile left (drop at s))
-
-missing-by : (s : List ℕ) (x : Found) → x ≡ missing → Finds s x file-at.Missing
-unfolding Finds
-missing-by s x e = rw e refl
-
-found-by : (s : List ℕ) (x : Found) (k a b : ℕ) → x ≡ found k (take (b - a) (drop a s)) → a ≤ b → b ≤ length s → Finds s x (file-at.At k a b)
-unfolding Finds
-found-by s x k a b e h l = rw e (a, b, refl, record { is = refl; order = h; within = l })
+  pub is : fileAt s name ≡ placeAmong name k at (readSome readFile left (drop at s))
 
 module _ (s name : List ℕ) (r : Number) (p : r ≡ numberAt 2 s 0) where
-  pub seek-cut : r ≡ number.Cut → Finds s (fileNamed name 0 (filesOf s)) file-at.Missing
-  unfolding filesOf behind fileNamed
-  seek-cut q = missing-by s _ (ap (λ (x : Read ℕ). fileNamed name 0 (behind x (λ n l. readSome readFile n l))) (count-cut s 0 r p q))
+  pub seek-cut : r ≡ number.Cut → numbersOf file-at.Missing ≡ fileAt s name
+  unfolding fileAt filesOf behind placeAmong numbersOf
+  seek-cut q = sym (ap (λ (x : Read ℕ). placeAmong name 0 2 (behind x (λ n l. readSome readFile n l))) (count-cut s 0 r p q))
 
   pub seeking-start : (n e : ℕ) → n < 4294967296 → r ≡ number.Of n e → Seeking s name e n 0
-  unfolding filesOf behind
-  seeking-start n e h q = record {
-    small = omega arith;
-    is = ap (λ (x : Read ℕ). fileNamed name 0 (behind x (λ n l. readSome readFile n l))) (count-of s 0 r n e p q .reads);
-  }
+  unfolding fileAt filesOf behind
+  seeking-start n e h q =
+      let w = count-of s 0 r n e p q in
+      record {
+        small = omega arith;
+        is = ap (λ (x : Read ℕ). placeAmong name 0 2 (behind x (λ n l. readSome readFile n l))) (w .reads)
+            ∙ ap (λ (m : ℕ). placeAmong name 0 m (readSome readFile n (drop e s))) (sym (w .ends));
+      }
+
+-- where a file's content stands, by what it holds
+module _ (s : List ℕ) (at a b c d : ℕ) (w : Placed s at a b c d) where
+  abbrev here : File
+  here = file (take (b - a) (drop a s)) (take (d - c) (drop c s))
+
+  from-is : contentFrom at here ≡ c
+  unfolding contentFrom
+  from-is = omega (arith, length-take (b - a) (drop a s), length-drop a s, w)
+
+  to-is : contentTo at here ≡ d
+  unfolding contentTo
+  to-is = omega (arith, from-is, length-take (d - c) (drop c s), length-drop c s, w)
+
+  -- the first of the files from here on, and the others
+  placed-one : (name : List ℕ) (k n : ℕ) → 0 < n
+      → placeAmong name k at (readSome readFile n (drop at s)) ≡ pick (sameText (here .name) name) (stands k c d) (placeAmong name (suc k) d (readSome readFile (n - 1) (drop d s)))
+  unfolding placeAmong
+  placed-one name k n h =
+      ap (placeAmong name k at) (some-one readFile n _ _ _ h (w .reads))
+      ∙ ap₂ (λ (i j : ℕ). pick (sameText (here .name) name) (stands k i j) (placeAmong name (suc k) j (readSome readFile (n - 1) (drop d s)))) from-is to-is
 
 module _ {s name : List ℕ} {at left k : ℕ} (w : Seeking s name at left k) where
   module _ (x : Entry) (g : EntryIs s at x) where
-    pub seeking-cut : x ≡ Cut → Finds s (fileNamed name 0 (filesOf s)) file-at.Missing
-    unfolding fileNamed
-    seeking-cut q = missing-by s _ (w .is ∙ ap (fileNamed name k) (some-cut left _ (cut-there s at x g q)))
+    pub seeking-cut : x ≡ Cut → numbersOf file-at.Missing ≡ fileAt s name
+    unfolding placeAmong numbersOf
+    seeking-cut q = sym (w .is ∙ ap (placeAmong name k at) (some-cut left _ (cut-there s at x g q)))
 
     module _ (h : 0 < left) (a b c d : ℕ) (q : x ≡ Whole a b c d) (t : Bool) (f : t ≡ sameText (take (b - a) (drop a s)) name) where
-      step-file : fileNamed name 0 (filesOf s) ≡ pick t (found k (take (d - c) (drop c s))) (fileNamed name (suc k) (readSome readFile (left - 1) (drop d s)))
-      unfolding fileNamed
+      step-file : fileAt s name ≡ pick t (stands k c d) (placeAmong name (suc k) d (readSome readFile (left - 1) (drop d s)))
       step-file =
-          w .is ∙ ap (fileNamed name k) (some-one readFile left _ _ _ h (placed s at x g a b c d q .reads))
-          ∙ ap (λ (u : Bool). pick u (found k (take (d - c) (drop c s))) (fileNamed name (suc k) (readSome readFile (left - 1) (drop d s)))) (sym f)
+          w .is ∙ placed-one s at a b c d (placed s at x g a b c d q) name k left h
+          ∙ ap (λ (u : Bool). pick u (stands k c d) (placeAmong name (suc k) d (readSome readFile (left - 1) (drop d s)))) (sym f)
 
-      pub seeking-found : t ≡ true → Finds s (fileNamed name 0 (filesOf s)) (file-at.At k c d)
-      seeking-found v = let z = placed s at x g a b c d q in found-by s _ k c d (step-file ∙ pick-true _ _ _ v) (z .order) (z .within)
+      pub seeking-found : t ≡ true → numbersOf (file-at.At k c d) ≡ fileAt s name
+      unfolding numbersOf
+      seeking-found v = sym (step-file ∙ pick-true _ _ _ v)
 
       pub seeking-next : t ≡ false → Seeking s name d (left - 1) (k + 1)
       seeking-next v = record {
         small = omega (arith, w .small);
-        is = step-file ∙ pick-false _ _ _ v ∙ ap (λ (m : ℕ). fileNamed name m (readSome readFile (left - 1) (drop d s))) (sym (add-one k));
+        is = step-file ∙ pick-false _ _ _ v ∙ ap (λ (m : ℕ). placeAmong name m d (readSome readFile (left - 1) (drop d s))) (sym (add-one k));
       }
 
-  pub seeking-done : left ≤ 0 → Finds s (fileNamed name 0 (filesOf s)) file-at.Missing
-  unfolding fileNamed readSome
-  seeking-done h = let none : left ≡ 0 = omega arith in missing-by s _ (w .is ∙ ap (λ (n : ℕ). fileNamed name k (readSome readFile n (drop at s))) none)
+  pub seeking-done : left ≤ 0 → numbersOf file-at.Missing ≡ fileAt s name
+  unfolding placeAmong readSome numbersOf
+  seeking-done h = let none : left ≡ 0 = omega arith in sym (w .is ∙ ap (λ (n : ℕ). placeAmong name k at (readSome readFile n (drop at s))) none)
 
 pub ruleset seek-laws = (name-order, name-fits, seek-cut, seeking-start, seeking-cut, seeking-found, seeking-next, seeking-done)
 
+-- ---- no two answers have the same numbers
+
+pub numbers-one : (x y : FileAt) → numbersOf x ≡ numbersOf y → x ≡ y
+unfolding numbersOf numberOf
+numbers-one (file-at.At k a b) (file-at.At l c d) e =
+    let number : k ≡ l = ap (λ (n : Numbers). n .number) e in
+    let start : a ≡ c = ap (λ (n : Numbers). n .start) e in
+    let end : b ≡ d = ap (λ (n : Numbers). n .end) e in
+    cc
+numbers-one (file-at.At k a b) file-at.Missing e = let z : _≡_ {A = ℕ} 0 11 = ap (λ (n : Numbers). n .code) e in absurd (omega arith)
+numbers-one file-at.Missing (file-at.At k a b) e = let z : _≡_ {A = ℕ} 11 0 = ap (λ (n : Numbers). n .code) e in absurd (omega arith)
+numbers-one file-at.Missing file-at.Missing e = refl
+
 -- ---- what an answer tells of the file that was asked for
 
-told-missing : (s : List ℕ) (x : Found) → Finds s x file-at.Missing → x ≡ missing
-unfolding Finds
-told-missing s missing w = refl
-told-missing s (found k c) w = let e = w .2 in clash (cc)
+-- at any place a file is read or the bytes run out
+entry-at-all : (s : List ℕ) (at : ℕ) → (x : Entry) × EntryIs s at x
+entry-at-all s at = by-name (stringAt s at) refl
+  where
+    by-size : (a b c n : ℕ) (y : Number) → stringAt s at ≡ next.Whole a b → y ≡ numberAt 4 s b → y ≡ number.Of n c → (x : Entry) × EntryIs s at x
+    by-size a b c n y q f p = elim (decLe n (length s - c)) [
+      | yes h ↦ (Whole a b c (c + n), entry-whole s at _ refl a b q y f n c p h)
+      | no h ↦ (Cut, entry-cut-content s at _ refl a b q y f n c p (lt-of-not-le h))
+    ]
 
-told-found : (s : List ℕ) (x : Found) (k a b : ℕ) → Finds s x (file-at.At k a b) → (c : List ℕ) × (x ≡ found k c) × Stands s a b c
-unfolding Finds
-told-found s missing k a b w = clash (cc)
+    by-number : (a b : ℕ) (y : Number) → stringAt s at ≡ next.Whole a b → y ≡ numberAt 4 s b → (x : Entry) × EntryIs s at x
+    by-number a b (number.Of n c) q f = by-size a b c n (number.Of n c) q f refl
+    by-number a b number.Cut q f = (Cut, entry-cut-size s at _ refl a b q number.Cut f refl)
+
+    by-name : (x : Next) → stringAt s at ≡ x → (x : Entry) × EntryIs s at x
+    by-name (next.Whole a b) q = by-number a b (numberAt 4 s b) q refl
+    by-name next.Cut q = (Cut, entry-cut-name s at _ refl q)
+
+-- the file that is found, and where its content stands
+unfoldable Finds : List ℕ → Found → Numbers → Type 0
+Finds s missing n = n ≡ nowhere
+Finds s (found k c) n = (a : ℕ) × (b : ℕ) × (n ≡ stands k a b) × Stands s a b c
+
+finds-pick : (s : List ℕ) (t : Bool) (u v : Found) (m n : Numbers) → Finds s u m → Finds s v n → Finds s (pick t u v) (pick t m n)
+unfolding pick
+finds-pick s true u v m n x y = x
+finds-pick s false u v m n x y = y
+
+module _ (s name : List ℕ) (n : ℕ) (later : (k at : ℕ) → Finds s (fileNamed name k (readSome readFile n (drop at s))) (placeAmong name k at (readSome readFile n (drop at s)))) where
+  finds-here : (k at : ℕ) (x : Entry) → EntryIs s at x → Finds s (fileNamed name k (readSome readFile (suc n) (drop at s))) (placeAmong name k at (readSome readFile (suc n) (drop at s)))
+  unfolding Finds fileNamed placeAmong
+  finds-here k at Cut g = rw (some-cut (suc n) (drop at s) (cut-there s at Cut g refl)) refl
+  finds-here k at (Whole a b c d) g =
+      let w = placed s at (Whole a b c d) g a b c d refl in
+      let one-less : suc n - 1 ≡ n = omega arith in
+      let where-is = placed-one s at a b c d w name k (suc n) (omega arith) in
+      let named = ap (fileNamed name k) (some-one readFile (suc n) _ _ _ (omega arith) (w .reads)) in
+      rw (where-is, named, one-less)
+      (finds-pick s _ _ _ _ _ (c, d, refl, record { is = refl; order = w .order; within = w .within }) (later (suc k) d))
+
+finds-some : (n : ℕ) (s name : List ℕ) (k at : ℕ) → Finds s (fileNamed name k (readSome readFile n (drop at s))) (placeAmong name k at (readSome readFile n (drop at s)))
+unfolding Finds fileNamed placeAmong readSome
+finds-some zero s name k at = refl
+finds-some (suc n) s name k at = let x = entry-at-all s at in finds-here s name n (finds-some n s name) k at (x .0) (x .1)
+
+finds-all : (s name : List ℕ) (y : Number) → y ≡ numberAt 2 s 0 → Finds s (fileNamed name 0 (filesOf s)) (fileAt s name)
+unfolding fileAt filesOf behind Finds fileNamed placeAmong
+finds-all s name number.Cut p = rw (count-cut s 0 number.Cut p refl) refl
+finds-all s name (number.Of n e) p =
+    let w = count-of s 0 (number.Of n e) n e p refl in
+    let place : e ≡ 2 = w .ends in
+    let is : readNumber 2 s ≡ got n (drop 2 s) = w .reads ∙ ap (λ (m : ℕ). got n (drop m s)) place in
+    rw is (finds-some n s name 0 2)
+
+told-missing : (s : List ℕ) (x : Found) → Finds s x nowhere → x ≡ missing
+unfolding Finds numberOf
+told-missing s missing w = refl
+told-missing s (found k c) w = let z : _≡_ {A = ℕ} 11 0 = ap (λ (n : Numbers). n .code) (w .2) in absurd (omega arith)
+
+told-found : (s : List ℕ) (x : Found) (k a b : ℕ) → Finds s x (stands k a b) → (c : List ℕ) × (x ≡ found k c) × Stands s a b c
+unfolding Finds numberOf
+told-found s missing k a b w = let z : _≡_ {A = ℕ} 0 11 = ap (λ (n : Numbers). n .code) w in absurd (omega arith)
 told-found s (found m c) k a b w =
-    let e = w .2 in
-    let number : m ≡ k = cc in
-    let start : w .0 ≡ a = cc in
-    let end : w .1 ≡ b = cc in
+    let number : m ≡ k = sym (ap (λ (n : Numbers). n .number) (w .2)) in
+    let start : w .0 ≡ a = sym (ap (λ (n : Numbers). n .start) (w .2)) in
+    let end : w .1 ≡ b = sym (ap (λ (n : Numbers). n .end) (w .2)) in
     (c, ap (λ (i : ℕ). found i c) number, rw (start, end) at (w .3))
 
-module _ (s : List ℕ) (x : Found) (r : FileAt) (w : Finds s x r) where
-  pub missing-is : r ≡ file-at.Missing → x ≡ missing
-  missing-is q = told-missing s x (rw q at w)
+module _ (s name : List ℕ) (r : FileAt) (w : numbersOf r ≡ fileAt s name) where
+  finds : (x : FileAt) → r ≡ x → Finds s (fileNamed name 0 (filesOf s)) (numbersOf x)
+  finds x q = rw (← q, w) (finds-all s name (numberAt 2 s 0) refl)
+
+  pub missing-is : r ≡ file-at.Missing → fileNamed name 0 (filesOf s) ≡ missing
+  unfolding numbersOf
+  missing-is q = told-missing s _ (finds _ q)
 
   module _ (k a b : ℕ) (q : r ≡ file-at.At k a b) where
-    told : (c : List ℕ) × (x ≡ found k c) × Stands s a b c
-    told = told-found s x k a b (rw q at w)
+    told : (c : List ℕ) × (fileNamed name 0 (filesOf s) ≡ found k c) × Stands s a b c
+    unfolding numbersOf
+    told = told-found s _ k a b (finds _ q)
 
-    pub found-is : x ≡ found k (take (b - a) (drop a s))
+    pub found-is : fileNamed name 0 (filesOf s) ≡ found k (take (b - a) (drop a s))
     found-is = told .1 ∙ ap (found k) (sym (told .2 .is))
 
     pub found-order : a ≤ b
@@ -315,3 +406,30 @@ module _ (s : List ℕ) (x : Found) (r : FileAt) (w : Finds s x r) where
 
     pub found-within : b ≤ length s
     found-within = told .2 .within
+
+-- ---- the files of a bundle that can be read are those that are read
+
+module _ (n : ℕ) (later : (l : List ℕ) (gs : List File) (q : List ℕ) → readMany readFile n l ≡ got gs q → readSome readFile n l ≡ gs) where
+  rest-some : (a : File) (l : List ℕ) (y : Read (List File)) (fs : List File) (r : List ℕ) → readMany readFile n l ≡ y → andThen y (λ rest z. got (a ∷ rest) z) ≡ got fs r → a ∷ readSome readFile n l ≡ fs
+  unfolding andThen
+  rest-some a l cut fs r e h = clash (cc)
+  rest-some a l (got gs q) fs r e h = ap (λ (t : List File). a ∷ t) (later l gs q e) ∙ cc
+
+  first-some : (x : Read File) (fs : List File) (r : List ℕ) → andThen x (λ a q. andThen (readMany readFile n q) (λ rest z. got (a ∷ rest) z)) ≡ got fs r → behind x (λ a q. a ∷ readSome readFile n q) ≡ fs
+  unfolding andThen behind
+  first-some cut fs r h = clash (cc)
+  first-some (got a q) fs r h = rest-some a q _ fs r refl h
+
+some-many : (n : ℕ) (l : List ℕ) (fs : List File) (r : List ℕ) → readMany readFile n l ≡ got fs r → readSome readFile n l ≡ fs
+unfolding readMany readSome
+some-many zero l fs r h = cc
+some-many (suc n) l fs r h = first-some n (some-many n) (readFile l) fs r h
+
+files-by : (x : Read ℕ) (fs : List File) (r : List ℕ) → andThen x (λ n l. readMany readFile n l) ≡ got fs r → behind x (λ n l. readSome readFile n l) ≡ fs
+unfolding andThen behind
+files-by cut fs r h = clash (cc)
+files-by (got n l) fs r h = some-many n l fs r h
+
+pub files-read : (s : List ℕ) (fs : List File) (r : List ℕ) → readBundle s ≡ got fs r → filesOf s ≡ fs
+unfolding readBundle filesOf
+files-read s fs r h = files-by (readNumber 2 s) fs r h

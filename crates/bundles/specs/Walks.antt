@@ -8,9 +8,7 @@ use Rattle.base.specs.Pick.{pick}
 use Rattle.letters.specs.Order.{orderOf}
 use Rattle.pack.specs.Reading.{cut, got}
 use Rattle.pack.specs.Packs.{isLess}
-use Rattle.bundles.specs.Bundles.{file, readFile, Found, missing, found}
-use Rattle.bundles.specs.declared.FileAt.{FileAt}
-use Rattle.bundles.specs.declared.FileAt.the-variants as file-at
+use Rattle.bundles.specs.Bundles.{file, readFile}
 use Rattle.bundles.specs.declared.Entry.{Entry}
 use Rattle.bundles.specs.declared.Entry.the-variants.{Whole, Cut}
 
@@ -26,6 +24,7 @@ pub record Stands (s : List ℕ) (a b : ℕ) (t : List ℕ) : Type 0 where
 -- the file read at a place of s: its name stands from a to b and its content, behind 4 bytes, from c to d, where the rest begins
 pub record Placed (s : List ℕ) (at a b c d : ℕ) : Type 0 where
   pub reads : readFile (drop at s) ≡ got (file (take (b - a) (drop a s)) (take (d - c) (drop c s))) (drop d s)
+  pub begins : a ≡ at + 1
   pub named : a ≤ b
   pub apart : c ≡ b + 4
   pub order : c ≤ d
@@ -34,8 +33,3 @@ pub record Placed (s : List ℕ) (at a b c d : ℕ) : Type 0 where
 unfoldable pub EntryIs : List ℕ → ℕ → Entry → Type 0
 EntryIs s at (Whole a b c d) = Placed s at a b c d
 EntryIs s at Cut = readFile (drop at s) ≡ cut
-
--- a file that is found is told by its number and where its content stands
-unfoldable pub Finds : List ℕ → Found → FileAt → Type 0
-Finds s missing r = r ≡ file-at.Missing
-Finds s (found k c) r = (a : ℕ) × (b : ℕ) × (r ≡ file-at.At k a b) × Stands s a b c

@@ -3,6 +3,7 @@ use mathlib.Core.Path.{_≡_, refl}
 use mathlib.Core.List.{List, [], _∷_}
 use Prim.Native.Nat.{ℕ, _/_}
 use Rattle.base.specs.Pick.{pick}
+use Rattle.refusals.specs.declared.Refusal.the-variants.{FileMissing, LineUnreadable, IncludeTooDeep}
 use Rattle.held.specs.Met.{Met, end, rule, file, empty, isNil, add, extend, held, spread, or, brings, since, entries, lastEntry, from}
 use Rattle.held.specs.Files.{passed, include, bad, Content, missing, lines, refused, before, onRead, onContent, readLines, follow, readListed}
 use Rattle.held.specs.Tables.{noteIn, staysIn, noted, kept, insert, keysFrom, atPlace, keyBytes}
@@ -53,7 +54,7 @@ example-bytes = refl
 itself : List ℕ → Content ℕ
 itself name = lines 1 (include name ∷ [])
 
-example-deep : readListed itself 0 (passed 3 ∷ include [] ∷ []) ≡ refused 17 1 1
+example-deep : readListed itself 0 (passed 3 ∷ include [] ∷ []) ≡ refused IncludeTooDeep 1 1
 unfolding itself pick before onRead onContent readLines follow readListed
 example-deep = refl
 
@@ -61,6 +62,6 @@ example-deep = refl
 nobody : List ℕ → Content ℕ
 nobody name = missing
 
-example-missing : readListed nobody 7 (passed 3 ∷ include [] ∷ bad 12 ∷ []) ≡ refused 11 4 7
+example-missing : readListed nobody 7 (passed 3 ∷ include [] ∷ bad LineUnreadable ∷ []) ≡ refused FileMissing 4 7
 unfolding nobody pick before onRead onContent readLines follow readListed
 example-missing = refl

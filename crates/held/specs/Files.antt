@@ -3,6 +3,8 @@ use Prim.Native.Nat.{ℕ, zero, suc, _+_}
 use mathlib.Core.List.{List, [], _∷_}
 use lib.Dec.{leb}
 use Rattle.base.specs.Pick.{pick}
+use Rattle.refusals.specs.declared.Refusal.{Refusal}
+use Rattle.refusals.specs.declared.Refusal.the-variants.{FileMissing, IncludeTooDeep}
 use Rattle.held.specs.Met.{Met, end, rule, file, entries}
 
 -- what stands in a file: so many lines with nothing to keep, a rule, an include of a file by its name, or a line that is refused
@@ -10,17 +12,17 @@ pub data Line (R : Type 0) : Type 0 where
   passed : ℕ → Line R
   is-rule : R → Line R
   include : List ℕ → Line R
-  bad : ℕ → Line R
+  bad : Refusal → Line R
 
 -- the number and the lines of the file of a name, or that it isn't in the bundle
 pub data Content (R : Type 0) : Type 0 where
   missing : Content R
   lines : ℕ → List (Line R) → Content R
 
--- what was met, or the refusal: its code, line and file
+-- what was met, or the refusal with its line and file
 pub data Read (R : Type 0) : Type 0 where
   good : Met R → Read R
-  refused : ℕ → ℕ → ℕ → Read R
+  refused : Refusal → ℕ → ℕ → Read R
 
 -- what is met before goes in front of what is met later
 unfoldable pub before : {R : Type 0} → (Met R → Met R) → Read R → Read R
@@ -47,9 +49,9 @@ readLines follow f l n (bad k ∷ ls) = refused k l f
 -- the file of a name, included at line l of file f, n includes having been followed, where `left` more files may be nested. It is
 -- refused where it is too deep or one too many (17), and where it is missing (11)
 unfoldable pub follow : {R : Type 0} → (List ℕ → Content R) → ℕ → List ℕ → ℕ → ℕ → ℕ → Read R
-follow files zero g f l n = refused 17 l f
+follow files zero g f l n = refused IncludeTooDeep l f
 follow files (suc left) g f l n =
-    pick (leb 256 n) (refused 17 l f) (onContent (files g) (refused 11 l f) (λ h ls. readLines (follow files left) h 1 (n + 1) ls))
+    pick (leb 256 n) (refused IncludeTooDeep l f) (onContent (files g) (refused FileMissing l f) (λ h ls. readLines (follow files left) h 1 (n + 1) ls))
 
 -- "A listed file has include depth 0": eight more may be nested below it
 unfoldable pub readListed : {R : Type 0} → (List ℕ → Content R) → ℕ → List (Line R) → Read R

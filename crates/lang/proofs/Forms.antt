@@ -15,7 +15,7 @@ use Rattle.letters.specs.declared.utf8.Step.the-variants.{Char, Ill, End}
 use Rattle.letters.proofs.ReadingLaws.{Walk, walk-start, walk-on, walk-stop, walk-ill, walk-end, step-less}
 use Rattle.texts.specs.Parts.{firstIs, placeOf, has}
 use Rattle.texts.proofs.Laws.{place-most}
-use Rattle.lang.specs.Patterns.{opening, plain, boxPlain, withoutCaret, middle, insideOf, boxOf, charPiece, pieceAt, lengthAt, piecesOf, allBoxPlain, listed, good, allGood, framed, inForms}
+use Rattle.lang.specs.Patterns.{opening, plain, boxPlain, withoutCaret, middle, insideOf, boxOf, charPiece, pieceAt, lengthAt, piecesOf, allBoxPlain, listed, good, allGood, blankless, framed, inForms}
 use Rattle.lang.proofs.Pieces.{piece-box, piece-char, next-within, next-less, next-pieces, pieces-none, first-in}
 
 -- ---- the characters of a box, as far as place p
@@ -116,10 +116,21 @@ unfolding has
 place-by p b true e = let h = ltb-true (placeOf b p) (length p) e in ne-eqb (placeOf b p) (length p) (λ q. absurd (omega arith))
 place-by p b false e = let h = ltb-false (placeOf b p) (length p) e in eq-eqb (placeOf b p) (length p) (omega (arith, place-most b p))
 
-pub no-blank : (p : List ℕ) (i : ℕ) → i ≡ placeOf 32 p → eqb i (length p) ≡ not (has 32 p)
-no-blank p i e = ap (λ (n : ℕ). eqb n (length p)) e ∙ place-by p 32 (has 32 p) refl
+absent : (p : List ℕ) (b i : ℕ) → i ≡ placeOf b p → eqb i (length p) ≡ not (has b p)
+absent p b i e = ap (λ (n : ℕ). eqb n (length p)) e ∙ place-by p b (has b p) refl
 
-pub ruleset framed-laws = (not-yes, not-no, no-blank)
+module _ (p : List ℕ) (i : ℕ) (e : i ≡ placeOf 32 p) where
+  pub blank-tab : (j : ℕ) → i ≡ length p → j ≡ placeOf 9 p → eqb j (length p) ≡ blankless p
+  unfolding blankless
+  blank-tab j h f = and-rest _ _ _ (sym (absent p 32 i e) ∙ eq-eqb i (length p) h) (absent p 9 j f)
+
+  pub blank-space : (i ≡ length p → ⊥) → false ≡ blankless p
+  unfolding blankless
+  blank-space h = and-none _ _ _ (sym (absent p 32 i e) ∙ ne-eqb i (length p) h) refl
+
+pub ruleset blank-laws = (blank-tab, blank-space)
+
+pub ruleset framed-laws = (not-yes, not-no)
 
 pub forms-yes : (p x : List ℕ) (f r : Bool) → f ≡ framed p → f ≡ true → x ≡ middle p → r ≡ allGood (piecesOf x) → r ≡ inForms p
 unfolding inForms

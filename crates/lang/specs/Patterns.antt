@@ -114,9 +114,13 @@ unfoldable pub allGood : List Piece → Bool
 allGood [] = true
 allGood (x ∷ xs) = and (good x) (allGood xs)
 
--- "1 to 255 bytes, begins with neither `/` nor `#`, holds no blank" (47, 35, 32)
+-- "holds no blank"; "blanks are space, tab": a CR before LF ends a line, so it stands in no pattern
+unfoldable pub blankless : List ℕ → Bool
+blankless p = and (not (has 32 p)) (not (has 9 p))
+
+-- "1 to 255 bytes, begins with neither `/` nor `#`, holds no blank" (47, 35)
 unfoldable pub framed : List ℕ → Bool
-framed p = and (leb 1 (length p)) (and (leb (length p) 255) (and (not (firstIs 47 p)) (and (not (firstIs 35 p)) (not (has 32 p)))))
+framed p = and (leb 1 (length p)) (and (leb (length p) 255) (and (not (firstIs 47 p)) (and (not (firstIs 35 p)) (blankless p))))
 
 unfoldable pub inForms : List ℕ → Bool
 inForms p = and (framed p) (allGood (piecesOf (middle p)))

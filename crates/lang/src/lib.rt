@@ -6,7 +6,7 @@ ghost use Rattle.letters.specs.Reading.{codesOf};
 ghost use Rattle.letters.specs.Utf8.{decodeAt};
 ghost use Rattle.texts.specs.Parts.{has};
 ghost use Rattle.lang.specs.Shortcuts.{otherwise, signatureOf, hasBit, mayIn, mayMatch};
-ghost use Rattle.lang.specs.Patterns.{plain, boxPlain, withoutCaret, withoutDollar, middle, framed, insideOf, boxLength, boxOf, charPiece, charLength, pieceAt, lengthAt, piecesOf, listed, good, allGood, inForms, takes, fitsAt, fitsAnywhere, matchesOf};
+ghost use Rattle.lang.specs.Patterns.{plain, boxPlain, withoutCaret, withoutDollar, middle, blankless, framed, insideOf, boxLength, boxOf, charPiece, charLength, pieceAt, lengthAt, piecesOf, listed, good, allGood, inForms, takes, fitsAt, fitsAnywhere, matchesOf};
 use letters::Step;
 
 // Whether the character is none of `\ . + * ? ( ) | [ ] { } ^ $`.
@@ -162,6 +162,17 @@ fn all_good(t: &[u8]) -> bool
     true
 }
 
+// Whether p holds neither space nor tab.
+fn is_blankless(p: &[u8]) -> bool
+    ensures { λ r. ⌜ r ≡ blankless (now (p .entry)) ⌝ }
+{
+    if texts::find_byte(p, b' ') == p.len() {
+        texts::find_byte(p, b'\t') == p.len()
+    } else {
+        false
+    }
+}
+
 // Whether p has 1 to 255 bytes, begins with neither `/` nor `#` and holds no blank.
 fn is_framed(p: &[u8]) -> bool
     ensures { λ r. ⌜ r ≡ framed (now (p .entry)) ⌝ }
@@ -176,7 +187,7 @@ fn is_framed(p: &[u8]) -> bool
     } else if texts::first_is(p, b'#') {
         false
     } else {
-        texts::find_byte(p, b' ') == n
+        is_blankless(p)
     }
 }
 

@@ -1,4 +1,4 @@
--- What stands at a place: the four shapes of a character, that it ends within the slice, and that its bytes are its encoding.
+-- What stands at a place: the four shapes of a character, that it ends within the slice, that its bytes are its encoding, and that an encoding reads back.
 -- Assumes nothing.
 use mathlib.Core.Path.{_≡_, refl, sym, ap, ap₂, _∙_}
 use mathlib.Core.Bool.{Bool, true, false}
@@ -11,8 +11,8 @@ use native.Mathlib.Omega.{arith}
 use lib.Dec.{leb, ltb, eqb}
 use lib.ListN.{length, getD, take, drop, List·getD-eq-default, take-append-drop, length-drop}
 use lib.Seq.{drop-drop, ext-getD, length-take-le, getD-take, getD-drop}
-use borrow.Author.Tests.{leb-true, ltb-true, ltb-false, eqb-false, lt-ltb, le-ltb, le-leb}
-use Rattle.base.specs.Pick.{pick, and, pick-inv, pick-all, and-inv, pick-yes, pick-no}
+use borrow.Author.Tests.{leb-true, ltb-true, ltb-false, eqb-true, eqb-false, lt-ltb, le-ltb, le-leb, lt-leb}
+use Rattle.base.specs.Pick.{pick, and, pick-inv, pick-all, and-inv, and-yes, and-no, pick-yes, pick-no, pick-true, pick-false}
 use Rattle.letters.specs.Utf8.{within, lowSecond, highSecond, code2, code3, code4, decode2, decode3, decode4, decodeBytes, decodeAt, encode}
 use Rattle.letters.specs.declared.utf8.Step.{Step}
 use Rattle.letters.specs.declared.utf8.Step.the-variants.{Char, Ill, End}
@@ -218,6 +218,114 @@ char-drop s p k n e = sym (take-append-drop n (drop p s)) ∙ ap₂ (λ (x y : L
 
 pub char-length : (s : List ℕ) (p k n : ℕ) → decodeAt s p ≡ Char k n → length (encode k) ≡ n
 char-length s p k n e = let w = char-at s p k n e in ap length (w .bytes) ∙ length-take-le n (drop p s) (rw length-drop (omega arith))
+
+-- ---- and back: what is written reads as the character, whatever follows it
+
+-- a scalar value: a code point that is no surrogate (RFC 3629, section 3)
+pub record Scalar (k : ℕ) : Type 0 where
+  pub most : k < 0x110000
+  pub apart : (k < 0xD800) ⊎ (0xDFFF < k)
+
+is-within : {lo hi b : ℕ} → Within lo hi b → within lo hi b ≡ true
+unfolding within
+is-within {lo} {hi} {b} w = and-yes _ _ (le-leb lo b (w .low)) (le-leb b hi (w .high))
+
+past-within : (lo hi b : ℕ) → hi < b → within lo hi b ≡ false
+unfolding within
+past-within lo hi b h = sym (and-no (leb lo b) (leb b hi) (sym (lt-leb b hi h)))
+
+low-up : (a b : ℕ) (t u : Bool) → eqb a 0xE0 ≡ t → eqb a 0xF0 ≡ u → 0x80 ≤ b → (a ≡ 0xE0 → 0xA0 ≤ b) → (a ≡ 0xF0 → 0x90 ≤ b) → pick t 0xA0 (pick u 0x90 0x80) ≤ b
+unfolding pick
+low-up a b true u p q h f g = f (eqb-true a 0xE0 p)
+low-up a b false true p q h f g = g (eqb-true a 0xF0 q)
+low-up a b false false p q h f g = h
+
+high-up : (a b : ℕ) (t u : Bool) → eqb a 0xED ≡ t → eqb a 0xF4 ≡ u → b ≤ 0xBF → (a ≡ 0xED → b ≤ 0x9F) → (a ≡ 0xF4 → b ≤ 0x8F) → b ≤ pick t 0x9F (pick u 0x8F 0xBF)
+unfolding pick
+high-up a b true u p q h f g = f (eqb-true a 0xED p)
+high-up a b false true p q h f g = g (eqb-true a 0xF4 q)
+high-up a b false false p q h f g = h
+
+second-in : (a b : ℕ) → Within 0x80 0xBF b → (a ≡ 0xE0 → 0xA0 ≤ b) → (a ≡ 0xF0 → 0x90 ≤ b) → (a ≡ 0xED → b ≤ 0x9F) → (a ≡ 0xF4 → b ≤ 0x8F) → Within (lowSecond a) (highSecond a) b
+unfolding lowSecond highSecond
+second-in a b w f g h i = record { low = low-up a b _ _ refl refl (w .low) f g; high = high-up a b _ _ refl refl (w .high) h i }
+
+decode-front : (a : ℕ) (l : List ℕ) → decodeAt (a ∷ l) 0 ≡ decodeBytes a (getD l 0 0) (getD l 1 0) (getD l 2 0)
+decode-front a l = sym (decodeAt-in (a ∷ l) 0 a (getD l 0 0) (getD l 1 0) (getD l 2 0) _ (omega arith) refl refl refl refl refl)
+
+module _ (a b c d : ℕ) where
+  read-two : Within 0xC2 0xDF a → Within 0x80 0xBF b → decodeBytes a b c d ≡ Char (code2 a b) 2
+  unfolding decodeBytes decode2
+  read-two v w = pick-false _ _ _ (lt-leb a 0x7F (omega arith)) ∙ pick-true _ _ _ (is-within v) ∙ pick-true _ _ _ (is-within w)
+
+  read-three : Within 0xE0 0xEF a → Within (lowSecond a) (highSecond a) b → Within 0x80 0xBF c → decodeBytes a b c d ≡ Char (code3 a b c) 3
+  unfolding decodeBytes decode3
+  read-three v w x =
+      pick-false _ _ _ (lt-leb a 0x7F (omega arith)) ∙ pick-false _ _ _ (past-within _ _ a (omega arith)) ∙ pick-true _ _ _ (is-within v)
+      ∙ pick-true _ _ _ (is-within w) ∙ pick-true _ _ _ (is-within x)
+
+  read-four : Within 0xF0 0xF4 a → Within (lowSecond a) (highSecond a) b → Within 0x80 0xBF c → Within 0x80 0xBF d → decodeBytes a b c d ≡ Char (code4 a b c d) 4
+  unfolding decodeBytes decode4
+  read-four v w x y =
+      pick-false _ _ _ (lt-leb a 0x7F (omega arith)) ∙ pick-false _ _ _ (past-within _ _ a (omega arith)) ∙ pick-false _ _ _ (past-within _ _ a (omega arith)) ∙ pick-true _ _ _ (is-within v)
+      ∙ pick-true _ _ _ (is-within w) ∙ pick-true _ _ _ (is-within x) ∙ pick-true _ _ _ (is-within y)
+
+-- the last six bits, and any six
+tail-in : (k : ℕ) → Within 0x80 0xBF (0x80 + k % 64)
+tail-in k = record { low = omega arith; high = omega arith }
+
+six-bits : (x : ℕ) → (0x80 + x % 64) % 64 ≡ x % 64
+six-bits x = omega arith
+
+by-64 : (x y : ℕ) → y ≡ x / 64 → x ≡ y * 64 + x % 64
+by-64 x y e = omega arith
+
+-- four bytes' bits, joined again
+four-joined : (k : ℕ) → k < 0x110000 → (0xF0 + k / 262144) % 8 * 262144 + (0x80 + k / 4096 % 64) % 64 * 4096 + (0x80 + k / 64 % 64) % 64 * 64 + (0x80 + k % 64) % 64 ≡ k
+four-joined k h =
+    let top : (0xF0 + k / 262144) % 8 ≡ k / 262144 = omega arith in
+    let a : k ≡ k / 64 * 64 + k % 64 = by-64 k (k / 64) refl in
+    let b : k / 64 ≡ k / 4096 * 64 + k / 64 % 64 = by-64 (k / 64) (k / 4096) (omega arith) in
+    let c : k / 4096 ≡ k / 262144 * 64 + k / 4096 % 64 = by-64 (k / 4096) (k / 262144) (omega arith) in
+    rw (top, six-bits (k / 4096), six-bits (k / 64), six-bits k) (joined (k / 262144) (k / 4096) (k / 64) k (k / 4096 % 64) (k / 64 % 64) (k % 64) a b c)
+  where
+    joined : (t u v w x y z : ℕ) → w ≡ v * 64 + z → v ≡ u * 64 + y → u ≡ t * 64 + x → t * 262144 + x * 4096 + y * 64 + z ≡ w
+    joined t u v w x y z a b c = omega arith
+
+module _ (k : ℕ) (l : List ℕ) where
+  back-one : k < 0x80 → decodeAt (encode k ++ l) 0 ≡ Char k (length (encode k))
+  unfolding decodeBytes
+  back-one h = rw (encode-one k h) (decode-front k l ∙ pick-true _ _ _ (le-leb k 0x7F (omega arith)))
+
+  back-two : 0x80 ≤ k → k < 0x800 → decodeAt (encode k ++ l) 0 ≡ Char k (length (encode k))
+  unfolding code2
+  back-two g h = rw (encode-two k g h) (decode-front _ _ ∙ read-two _ _ _ _ (record { low = omega arith; high = omega arith }) (tail-in k) ∙ char-of (omega arith))
+
+  back-three : 0x800 ≤ k → k < 0x10000 → (k < 0xD800) ⊎ (0xDFFF < k) → decodeAt (encode k ++ l) 0 ≡ Char k (length (encode k))
+  unfolding code3
+  back-three g h s =
+      let high : 0xE0 + k / 4096 ≡ 0xED → 0x80 + k / 64 % 64 ≤ 0x9F = λ e. ⊎-elim (λ x. omega arith) (λ x. omega arith) s in
+      rw (encode-three k g h)
+      (decode-front _ _
+      ∙ read-three _ _ _ _ (record { low = omega arith; high = omega arith }) (second-in _ _ (tail-in (k / 64)) (λ e. omega arith) (λ e. omega arith) high (λ e. omega arith)) (tail-in k)
+      ∙ char-of (omega arith))
+
+  back-four : 0x10000 ≤ k → k < 0x110000 → decodeAt (encode k ++ l) 0 ≡ Char k (length (encode k))
+  unfolding code4
+  back-four g h =
+      rw (encode-four k g)
+      (decode-front _ _
+      ∙ read-four _ _ _ _ (record { low = omega arith; high = omega arith }) (second-in _ _ (tail-in (k / 4096)) (λ e. omega arith) (λ e. omega arith) (λ e. omega arith) (λ e. omega arith)) (tail-in (k / 64)) (tail-in k)
+      ∙ char-of (four-joined k h))
+
+  pub encode-decode : Scalar k → decodeAt (encode k ++ l) 0 ≡ Char k (length (encode k))
+  encode-decode s = elim (decLt k 0x80) [
+    | yes h ↦ back-one h
+    | no g ↦ elim (decLt k 0x800) [
+      | yes h ↦ back-two (omega arith) h
+      | no f ↦ elim (decLt k 0x10000) [ yes h ↦ back-three (omega arith) h (s .apart) | no e ↦ back-four (omega arith) (s .most) ]
+    ]
+  ]
 
 pub ill-in : (s : List ℕ) (p : ℕ) → decodeAt s p ≡ Ill → p < length s
 unfolding decodeAt

@@ -85,7 +85,9 @@ fn answer(name_type: u32, bundle: &[u8]) {
     let mut pack = pack_room();
     match loader::load(name_type, bundle, &mut pack) {
         Loaded::Done { length } => write(&pack[0..length]),
-        Loaded::Refused { code, place, file } => print_refusal(code, place, file),
+        Loaded::Refused { why, place, file } => {
+            print_refusal(refusals::number_of(why) as u32, place, file)
+        }
     }
 }
 

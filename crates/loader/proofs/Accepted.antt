@@ -6,39 +6,54 @@ use mathlib.Core.List.{List, [], _∷_}
 use mathlib.Core.Logic.{_⊎_, ⊎-elim}
 use Prim.Native.Nat.{ℕ, zero, suc, _≤_}
 use native.Mathlib.Omega.{arith}
-use lib.Dec.{leb, ltb}
+use lib.Dec.{leb}
 use lib.ListN.{length, take}
 use lib.Seq.{sets-eq, length-sets, take-at}
-use borrow.Author.Tests.{leb-true, le-leb, lt-ltb, eq-eqb, eqb-true, eqb-false}
+use borrow.Author.Tests.{leb-true, le-leb}
 use Rattle.base.specs.Pick.{pick, pick-true, pick-inv, and-yes}
+use Rattle.refusals.specs.declared.Refusal.{Refusal}
+use Rattle.refusals.specs.Numbers.{numberOf}
+use Rattle.refusals.proofs.NumberLaws.{number-one, number-some}
 use Rattle.name_parts.proofs.Laws.{clash}
 use Rattle.prefixes.specs.declared.prefixes.NameType.{NameType}
 use Rattle.prefixes.specs.declared.prefixes.NameType.the-variants.{Ashkenazi, Generic, Sephardic}
-use Rattle.regex_optim.specs.declared.OptimizedRegex.{OptimizedRegex}
-use Rattle.regex_optim.specs.declared.OptimizedRegex.the-variants.{AllStringsMatcher, IsEmpty, Equals, StartsWith, EndsWith, EqualsChar, StartsWithChar, EndsWithChar, Outside}
-use Rattle.phonemes.specs.declared.answers.Expression.{Expression}
-use Rattle.phonemes.specs.declared.answers.Expression.the-variants.{Good, Malformed, Stranger}
-use Rattle.pack.specs.Packs.{Guess, Rule, Pack, accepted, packOf, all, guessesGood, isForm, isGood, ruleGood, listGood, listCount}
+use Rattle.pack.specs.Reading.{Read, cut, got}
+use Rattle.pack.specs.Packs.{Guess, Rule, Pack, accepted, packOf, all, guessesGood, ruleGood, listGood, listCount}
 use Rattle.pack_bytes.specs.Bytes.{namesBytes, packBytes, Each, none, more, GoodPack}
 use Rattle.pack_bytes.proofs.Laws.{packed}
-use Rattle.bundles.specs.Bundles.{File, Found, missing, found, readBundle, wellFormed, filesOf}
+use Rattle.bundles.specs.Bundles.{File, Found, missing, found, readBundle}
 use Rattle.rule_lists.specs.Outcomes as outcome
-use Rattle.rule_lists.specs.Lines.{lengthFault, contextFault, expressionFault, orElse, ruleFault}
 use Rattle.rule_lists.specs.Lists.{prefixOf, listFiles, listsOf}
 use Rattle.rule_lists.proofs.WalkLaws.{GoodRead}
 use Rattle.rule_lists.proofs.FileLaws.{list-good}
+use Rattle.rule_lists.proofs.GoodLaws.{rule-good}
 use Rattle.loader.specs.Guesses.{guessesOf}
-use Rattle.loader.specs.Loading.{onType, onListed, namesOf, guessFile, listsIn, packIn, loadOf, written, answer, filled, AnswerIs, LoadIs}
+use Rattle.loader.specs.Loading.{onType, onListed, namesOf, guessFile, listsIn, packIn, onBundle, loadOf, written, Numbers, doneAt, refusedAt, numbersOf, answer, filled, AnswerIs, LoadIs}
 use Rattle.loader.specs.declared.loading.Loaded.{Loaded}
-use Rattle.loader.specs.declared.loading.Loaded.the-variants.{Done}
+use Rattle.loader.specs.declared.loading.Loaded.the-variants.{Done, Refused}
 use Rattle.loader.proofs.FileLaws.{fine-is, then-fine}
 use Rattle.loader.proofs.LanguageLaws.{strings-names}
 use Rattle.loader.proofs.GuessLaws.{guesses-good}
 use Rattle.loader.proofs.LoadingLaws.{names-good, lists-counted}
 
--- one answer and one content
+-- ---- no two answers have the same numbers, and so one answer and one content
+
+not-done : {A : Type 0} (w : Refusal) (p f n : ℕ) → refusedAt w p f ≡ doneAt n → A
+not-done w p f n e = let z : numberOf w ≡ 0 = ap (λ (m : Numbers). m .code) e in absurd (omega (arith, number-some w))
+
+pub numbers-one : (x y : Loaded) → numbersOf x ≡ numbersOf y → x ≡ y
+unfolding numbersOf
+numbers-one (Done n) (Done m) e = ap Done (ap (λ (k : Numbers). k .place) e)
+numbers-one (Done n) (Refused w p f) e = not-done w p f n (sym e)
+numbers-one (Refused w p f) (Done n) e = not-done w p f n e
+numbers-one (Refused w p f) (Refused v q g) e =
+    let why : w ≡ v = number-one w v (ap (λ (k : Numbers). k .code) e) in
+    let place : p ≡ q = ap (λ (k : Numbers). k .place) e in
+    let file : f ≡ g = ap (λ (k : Numbers). k .file) e in
+    cc
+
 pub load-one : (ty : ℕ) (s : List ℕ) {out o o′ : List ℕ} {r r′ : Loaded} → LoadIs ty s out r o → LoadIs ty s out r′ o′ → (r ≡ r′) × (o ≡ o′)
-load-one ty s x y = (x .result ∙ sym (y .result), x .buffer ∙ sym (y .buffer))
+load-one ty s x y = (numbers-one _ _ (x .result ∙ sym (y .result)), x .buffer ∙ sym (y .buffer))
 
 -- ---- the parts of a pack that was loaded
 
@@ -55,59 +70,27 @@ parts-of kind fs p e =
     let c = then-fine _ _ p (b .2) in
     rw (← fine-is (c .2)) (record { names = a .1; guesses = b .1; lists = c .1 })
 
--- the type whose files were loaded
+-- the type and the files that were loaded
 pub record LoadedFrom (s : List ℕ) (p : Pack) : Type 0 where
   pub kind : NameType
-  pub parts : PartsOf kind (filesOf s) p
+  pub files : List File
+  pub rest : List ℕ
+  pub read : readBundle s ≡ got files rest
+  pub parts : PartsOf kind files p
 
-good-bundle : (kind : NameType) (s : List ℕ) (p : Pack) → pick (wellFormed (readBundle s)) (packIn kind (filesOf s)) (outcome.refused 10 0 0) ≡ outcome.fine p → LoadedFrom s p
-good-bundle kind s p e = ⊎-elim (λ w. record { kind = kind; parts = parts-of kind (filesOf s) p (w .1) }) (λ w. clash (cc (w .1))) (pick-inv _ _ _ _ e)
+good-bundle : (kind : NameType) (s : List ℕ) (p : Pack) (x : Read (List File)) → readBundle s ≡ x → onBundle x (packIn kind) ≡ outcome.fine p → LoadedFrom s p
+unfolding onBundle
+good-bundle kind s p cut r e = clash (cc)
+good-bundle kind s p (got fs q) r e = ⊎-elim (λ w. record { kind = kind; files = fs; rest = q; read = r; parts = parts-of kind fs p (w .1) }) (λ w. clash (cc (w .1))) (pick-inv _ _ _ _ e)
 
 loaded-from : (ty : ℕ) (s : List ℕ) (p : Pack) → loadOf ty s ≡ outcome.fine p → LoadedFrom s p
 unfolding loadOf onType
-loaded-from zero s p e = good-bundle Ashkenazi s p e
-loaded-from (suc zero) s p e = good-bundle Generic s p e
-loaded-from (suc (suc zero)) s p e = good-bundle Sephardic s p e
+loaded-from zero s p e = good-bundle Ashkenazi s p _ refl e
+loaded-from (suc zero) s p e = good-bundle Generic s p _ refl e
+loaded-from (suc (suc zero)) s p e = good-bundle Sephardic s p _ refl e
 loaded-from (suc (suc (suc n))) s p e = clash (cc)
 
 -- ---- they are good
-
-else-inv : (a b : ℕ) → orElse a b ≡ 0 → (a ≡ 0) × (b ≡ 0)
-unfolding orElse
-else-inv a b e = ⊎-elim (λ w. (eqb-true a 0 (w .0), w .1)) (λ w. absurd (eqb-false a 0 (w .0) (w .1))) (pick-inv _ _ _ _ e)
-
-form-good : (f : OptimizedRegex) → contextFault f ≡ 0 → isForm f ≡ true
-unfolding contextFault isForm
-form-good AllStringsMatcher e = refl
-form-good IsEmpty e = refl
-form-good Equals e = refl
-form-good StartsWith e = refl
-form-good EndsWith e = refl
-form-good EqualsChar e = refl
-form-good StartsWithChar e = refl
-form-good EndsWithChar e = refl
-form-good Outside e = absurd (omega arith)
-
-expression-good : (x : Expression) → expressionFault x ≡ 0 → isGood x ≡ true
-unfolding expressionFault isGood
-expression-good (Good n) e = refl
-expression-good Malformed e = absurd (omega arith)
-expression-good Stranger e = absurd (omega arith)
-
-some-pattern : (p l r e : ℕ) → lengthFault p l r e ≡ 0 → ltb 0 p ≡ true
-unfolding lengthFault
-some-pattern zero l r e h = absurd (omega (arith, sym (pick-true _ 13 _ (eq-eqb 0 0 refl)) ∙ h))
-some-pattern (suc p) l r e h = lt-ltb 0 (suc p) (omega arith)
-
--- a rule that was read without a fault keeps the pack's rules
-rule-good : (names : List ℕ) (r : Rule) → GoodRead names r → ruleGood names r ≡ true
-unfolding ruleGood ruleFault
-rule-good names r g =
-    let a = else-inv _ _ (g .fault) in
-    let b = else-inv _ _ (a .1) in
-    let c = else-inv _ _ (b .1) in
-    and-yes _ _ (and-yes _ _ (g .pattern) (and-yes _ _ (g .left) (and-yes _ _ (g .right) (g .expression))))
-    (and-yes _ _ (some-pattern _ _ _ _ (a .0)) (and-yes _ _ (form-good _ (b .0)) (and-yes _ _ (form-good _ (c .0)) (expression-good _ (c .1)))))
 
 rules-good : (names : List ℕ) (rs : List Rule) → Each (GoodRead names) rs → all (ruleGood names) rs ≡ true
 unfolding all
@@ -146,20 +129,20 @@ pub record Written (ty : ℕ) (s : List ℕ) (n : ℕ) (out′ : List ℕ) : Typ
   pub front : take n out′ ≡ packBytes it
   pub accepts : packOf (take n out′) ≡ accepted it
 
-fits : (b out out′ : List ℕ) (n : ℕ) → Done n ≡ answer (outcome.fine b) (length out) → out′ ≡ filled (outcome.fine b) out → take n out′ ≡ b
+fits : (b out out′ : List ℕ) (n : ℕ) → doneAt n ≡ answer (outcome.fine b) (length out) → out′ ≡ filled (outcome.fine b) out → take n out′ ≡ b
 unfolding answer filled
-fits b out out′ n r h = ⊎-elim (λ w. yes-so (w .0) (cc (w .1))) (λ w. clash (cc (w .1))) (pick-inv _ _ _ _ (sym r))
+fits b out out′ n r h = ⊎-elim (λ w. yes-so (w .0) (ap (λ (m : Numbers). m .place) (w .1))) (λ w. not-done _ _ _ n (w .1)) (pick-inv _ _ _ _ (sym r))
   where
     yes-so : leb (length b) (length out) ≡ true → length b ≡ n → take n out′ ≡ b
     yes-so t e = rw (h ∙ pick-true _ _ _ t ∙ sets-eq b out 0 (omega (arith, leb-true (length b) (length out) t))) (take-at b _ n e)
 
 written-by : (ty : ℕ) (s out out′ : List ℕ) (n : ℕ) (x : outcome.Outcome Pack) → loadOf ty s ≡ x → AnswerIs (written x) out (Done n) out′ → Written ty s n out′
-unfolding written answer
+unfolding written answer numbersOf
 written-by ty s out out′ n (outcome.fine p) e a =
     let f : take n out′ ≡ packBytes p = fits (packBytes p) out out′ n (a .result) (a .buffer) in
     let v = loaded-from ty s p e in
-    record { it = p; loads = e; front = f; accepts = rw f (packed p (good-pack (v .kind) (filesOf s) p (v .parts))) }
-written-by ty s out out′ n (outcome.refused c l f) e a = clash (cc (a .result))
+    record { it = p; loads = e; front = f; accepts = rw f (packed p (good-pack (v .kind) (v .files) p (v .parts))) }
+written-by ty s out out′ n (outcome.refused c l f) e a = not-done c l f n (sym (a .result))
 
 -- THE LAW: what `load` leaves where it is done is an accepted pack, and it is the definition's
 pub load-accepted : (ty : ℕ) (s out out′ : List ℕ) (n : ℕ) → LoadIs ty s out (Done n) out′ → Written ty s n out′
@@ -167,9 +150,9 @@ load-accepted ty s out out′ n a = written-by ty s out out′ n (loadOf ty s) r
 
 -- for a program that takes the pack out of its buffer
 within-by : (x : outcome.Outcome (List ℕ)) (out out′ : List ℕ) (n : ℕ) → AnswerIs x out (Done n) out′ → n ≤ length out′
-unfolding answer filled
-within-by (outcome.refused c l f) out out′ n a = clash (cc (a .result))
-within-by (outcome.fine b) out out′ n a = ⊎-elim (λ w. yes-so (w .0) (cc (w .1))) (λ w. clash (cc (w .1))) (pick-inv _ _ _ _ (sym (a .result)))
+unfolding answer filled numbersOf
+within-by (outcome.refused c l f) out out′ n a = not-done c l f n (sym (a .result))
+within-by (outcome.fine b) out out′ n a = ⊎-elim (λ w. yes-so (w .0) (ap (λ (m : Numbers). m .place) (w .1))) (λ w. not-done _ _ _ n (w .1)) (pick-inv _ _ _ _ (sym (a .result)))
   where
     yes-so : leb (length b) (length out) ≡ true → length b ≡ n → n ≤ length out′
     yes-so t e =

@@ -7,6 +7,8 @@ use native.Mathlib.Decide.{decLe}
 use native.Mathlib.Omega.{arith}
 use lib.ListN.{length}
 use Rattle.base.specs.Pick.{and-yes}
+use Rattle.refusals.specs.declared.Refusal.{Refusal}
+use Rattle.refusals.specs.declared.Refusal.the-variants.{LineUnreadable}
 use Rattle.name_parts.proofs.Laws.{clash}
 use Rattle.pack.specs.Packs.{all}
 use Rattle.pack_bytes.specs.Bytes.{Each, none, more}
@@ -41,7 +43,7 @@ module _ {A : Type 0} (meaning : Told → Kept A) (f : ℕ) (k : FileKind) (s : 
     unfolding toldIn
     told-end h = ap (toldIn meaning f l) (items-end k s p h)
 
-    pub told-wrong : p < length s → itemAt k s p ≡ Wrong → toldFrom l p ≡ refused 12 l f
+    pub told-wrong : p < length s → itemAt k s p ≡ Wrong → toldFrom l p ≡ refused LineUnreadable l f
     unfolding toldIn
     told-wrong h e = ap (toldIn meaning f l) (items-wrong k s p h e)
 
@@ -55,7 +57,7 @@ module _ {A : Type 0} (meaning : Told → Kept A) (f : ℕ) (k : FileKind) (s : 
       told-tells = ap (toldIn meaning f l) (items-tells k s p t n e)
           ∙ ap (λ (y : Kept A). onKept y (λ c. refused c l f) (λ a. andThen (toldFrom (l + 1) n) (λ rest. fine (a ∷ rest)))) m
 
-    pub told-fault : (t : Told) (n c : ℕ) → itemAt k s p ≡ Tells t n → meaning t ≡ fault c → toldFrom l p ≡ refused c l f
+    pub told-fault : (t : Told) (n : ℕ) (c : Refusal) → itemAt k s p ≡ Tells t n → meaning t ≡ fault c → toldFrom l p ≡ refused c l f
     unfolding onKept
     told-fault t n c e m = told-tells t n e _ m
 

@@ -14,6 +14,8 @@ use mir.Val.{Fits, boolByte}
 use borrow.Author.Tests.{lt-ltb, le-ltb, ltb-false, leb-true, ne-eqb}
 use Rattle.base.specs.Pick.{pick, pick-true, pick-false, pick-all, and-yes, and-inv}
 use Rattle.base.proofs.Bits.{and-or}
+use Rattle.refusals.specs.declared.Refusal.{Refusal}
+use Rattle.refusals.specs.declared.Refusal.the-variants.{LineUnreadable, OutsideForms, NameUnlisted, TooMuch}
 use Rattle.languages.specs.Names.{stringsOf}
 use Rattle.languages.specs.declared.names.Listed.{Listed}
 use Rattle.languages.specs.declared.names.Listed.the-variants.{Bit, Unlisted}
@@ -47,16 +49,16 @@ use Rattle.loader.proofs.FileLaws.{fine-is, then-fine, toldFrom, told-s
 -- ---- a rule judged
 
 module _ (names pattern joined : List ℕ) where
-  pub judge-long : 255 < length pattern → Fault 18 ≡ judgedAs names pattern joined
+  pub judge-long : 255 < length pattern → Fault TooMuch ≡ judgedAs names pattern joined
   unfolding judgedAs judgment judged
   judge-long h = sym (ap judgment (pick-true _ _ _ (lt-ltb 255 (length pattern) h)))
 
   module _ (h : length pattern ≤ 255) (t : Bool) (e : t ≡ inForms pattern) where
-    judge-by : judgment (pick t (withMask true pattern (namesMask names (cutAt plus joined))) (fault 15)) ≡ judgedAs names pattern joined
+    judge-by : judgment (pick t (withMask true pattern (namesMask names (cutAt plus joined))) (fault OutsideForms)) ≡ judgedAs names pattern joined
     unfolding judgedAs judged
     judge-by = ap judgment (rw (← e) (sym (pick-false _ _ _ (le-ltb 255 (length pattern) h))))
 
-    pub judge-bad : t ≡ false → Fault 15 ≡ judgedAs names pattern joined
+    pub judge-bad : t ≡ false → Fault OutsideForms ≡ judgedAs names pattern joined
     unfolding judgment pick
     judge-bad q = rw q at judge-by
 
@@ -69,7 +71,7 @@ module _ (names pattern joined : List ℕ) where
       unfolding judgment withMask
       judge-mask m p = rw p at listed-by
 
-      pub judge-stranger : x ≡ Unlisted → Fault 16 ≡ judgedAs names pattern joined
+      pub judge-stranger : x ≡ Unlisted → Fault NameUnlisted ≡ judgedAs names pattern joined
       unfolding judgment withMask
       judge-stranger p = rw p at listed-by
 
@@ -77,7 +79,7 @@ pub ruleset judge-laws = (judge-long, judge-bad, judge-mask, judge-stranger)
 
 -- what a judgment tells, whether the rule accepts or not
 abbrev judgedBy : Bool → List ℕ → Bool → Bool → Listed → Kept Guess
-judgedBy v pattern t u x = pick t (fault 18) (pick u (withMask v pattern x) (fault 15))
+judgedBy v pattern t u x = pick t (fault TooMuch) (pick u (withMask v pattern x) (fault OutsideForms))
 
 mask-by : (v : Bool) (pattern : List ℕ) (t u : Bool) (x : Listed) (m : ℕ) → judgment (judgedBy true pattern t u x) ≡ Mask m
     → (t ≡ false) × (judgedBy v pattern t u x ≡ keeps (guess (acceptOf v) m pattern))
@@ -87,12 +89,12 @@ mask-by v pattern false true (Bit k) m e = let same : k ≡ m = cc in (refl, ap 
 mask-by v pattern false true Unlisted m e = clash (cc)
 mask-by v pattern false false x m e = clash (cc)
 
-fault-by : (v : Bool) (pattern : List ℕ) (t u : Bool) (x : Listed) (c : ℕ) → judgment (judgedBy true pattern t u x) ≡ Fault c → judgedBy v pattern t u x ≡ fault c
+fault-by : (v : Bool) (pattern : List ℕ) (t u : Bool) (x : Listed) (c : Refusal) → judgment (judgedBy true pattern t u x) ≡ Fault c → judgedBy v pattern t u x ≡ fault c
 unfolding judgment withMask pick
-fault-by v pattern true u x c e = let same : 18 ≡ c = cc in ap (λ (i : ℕ). fault i) same
+fault-by v pattern true u x c e = let same : TooMuch ≡ c = cc in ap (λ (i : Refusal). fault i) same
 fault-by v pattern false true (Bit k) c e = clash (cc)
-fault-by v pattern false true Unlisted c e = let same : 16 ≡ c = cc in ap (λ (i : ℕ). fault i) same
-fault-by v pattern false false x c e = let same : 15 ≡ c = cc in ap (λ (i : ℕ). fault i) same
+fault-by v pattern false true Unlisted c e = let same : NameUnlisted ≡ c = cc in ap (λ (i : Refusal). fault i) same
+fault-by v pattern false false x c e = let same : OutsideForms ≡ c = cc in ap (λ (i : Refusal). fault i) same
 
 -- ---- a rule written
 
@@ -130,7 +132,7 @@ from-end : (n : ℕ) (o : List ℕ) (at : ℕ) → length o < cap → at ≤ cap
 unfolding ToldFrom bytesOf
 from-end n o at h k = let size : n ≡ n + 0 = omega arith in (at, ap (λ (i : ℕ). Done i at) size, put-none o at h k)
 
-from-refused : (n c l f : ℕ) (o : List ℕ) (at : ℕ) → ToldFrom n (refused c l f) o at (Refused c l f) o
+from-refused : (n : ℕ) (c : Refusal) (l f : ℕ) (o : List ℕ) (at : ℕ) → ToldFrom n (refused c l f) o at (Refused c l f) o
 unfolding ToldFrom
 from-refused n c l f o at = refl
 
@@ -158,7 +160,7 @@ writing-start names s f o at b h k = record {
 
 module _ {names s : List ℕ} {f : ℕ} {o₀ : List ℕ} {at₀ : ℕ} {o : List ℕ} {at n p l : ℕ} (w : Writing names s f o₀ at₀ o at n p l) where
   -- what is left comes to a refusal
-  stops : (c : ℕ) → toldFrom (guessOf names s) f Guesses s l p ≡ refused c l f → GuessesAre names s f o₀ at₀ (Refused c l f) o
+  stops : (c : Refusal) → toldFrom (guessOf names s) f Guesses s l p ≡ refused c l f → GuessesAre names s f o₀ at₀ (Refused c l f) o
   stops c e = w .is _ o (rw e (from-refused n c l f o at))
 
   pub writing-long : length o ≡ length o₀
@@ -175,8 +177,8 @@ module _ {names s : List ℕ} {f : ℕ} {o₀ : List ℕ} {at₀ : ℕ} {o : Lis
     writing-line = record { fits = omega (arith, w .lines, w .small) }
 
   module _ (h : p < length s) (x : Item) (e : x ≡ itemAt Guesses s p) where
-    pub writing-wrong : x ≡ Wrong → GuessesAre names s f o₀ at₀ (Refused 12 l f) o
-    writing-wrong q = stops 12 (told-wrong (guessOf names s) f Guesses s l p h (sym e ∙ q))
+    pub writing-wrong : x ≡ Wrong → GuessesAre names s f o₀ at₀ (Refused LineUnreadable l f) o
+    writing-wrong q = stops LineUnreadable (told-wrong (guessOf names s) f Guesses s l p h (sym e ∙ q))
 
     module _ (k i : ℕ) (q : x ≡ Passed k i) where
       here-passed : itemAt Guesses s p ≡ Passed k i
@@ -209,20 +211,20 @@ module _ {names s : List ℕ} {f : ℕ} {o₀ : List ℕ} {at₀ : ℕ} {o : Lis
       pub tells-less : length s - i < length s - p
       tells-less = omega (arith, tells-goes Guesses s p t i here-tells)
 
-      faulty : (c : ℕ) → guessOf names s t ≡ fault c → GuessesAre names s f o₀ at₀ (Refused c l f) o
+      faulty : (c : Refusal) → guessOf names s t ≡ fault c → GuessesAre names s f o₀ at₀ (Refused c l f) o
       faulty c m = stops c (told-fault (guessOf names s) f Guesses s l p t i c here-tells m)
 
-      pub writing-rule : (a b c d : Text) → t ≡ told.Rule a b c d → GuessesAre names s f o₀ at₀ (Refused 12 l f) o
+      pub writing-rule : (a b c d : Text) → t ≡ told.Rule a b c d → GuessesAre names s f o₀ at₀ (Refused LineUnreadable l f) o
       unfolding guessOf
-      writing-rule a b c d g = faulty 12 (ap (guessOf names s) g)
+      writing-rule a b c d g = faulty LineUnreadable (ap (guessOf names s) g)
 
-      pub writing-include : (a : Text) → t ≡ told.Include a → GuessesAre names s f o₀ at₀ (Refused 12 l f) o
+      pub writing-include : (a : Text) → t ≡ told.Include a → GuessesAre names s f o₀ at₀ (Refused LineUnreadable l f) o
       unfolding guessOf
-      writing-include a g = faulty 12 (ap (guessOf names s) g)
+      writing-include a g = faulty LineUnreadable (ap (guessOf names s) g)
 
-      pub writing-name : (a : Text) → t ≡ told.Name a → GuessesAre names s f o₀ at₀ (Refused 12 l f) o
+      pub writing-name : (a : Text) → t ≡ told.Name a → GuessesAre names s f o₀ at₀ (Refused LineUnreadable l f) o
       unfolding guessOf
-      writing-name a g = faulty 12 (ap (guessOf names s) g)
+      writing-name a g = faulty LineUnreadable (ap (guessOf names s) g)
 
       module _ (a b : Text) (v : Bool) (g : t ≡ told.Guess a b v) (pattern joined : List ℕ) (ea : pattern ≡ partOf s a) (eb : joined ≡ partOf s b)
           (j : Judged) (ej : j ≡ judgedAs names pattern joined) where
@@ -230,7 +232,7 @@ module _ {names s : List ℕ} {f : ℕ} {o₀ : List ℕ} {at₀ : ℕ} {o : Lis
         unfolding guessOf
         judged-here y z = ap (guessOf names s) g ∙ ap₂ (judged names v) (sym ea) (sym eb) ∙ z
 
-        pub writing-fault : (c : ℕ) → j ≡ Fault c → GuessesAre names s f o₀ at₀ (Refused c l f) o
+        pub writing-fault : (c : Refusal) → j ≡ Fault c → GuessesAre names s f o₀ at₀ (Refused c l f) o
         unfolding judgedAs judged
         writing-fault c z = faulty c (judged-here _ (fault-by v pattern _ _ _ c (sym ej ∙ z)))
 
@@ -321,7 +323,7 @@ kept-good names s p (told.Guess a b v) n g e k =
     rw (← i .3) (and-yes _ _ (accept-good v) (and-yes _ _ more
     (and-yes _ _ (lt-ltb _ _ (mask-held names _ (i .0) (i .2))) (and-yes _ _ (guess-pattern s p a b v n e) (i .1)))))
 
-counted-inv : (t : Bool) (gs hs : List Guess) → pick t (fine gs) (refused 18 0 0) ≡ fine hs → (t ≡ true) × (gs ≡ hs)
+counted-inv : (t : Bool) (gs hs : List Guess) → pick t (fine gs) (refused TooMuch 0 0) ≡ fine hs → (t ≡ true) × (gs ≡ hs)
 unfolding pick
 counted-inv true gs hs e = (refl, fine-is e)
 counted-inv false gs hs e = clash (cc)

@@ -9,18 +9,22 @@ use lib.Dec.{leb}
 use lib.ListN.{length, take, drop, length-take}
 use borrow.Author.Tests.{le-leb, lt-leb}
 use Rattle.base.specs.Pick.{pick, pick-true, pick-false}
+use Rattle.refusals.specs.declared.Refusal.{Refusal}
+use Rattle.refusals.specs.declared.Refusal.the-variants.{SettingUnknown, NoRoom, BundleBroken, FileMissing}
 use Rattle.languages.specs.Names.{stringsOf}
 use Rattle.name_parts.specs.Writing.{Put}
 use Rattle.name_parts.proofs.Laws.{put-then, clash}
 use Rattle.prefixes.specs.declared.prefixes.NameType.{NameType}
+use Rattle.pack.specs.Reading.{Read, cut, got}
 use Rattle.pack.specs.Packs.{Guess, Rule, Pack, namesGood}
 use Rattle.pack_bytes.specs.Bytes.{countBytes, namesBytes, guessBytes, listBytes, packBytes}
 use Rattle.held.specs.Tables.{bytesOf}
 use Rattle.bundles.specs.Bundles.{File, Found, missing, found, readBundle, wellFormed, filesOf, fileNamed}
-use Rattle.bundles.specs.Walks.{Finds}
+use Rattle.bundles.specs.Places as places
+use Rattle.bundles.specs.Places.{fileAt}
 use Rattle.bundles.specs.declared.FileAt.{FileAt}
 use Rattle.bundles.specs.declared.FileAt.the-variants as file-at
-use Rattle.bundles.proofs.Laws.{found-is, found-order, found-within, missing-is}
+use Rattle.bundles.proofs.Laws.{found-is, found-order, found-within, missing-is, files-read}
 use Rattle.rule_lists.specs.Outcomes.{Outcome, fine, refused, andThen, Told}
 use Rattle.rule_lists.specs.Lists.{prefixOf, twoOf, threeOf, listFiles, listsOf}
 use Rattle.rule_lists.proofs.ListLaws.{lists-length}
@@ -28,7 +32,7 @@ use Rattle.rule_lists.specs.declared.writing.Written.{Written}
 use Rattle.rule_lists.specs.declared.writing.Written.the-variants as wrote
 use Rattle.loader.specs.Languages.{languagesOf}
 use Rattle.loader.specs.Guesses.{guessesOf}
-use Rattle.loader.specs.Loading.{onType, languagesPart, langPart, onListed, namesOf, guessFile, listsIn, packIn, loadOf, written, answer, filled, AnswerIs}
+use Rattle.loader.specs.Loading.{onType, languagesPart, langPart, onListed, namesOf, guessFile, listsIn, packIn, onBundle, loadOf, written, doneAt, refusedAt, numbersOf, answer, filled, AnswerIs}
 use Rattle.loader.specs.Walks.{NamesTold, NamesAre, GuessesTold, kindOf, frontBytes, packedOf}
 use Rattle.loader.proofs.LanguageLaws.{strings-names, languages-good, languages-few}
 use Rattle.loader.proofs.GuessLaws.{guesses-few}
@@ -43,7 +47,7 @@ use Rattle.loader.specs.declared.guesses.Guessed.the-variants as guessed
 
 -- ---- the language list
 
-module _ (kind : NameType) (s : List ℕ) (e : FileAt) (w : Finds s (fileNamed (prefixOf kind ++ languagesPart) 0 (filesOf s)) e) where
+module _ (kind : NameType) (s : List ℕ) (e : FileAt) (w : places.numbersOf e ≡ fileAt s (prefixOf kind ++ languagesPart)) where
   pub names-found : (k a b : ℕ) (out out′ : List ℕ) (r : Names) → e ≡ file-at.At k a b → NamesAre (take (b - a) (drop a s)) k out r out′ → NamesTold (namesOf kind (filesOf s)) r out′
   unfolding NamesAre namesOf onListed
   names-found k a b out out′ r h x = rw (found-is s _ e w k a b h) x
@@ -54,7 +58,7 @@ module _ (kind : NameType) (s : List ℕ) (e : FileAt) (w : Finds s (fileNamed (
   pub names-within : (k a b : ℕ) → e ≡ file-at.At k a b → b ≤ length s
   names-within k a b h = found-within s _ e w k a b h
 
-  pub names-missing : (out′ : List ℕ) → e ≡ file-at.Missing → NamesTold (namesOf kind (filesOf s)) (names.Refused 11 0 0) out′
+  pub names-missing : (out′ : List ℕ) → e ≡ file-at.Missing → NamesTold (namesOf kind (filesOf s)) (names.Refused FileMissing 0 0) out′
   unfolding NamesTold namesOf onListed
   names-missing out′ h = rw (missing-is s _ e w h) refl
 
@@ -78,7 +82,7 @@ module _ {A : Type 0} (bytes : A → List ℕ) (o o′ : List ℕ) (at : ℕ) (r
   is-written (fine b) a h (p, e, w) = let i : b ≡ a = cc in (p, rw (← i) w)
   is-written (refused c l f) a h e = clash (cc)
 
-  pub was-refused : (x : Outcome A) (c l f : ℕ) → Told bytes x o o′ at r → r ≡ wrote.Refused c l f → x ≡ refused c l f
+  pub was-refused : (x : Outcome A) (c : Refusal) (l f : ℕ) → Told bytes x o o′ at r → r ≡ wrote.Refused c l f → x ≡ refused c l f
   unfolding Told
   was-refused (fine a) c l f (q, e, w) h = clash (cc)
   was-refused (refused a b d) c l f e h = cc
@@ -99,7 +103,7 @@ module _ (o o′ : List ℕ) (at : ℕ) (r : Guessed) where
       record { it = gs; is = refl; count = j; put = rw (← i) w }
   was-guessed (refused c l f) n p e h = clash (cc)
 
-  not-guessed : (x : Outcome (List Guess)) (c l f : ℕ) → GuessesTold x o at r o′ → r ≡ guessed.Refused c l f → x ≡ refused c l f
+  not-guessed : (x : Outcome (List Guess)) (c : Refusal) (l f : ℕ) → GuessesTold x o at r o′ → r ≡ guessed.Refused c l f → x ≡ refused c l f
   unfolding GuessesTold
   not-guessed (fine gs) c l f (q, e, w) h = clash (cc)
   not-guessed (refused a b d) c l f e h = cc
@@ -120,7 +124,7 @@ module _ (out′ : List ℕ) (r : Names) where
       record { it = xs; is = refl; count = cc; size = i; front = rw i w }
   was-named (refused c l f) n len e h = clash (cc)
 
-  not-named : (x : Outcome (List (List ℕ))) (c l f : ℕ) → NamesTold x r out′ → r ≡ names.Refused c l f → x ≡ refused c l f
+  not-named : (x : Outcome (List (List ℕ))) (c : Refusal) (l f : ℕ) → NamesTold x r out′ → r ≡ names.Refused c l f → x ≡ refused c l f
   unfolding NamesTold
   not-named (fine xs) c l f (e, w) h = clash (cc)
   not-named (refused a b d) c l f e h = cc
@@ -148,44 +152,44 @@ module _ (kind : NameType) (fs : List File) (names : List ℕ) (n g : ℕ) where
       let w = was-guessed o₁ o₂ p x _ c at told h in
       rw (w .is) (lists-then o o₁ o₂ o₃ o₄ p at q (w .it) front (w .put) count Lists r lists)
 
-  pub packed-refused : (o o₁ o₂ : List ℕ) (p c l f : ℕ) (x : Guessed) → GuessesTold (guessFile kind fs names) o₁ p x o₂ → x ≡ guessed.Refused c l f → Told Same (packedOf kind fs names n g) o o₂ 0 (wrote.Refused c l f)
+  pub packed-refused : (o o₁ o₂ : List ℕ) (p : ℕ) (c : Refusal) (l f : ℕ) (x : Guessed) → GuessesTold (guessFile kind fs names) o₁ p x o₂ → x ≡ guessed.Refused c l f → Told Same (packedOf kind fs names n g) o o₂ 0 (wrote.Refused c l f)
   unfolding packedOf andThen Told
   packed-refused o o₁ o₂ p c l f x told h = rw (not-guessed o₁ o₂ p x _ c l f told h) refl
 
 -- ---- measured, and then written
 
 module _ (x : Outcome (List ℕ)) (o o′ : List ℕ) (w : Written) (m : Told Same x o o′ 0 w) where
-  pub answer-long : (n k : ℕ) (out : List ℕ) → w ≡ wrote.Done n → length out < n → k ≡ min 4294967295 n → AnswerIs x out (loaded.Refused 9 k 0) out
-  unfolding answer filled
+  pub answer-long : (n k : ℕ) (out : List ℕ) → w ≡ wrote.Done n → length out < n → k ≡ min 4294967295 n → AnswerIs x out (loaded.Refused NoRoom k 0) out
+  unfolding answer filled numbersOf
   answer-long n k out h l e =
       let v = was-fine Same o o′ 0 w x n m h in
       let z = v .put .ends in
       let t : leb (length (v .it)) (length out) ≡ false = lt-leb (length (v .it)) (length out) (omega (arith, z)) in
       record {
-        result = rw (v .is) (sym (pick-false _ _ _ t ∙ ap (λ (a : ℕ). loaded.Refused 9 a 0) (omega (arith, z, e))));
+        result = rw (v .is) (sym (pick-false _ _ _ t ∙ ap (λ (a : ℕ). refusedAt NoRoom a 0) (omega (arith, z, e))));
         buffer = rw (v .is) (sym (pick-false _ _ _ t));
       }
 
-  pub answer-refused : (c l f : ℕ) (out : List ℕ) → w ≡ wrote.Refused c l f → AnswerIs x out (loaded.Refused c l f) out
-  unfolding answer filled
+  pub answer-refused : (c : Refusal) (l f : ℕ) (out : List ℕ) → w ≡ wrote.Refused c l f → AnswerIs x out (loaded.Refused c l f) out
+  unfolding answer filled numbersOf
   answer-refused c l f out h = rw (was-refused Same o o′ 0 w x c l f m h) (record { result = refl; buffer = refl })
 
   pub answer-done : (n : ℕ) (out out′ : List ℕ) (w′ : Written) → w ≡ wrote.Done n → n ≤ length out → Told Same x out out′ 0 w′ → AnswerIs x out (loaded.Done n) out′
-  unfolding answer filled
+  unfolding answer filled numbersOf
   answer-done n out out′ w′ h l told =
       let v = was-fine Same o o′ 0 w x n m h in
       let u = is-written Same out out′ 0 w′ x (v .it) (v .is) told .1 in
       let s : n ≡ length (v .it) = omega (arith, v .put .ends, u .room) in
       let t : leb (length (v .it)) (length out) ≡ true = le-leb (length (v .it)) (length out) (omega arith) in
       record {
-        result = rw (v .is) (ap loaded.Done s ∙ sym (pick-true _ _ _ t));
+        result = rw (v .is) (ap (λ (a : ℕ). doneAt a) s ∙ sym (pick-true _ _ _ t));
         buffer = rw (v .is) (u .wrote ∙ sym (pick-true _ _ _ t));
       }
 
 -- ---- the names, the guessing rules, and the pack
 
-refused-is : (o : Outcome Pack) (c l f : ℕ) (out : List ℕ) → o ≡ refused c l f → AnswerIs (written o) out (loaded.Refused c l f) out
-unfolding written answer filled
+refused-is : (o : Outcome Pack) (c : Refusal) (l f : ℕ) (out : List ℕ) → o ≡ refused c l f → AnswerIs (written o) out (loaded.Refused c l f) out
+unfolding written answer filled numbersOf
 refused-is o c l f out e = rw e (record { result = refl; buffer = refl })
 
 few-found : (bytes : List ℕ) (gs : List Guess) (x : Found) → onListed x (guessesOf bytes) ≡ fine gs → length gs ≤ 4096
@@ -246,7 +250,7 @@ pub lists-counted : (kind : NameType) (fs : List File) (xs : List (List ℕ)) (l
 lists-counted kind fs xs ls e = lists-length (namesBytes xs) fs _ ls e ∙ files-length (prefixOf kind) xs
 
 module _ (kind : NameType) (fs : List File) (nm : List ℕ) (r : Names) (w : NamesTold (namesOf kind fs) r nm) where
-  pub files-no-names : (c l f : ℕ) (out : List ℕ) → r ≡ names.Refused c l f → AnswerIs (written (packIn kind fs)) out (loaded.Refused c l f) out
+  pub files-no-names : (c : Refusal) (l f : ℕ) (out : List ℕ) → r ≡ names.Refused c l f → AnswerIs (written (packIn kind fs)) out (loaded.Refused c l f) out
   unfolding packIn andThen
   files-no-names c l f out h = refused-is (packIn kind fs) c l f out (rw (not-named nm r _ c l f w h) refl)
 
@@ -265,7 +269,7 @@ module _ (kind : NameType) (fs : List File) (nm : List ℕ) (r : Names) (w : Nam
       i : bytes ≡ take len nm
       i = rw sub-zero refl
 
-      pub files-no-guesses : (c l f : ℕ) (out : List ℕ) → g ≡ guessed.Refused c l f → AnswerIs (written (packIn kind fs)) out (loaded.Refused c l f) out
+      pub files-no-guesses : (c : Refusal) (l f : ℕ) (out : List ℕ) → g ≡ guessed.Refused c l f → AnswerIs (written (packIn kind fs)) out (loaded.Refused c l f) out
       unfolding packIn andThen
       files-no-guesses c l f out k =
           let v = was-named nm r _ n len w h in
@@ -301,21 +305,32 @@ is-unknown (suc zero) x k e = clash (cc)
 is-unknown (suc (suc zero)) x k e = clash (cc)
 is-unknown (suc (suc (suc n))) x k e = refl
 
+bundle-bad : {A : Type 0} (x : Read (List File)) (k : List File → Outcome A) → wellFormed x ≡ false → onBundle x k ≡ refused BundleBroken 0 0
+unfolding onBundle
+bundle-bad cut k b = refl
+bundle-bad (got fs r) k b = pick-false _ _ _ b
+
+-- the files that the code finds are those of a bundle that is well formed
+bundle-good : {A : Type 0} (s : List ℕ) (x : Read (List File)) (k : List File → Outcome A) → readBundle s ≡ x → wellFormed x ≡ true → onBundle x k ≡ k (filesOf s)
+unfolding onBundle wellFormed
+bundle-good s cut k e b = clash (cc)
+bundle-good s (got fs r) k e b = pick-true _ _ _ b ∙ ap k (sym (files-read s fs r e))
+
 module _ (ty : ℕ) (s out : List ℕ) (x : Kind) (e : x ≡ kindOf ty) where
-  pub load-unknown : x ≡ kinds.Unknown → AnswerIs (written (loadOf ty s)) out (loaded.Refused 4 0 0) out
+  pub load-unknown : x ≡ kinds.Unknown → AnswerIs (written (loadOf ty s)) out (loaded.Refused SettingUnknown 0 0) out
   unfolding loadOf
-  load-unknown h = refused-is (loadOf ty s) 4 0 0 out (is-unknown ty _ _ (sym e ∙ h))
+  load-unknown h = refused-is (loadOf ty s) SettingUnknown 0 0 out (is-unknown ty _ _ (sym e ∙ h))
 
   module _ (kind : NameType) (h : x ≡ kinds.Is kind) where
-    known-is : loadOf ty s ≡ pick (wellFormed (readBundle s)) (packIn kind (filesOf s)) (refused 10 0 0)
+    known-is : loadOf ty s ≡ onBundle (readBundle s) (packIn kind)
     unfolding loadOf
     known-is = is-known ty kind _ _ (sym e ∙ h)
 
-    pub load-bad : wellFormed (readBundle s) ≡ false → AnswerIs (written (loadOf ty s)) out (loaded.Refused 10 0 0) out
-    load-bad b = refused-is (loadOf ty s) 10 0 0 out (known-is ∙ pick-false _ _ _ b)
+    pub load-bad : wellFormed (readBundle s) ≡ false → AnswerIs (written (loadOf ty s)) out (loaded.Refused BundleBroken 0 0) out
+    load-bad b = refused-is (loadOf ty s) BundleBroken 0 0 out (known-is ∙ bundle-bad _ _ b)
 
     pub load-good : (out′ : List ℕ) (z : Loaded) → wellFormed (readBundle s) ≡ true → AnswerIs (written (packIn kind (filesOf s))) out z out′ → AnswerIs (written (loadOf ty s)) out z out′
-    load-good out′ z b a = rw (known-is ∙ pick-true _ _ _ b) a
+    load-good out′ z b a = rw (known-is ∙ bundle-good s _ _ refl b) a
 
 pub ruleset names-laws = (names-found, names-order, names-within, names-missing)
 

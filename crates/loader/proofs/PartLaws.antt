@@ -5,6 +5,8 @@ use Prim.Native.Nat.{ℕ, zero, suc, _-_, _≤_, _<_}
 use lib.ListN.{length, take, drop}
 use borrow.Author.Tests.{le-leb, lt-leb}
 use Rattle.base.specs.Pick.{pick-true, pick-false}
+use Rattle.refusals.specs.declared.Refusal.{Refusal}
+use Rattle.refusals.specs.declared.Refusal.the-variants.{FileMissing, TooMuch}
 use Rattle.name_parts.specs.Writing.{Put}
 use Rattle.prefixes.specs.declared.prefixes.NameType.{NameType}
 use Rattle.prefixes.specs.declared.prefixes.NameType.the-variants.{Ashkenazi, Generic, Sephardic}
@@ -12,7 +14,7 @@ use Rattle.name_parts.proofs.Laws.{clash, put-then}
 use Rattle.pack.specs.Packs.{Guess}
 use Rattle.pack_bytes.specs.Bytes.{countBytes}
 use Rattle.bundles.specs.Bundles.{filesOf, fileNamed}
-use Rattle.bundles.specs.Walks.{Finds}
+use Rattle.bundles.specs.Places.{numbersOf, fileAt}
 use Rattle.bundles.specs.declared.FileAt.{FileAt}
 use Rattle.bundles.specs.declared.FileAt.the-variants as file-at
 use Rattle.bundles.proofs.Laws.{missing-is, found-is, found-order, found-within}
@@ -52,7 +54,7 @@ pub ruleset kind-laws = (kind-ashkenazi, kind-generic, kind-sephardic, kind-unkn
 
 module _ (kind : NameType) (part s : List ℕ) (r : FileAt) where
   abbrev Named : List ℕ → Type 0
-  Named name = Finds s (fileNamed name 0 (filesOf s)) r
+  Named name = numbersOf r ≡ fileAt s name
 
   pub file-ashkenazi : kind ≡ Ashkenazi → Named (97 ∷ 115 ∷ 104 ∷ part) → Named (prefixOf kind ++ part)
   unfolding prefixOf
@@ -78,20 +80,20 @@ module _ (o o₁ o₂ o₃ : List ℕ) (p q r : ℕ) where
 -- ---- the guessing file
 
 done-by : (x : Outcome (List Guess)) (o : List ℕ) (at n p : ℕ) (o′ : List ℕ) → GuessesTold x o at (Done n p) o′
-    → ((n ≤ 4096 → GuessesTold (andThen x counted) o at (Done n p) o′) × (4096 < n → GuessesTold (andThen x counted) o at (Refused 18 0 0) o′))
+    → ((n ≤ 4096 → GuessesTold (andThen x counted) o at (Done n p) o′) × (4096 < n → GuessesTold (andThen x counted) o at (Refused TooMuch 0 0) o′))
 unfolding GuessesTold andThen counted
 done-by (fine gs) o at n p o′ w =
     let size : n ≡ length gs = let e = w .1 in cc in
-    (λ h. rw (pick-true _ (fine gs) (refused 18 0 0) (le-leb (length gs) 4096 (rw size at h))) w, λ h. rw (pick-false _ (fine gs) (refused 18 0 0) (lt-leb (length gs) 4096 (rw size at h))) refl)
+    (λ h. rw (pick-true _ (fine gs) (refused TooMuch 0 0) (le-leb (length gs) 4096 (rw size at h))) w, λ h. rw (pick-false _ (fine gs) (refused TooMuch 0 0) (lt-leb (length gs) 4096 (rw size at h))) refl)
 done-by (refused c l f) o at n p o′ w = clash (cc)
 
-refused-by : (x : Outcome (List Guess)) (o : List ℕ) (at c l f : ℕ) (o′ : List ℕ) → GuessesTold x o at (Refused c l f) o′ → GuessesTold (andThen x counted) o at (Refused c l f) o′
+refused-by : (x : Outcome (List Guess)) (o : List ℕ) (at : ℕ) (c : Refusal) (l f : ℕ) (o′ : List ℕ) → GuessesTold x o at (Refused c l f) o′ → GuessesTold (andThen x counted) o at (Refused c l f) o′
 unfolding GuessesTold andThen
 refused-by (fine gs) o at c l f o′ w = let e = w .1 in clash (cc)
 refused-by (refused d m g) o at c l f o′ w = w
 
-module _ (kind : NameType) (s : List ℕ) (x : FileAt) (e : Finds s (fileNamed (prefixOf kind ++ langPart) 0 (filesOf s)) x) (names o : List ℕ) (at : ℕ) where
-  pub load-missing : x ≡ file-at.Missing → GuessesTold (guessFile kind (filesOf s) names) o at (Refused 11 0 0) o
+module _ (kind : NameType) (s : List ℕ) (x : FileAt) (e : numbersOf x ≡ fileAt s (prefixOf kind ++ langPart)) (names o : List ℕ) (at : ℕ) where
+  pub load-missing : x ≡ file-at.Missing → GuessesTold (guessFile kind (filesOf s) names) o at (Refused FileMissing 0 0) o
   unfolding guessFile onListed GuessesTold
   load-missing q = rw (missing-is s _ x e q) refl
 
@@ -114,14 +116,14 @@ module _ (kind : NameType) (s : List ℕ) (x : FileAt) (e : Finds s (fileNamed (
       unfolding GuessesAre
       told y z = rw z at w
 
-      pub load-refused : (c l f : ℕ) → g ≡ Refused c l f → GuessesTold (guessFile kind (filesOf s) names) o at (Refused c l f) o′
+      pub load-refused : (c : Refusal) (l f : ℕ) → g ≡ Refused c l f → GuessesTold (guessFile kind (filesOf s) names) o at (Refused c l f) o′
       load-refused c l f z = rw (← is-file) (refused-by inFile o at c l f o′ (told _ z))
 
       module _ (n p : ℕ) (z : g ≡ Done n p) where
         pub load-done : n ≤ 4096 → GuessesTold (guessFile kind (filesOf s) names) o at (Done n p) o′
         load-done h = rw (← is-file) (done-by inFile o at n p o′ (told _ z) .0 h)
 
-        pub load-many : 4096 < n → GuessesTold (guessFile kind (filesOf s) names) o at (Refused 18 0 0) o′
+        pub load-many : 4096 < n → GuessesTold (guessFile kind (filesOf s) names) o at (Refused TooMuch 0 0) o′
         load-many h = rw (← is-file) (done-by inFile o at n p o′ (told _ z) .1 h)
 
 pub ruleset load-laws = (load-missing, load-order, load-within, load-refused, load-done, load-many)

@@ -1,17 +1,19 @@
 -- The lines of a language list or a guessing file (01, Rule files and includes).
 use Prim.Native.Nat.{ℕ, _+_}
 use mathlib.Core.List.{List, [], _∷_}
+use Rattle.refusals.specs.declared.Refusal.{Refusal}
+use Rattle.refusals.specs.declared.Refusal.the-variants.{LineUnreadable}
 use Rattle.rules_parser.specs.declared.lines.Told.{Told}
 use Rattle.rules_parser.specs.declared.files.Item.{Item}
 use Rattle.rules_parser.specs.declared.files.Item.the-variants.{Passed, Tells, Wrong}
 use Rattle.rule_lists.specs.Outcomes.{Outcome, fine, refused, andThen}
 
--- what a line is kept as, or the number of its fault
+-- what a line is kept as, or its fault
 pub data Kept (A : Type 0) : Type 0 where
   keeps : A → Kept A
-  fault : ℕ → Kept A
+  fault : Refusal → Kept A
 
-unfoldable pub onKept : {A B : Type 0} → Kept A → (ℕ → Outcome B) → (A → Outcome B) → Outcome B
+unfoldable pub onKept : {A B : Type 0} → Kept A → (Refusal → Outcome B) → (A → Outcome B) → Outcome B
 onKept (keeps a) bad k = k a
 onKept (fault c) bad k = bad c
 
@@ -21,4 +23,4 @@ toldIn meaning f l [] = fine []
 toldIn meaning f l (Passed k n ∷ is) = toldIn meaning f (l + k) is
 toldIn meaning f l (Tells t n ∷ is) =
     onKept (meaning t) (λ c. refused c l f) (λ a. andThen (toldIn meaning f (l + 1) is) (λ rest. fine (a ∷ rest)))
-toldIn meaning f l (Wrong ∷ is) = refused 12 l f
+toldIn meaning f l (Wrong ∷ is) = refused LineUnreadable l f

@@ -5,6 +5,7 @@ use mathlib.Core.List.{List}
 use lib.Dec.{leb, ltb}
 use lib.ListN.{length}
 use Rattle.base.specs.Pick.{pick}
+use Rattle.refusals.specs.declared.Refusal.the-variants.{LineUnreadable, OutsideForms, NameUnlisted, TooMuch}
 use Rattle.languages.specs.declared.names.Listed.{Listed}
 use Rattle.languages.specs.declared.names.Listed.the-variants.{Bit, Unlisted}
 use Rattle.phonemes.specs.Expressions.{cutAt, plus, namesMask}
@@ -26,18 +27,18 @@ acceptOf false = 0
 -- "an unlisted name in a rule or guessing line, an empty one too, is 16"
 unfoldable pub withMask : Bool → List ℕ → Listed → Kept packs.Guess
 withMask v pattern (Bit m) = keeps (packs.guess (acceptOf v) m pattern)
-withMask v pattern Unlisted = fault 16
+withMask v pattern Unlisted = fault NameUnlisted
 
 -- "in a line 12, 13, 18, 15 .., 16"
 unfoldable pub judged : List ℕ → Bool → List ℕ → List ℕ → Kept packs.Guess
 judged names v pattern joined =
-    pick (ltb 255 (length pattern)) (fault 18) (pick (inForms pattern) (withMask v pattern (namesMask names (cutAt plus joined))) (fault 15))
+    pick (ltb 255 (length pattern)) (fault TooMuch) (pick (inForms pattern) (withMask v pattern (namesMask names (cutAt plus joined))) (fault OutsideForms))
 
 unfoldable pub guessOf : List ℕ → List ℕ → Told → Kept packs.Guess
-guessOf names s (Rule a b c d) = fault 12
-guessOf names s (Include t) = fault 12
+guessOf names s (Rule a b c d) = fault LineUnreadable
+guessOf names s (Include t) = fault LineUnreadable
 guessOf names s (Guess a b v) = judged names v (partOf s a) (partOf s b)
-guessOf names s (Name t) = fault 12
+guessOf names s (Name t) = fault LineUnreadable
 
 -- the guessing rules of file f, whose content is s; `names` is the bytes of the languages, each behind its length byte
 unfoldable pub guessesIn : List ℕ → ℕ → List ℕ → Outcome (List packs.Guess)
@@ -45,7 +46,7 @@ guessesIn names f s = toldIn (guessOf names s) f 1 (itemsOf Guesses s)
 
 -- "over 4,096 guessing rules"
 unfoldable pub counted : List packs.Guess → Outcome (List packs.Guess)
-counted gs = pick (leb (length gs) 4096) (fine gs) (refused 18 0 0)
+counted gs = pick (leb (length gs) 4096) (fine gs) (refused TooMuch 0 0)
 
 unfoldable pub guessesOf : List ℕ → ℕ → List ℕ → Outcome (List packs.Guess)
 guessesOf names f s = andThen (guessesIn names f s) counted

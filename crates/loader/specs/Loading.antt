@@ -6,11 +6,15 @@ use lib.Dec.{leb}
 use lib.ListN.{length}
 use lib.Seq.{sets}
 use Rattle.base.specs.Pick.{pick}
+use Rattle.refusals.specs.declared.Refusal.{Refusal}
+use Rattle.refusals.specs.declared.Refusal.the-variants.{SettingUnknown, NoRoom, BundleBroken, FileMissing}
 use Rattle.prefixes.specs.declared.prefixes.NameType.{NameType}
 use Rattle.prefixes.specs.declared.prefixes.NameType.the-variants.{Ashkenazi, Generic, Sephardic}
+use Rattle.refusals.specs.Numbers.{numberOf}
+use Rattle.pack.specs.Reading.{Read, cut, got}
 use Rattle.pack.specs.Packs.{Guess, Rule, Pack}
 use Rattle.pack_bytes.specs.Bytes.{namesBytes, packBytes}
-use Rattle.bundles.specs.Bundles.{File, Found, missing, found, readBundle, wellFormed, filesOf, fileNamed}
+use Rattle.bundles.specs.Bundles.{File, Found, missing, found, readBundle, wellFormed, fileNamed}
 use Rattle.rule_lists.specs.Outcomes.{Outcome, fine, refused, andThen}
 use Rattle.rule_lists.specs.Lists.{listsOf, listFiles, prefixOf}
 use Rattle.loader.specs.Languages.{languagesOf}
@@ -34,7 +38,7 @@ langPart = 95 ∷ 108 ∷ 97 ∷ 110 ∷ 103 ∷ []
 
 -- a listed file; one that isn't in the bundle is 11 without a line
 unfoldable pub onListed : {A : Type 0} → Found → (ℕ → List ℕ → Outcome A) → Outcome A
-onListed missing k = refused 11 0 0
+onListed missing k = refused FileMissing 0 0
 onListed (found f s) k = k f s
 
 unfoldable pub namesOf : NameType → List File → Outcome (List (List ℕ))
@@ -55,9 +59,13 @@ packIn kind fs =
     andThen (listsIn kind fs names) λ lists.
     fine (record { names = names; guesses = guesses; lists = lists })
 
--- "10 bundle badly formed"
+-- "10 bundle badly formed": the files of a bundle are those that were read
+unfoldable pub onBundle : {A : Type 0} → Read (List File) → (List File → Outcome A) → Outcome A
+onBundle cut k = refused BundleBroken 0 0
+onBundle (got files r) k = pick (wellFormed (got files r)) (k files) (refused BundleBroken 0 0)
+
 unfoldable pub loadOf : ℕ → List ℕ → Outcome Pack
-loadOf ty s = onType ty (refused 4 0 0) (λ kind. pick (wellFormed (readBundle s)) (packIn kind (filesOf s)) (refused 10 0 0))
+loadOf ty s = onType ty (refused SettingUnknown 0 0) (λ kind. onBundle (readBundle s) (packIn kind))
 
 -- ---- the answer, and what is left in the buffer
 
@@ -65,28 +73,34 @@ unfoldable pub written : Outcome Pack → Outcome (List ℕ)
 written (fine p) = fine (packBytes p)
 written (refused c l f) = refused c l f
 
--- an answer's numbers, as the table has them: 0 with the bytes written, or the refusal's code, place and file
+-- an answer's numbers, as the table has them: 0 with the bytes written, or the refusal's number, place and file
 pub record Numbers : Type 0 where
   pub code : ℕ
   pub place : ℕ
   pub file : ℕ
 
-unfoldable pub numbersOf : Loaded → Numbers
-numbersOf (Done n) = record { code = 0; place = n; file = 0 }
-numbersOf (Refused c p f) = record { code = c; place = p; file = f }
+abbrev pub doneAt : ℕ → Numbers
+doneAt n = record { code = 0; place = n; file = 0 }
 
--- "9 .. pack longer than the output buffer: length needed, 4294967295 if more"
-unfoldable pub answer : Outcome (List ℕ) → ℕ → Loaded
-answer (fine bytes) room = pick (leb (length bytes) room) (Done (length bytes)) (Refused 9 (min 4294967295 (length bytes)) 0)
-answer (refused c l f) room = Refused c l f
+abbrev pub refusedAt : Refusal → ℕ → ℕ → Numbers
+refusedAt w p f = record { code = numberOf w; place = p; file = f }
+
+unfoldable pub numbersOf : Loaded → Numbers
+numbersOf (Done n) = doneAt n
+numbersOf (Refused w p f) = refusedAt w p f
+
+-- the numbers of what was loaded, in a buffer with that room. "9 .. pack longer than the output buffer: length needed, 4294967295 if more"
+unfoldable pub answer : Outcome (List ℕ) → ℕ → Numbers
+answer (fine bytes) room = pick (leb (length bytes) room) (doneAt (length bytes)) (refusedAt NoRoom (min 4294967295 (length bytes)) 0)
+answer (refused w l f) room = refusedAt w l f
 
 -- "A refusal .. writes nothing; a success leaves bytes after the answer unchanged."
 unfoldable pub filled : Outcome (List ℕ) → List ℕ → List ℕ
 filled (fine bytes) out = pick (leb (length bytes) (length out)) (sets out 0 bytes) out
-filled (refused c l f) out = out
+filled (refused w l f) out = out
 
 pub record AnswerIs (x : Outcome (List ℕ)) (out : List ℕ) (r : Loaded) (out′ : List ℕ) : Type 0 where
-  pub result : r ≡ answer x (length out)
+  pub result : numbersOf r ≡ answer x (length out)
   pub buffer : out′ ≡ filled x out
 
 -- the promise of `load`

@@ -4,21 +4,29 @@ ghost use Prim.Native.Nat.{_≤_};
 ghost use Rattle.name_parts.specs.Writing.{Put, cap};
 ghost use Rattle.loader.specs.Walks.{guessPut, judgedAs, GuessesAre};
 use languages::Listed;
+use refusals::Refusal;
 use rules_parser::FileKind;
 use rules_parser::Item;
 use rules_parser::Text;
 use rules_parser::Told;
 
-// The mask of a guessing rule, or the number of its fault.
+// The mask of a guessing rule, or its fault.
 pub(crate) enum Judged {
     Mask { mask: u32 },
-    Fault { code: u32 },
+    Fault { why: Refusal },
 }
 
 // How many rules were written and where they end, or the refusal.
 pub(crate) enum Guessed {
-    Done { count: usize, at: usize },
-    Refused { code: u32, line: usize, file: usize },
+    Done {
+        count: usize,
+        at: usize,
+    },
+    Refused {
+        why: Refusal,
+        line: usize,
+        file: usize,
+    },
 }
 
 // In the order 18, 15, 16.
@@ -26,15 +34,21 @@ fn judge(names: &[u8], pattern: &[u8], joined: &[u8]) -> Judged
     ensures { λ r. ⌜ r ≡ judgedAs (now (names .entry)) (now (pattern .entry)) (now (joined .entry)) ⌝ }
 {
     if 255 < pattern.len() {
-        return Judged::Fault { code: 18 };
+        return Judged::Fault {
+            why: Refusal::TooMuch,
+        };
     }
     if lang::check_pattern(pattern) {
         match phonemes::names_mask(names, joined) {
             Listed::Bit(mask) => Judged::Mask { mask },
-            Listed::Unlisted => Judged::Fault { code: 16 },
+            Listed::Unlisted => Judged::Fault {
+                why: Refusal::NameUnlisted,
+            },
         }
     } else {
-        Judged::Fault { code: 15 }
+        Judged::Fault {
+            why: Refusal::OutsideForms,
+        }
     }
 }
 
@@ -82,8 +96,8 @@ pub(crate) fn write_guesses(
                             line += 1;
                             p = next;
                         }
-                        Judged::Fault { code } => {
-                            return Guessed::Refused { code, line, file };
+                        Judged::Fault { why } => {
+                            return Guessed::Refused { why, line, file };
                         }
                     }
                 }
@@ -94,21 +108,21 @@ pub(crate) fn write_guesses(
                     expression: _,
                 } => {
                     return Guessed::Refused {
-                        code: 12,
+                        why: Refusal::LineUnreadable,
                         line,
                         file,
                     };
                 }
                 Told::Include { name: _ } => {
                     return Guessed::Refused {
-                        code: 12,
+                        why: Refusal::LineUnreadable,
                         line,
                         file,
                     };
                 }
                 Told::Name { name: _ } => {
                     return Guessed::Refused {
-                        code: 12,
+                        why: Refusal::LineUnreadable,
                         line,
                         file,
                     };
@@ -116,7 +130,7 @@ pub(crate) fn write_guesses(
             },
             Item::Wrong => {
                 return Guessed::Refused {
-                    code: 12,
+                    why: Refusal::LineUnreadable,
                     line,
                     file,
                 };

@@ -4,8 +4,8 @@ ghost use mathlib.Core.List.{List, _++_};
 ghost use Prim.Native.Nat.{ℕ, _≤_, min};
 ghost use lib.ListN.{length};
 ghost use Rattle.name_parts.specs.Writing.{Put, cap};
-ghost use Rattle.bundles.specs.Bundles.{filesOf, fileNamed};
-ghost use Rattle.bundles.specs.Walks.{Finds};
+ghost use Rattle.bundles.specs.Bundles.{filesOf};
+ghost use Rattle.bundles.specs.Places.{fileAt};
 ghost use Rattle.rule_lists.specs.Outcomes.{Told};
 ghost use Rattle.rule_lists.specs.Lists.{prefixOf};
 ghost use Rattle.loader.specs.Loading.{languagesPart, langPart, namesOf, guessFile, packIn, written, AnswerIs, LoadIs};
@@ -14,15 +14,16 @@ use crate::guesses::Guessed;
 use crate::language_list::Names;
 use bundles::FileAt;
 use prefixes::NameType;
+use refusals::Refusal;
 use rule_lists::Written;
 
-// The pack's length, or the refusal: its code, its line (the length needed for 9), and the file's number in the bundle.
+// The pack's length, or the refusal: which, its line (the length needed for 9), and the file's number in the bundle.
 pub enum Loaded {
     Done {
         length: usize,
     },
     Refused {
-        code: u32,
+        why: Refusal,
         place: usize,
         file: usize,
     },
@@ -56,7 +57,7 @@ fn kind_of(name_type: u32) -> Kind
 
 // The language list of a type.
 fn languages_file(kind: NameType, bundle: &[u8]) -> FileAt
-    ensures { λ r. ⌜ Finds (now (bundle .entry)) (fileNamed (prefixOf kind ++ languagesPart) 0 (filesOf (now (bundle .entry)))) r ⌝ }
+    ensures { λ r. ⌜ Rattle.bundles.specs.Places.numbersOf r ≡ fileAt (now (bundle .entry)) (prefixOf kind ++ languagesPart) ⌝ }
 {
     match kind {
         NameType::Ashkenazi => bundles::find_file(bundle, b"ash_languages"),
@@ -67,7 +68,7 @@ fn languages_file(kind: NameType, bundle: &[u8]) -> FileAt
 
 // The guessing file of a type.
 fn guessing_file(kind: NameType, bundle: &[u8]) -> FileAt
-    ensures { λ r. ⌜ Finds (now (bundle .entry)) (fileNamed (prefixOf kind ++ langPart) 0 (filesOf (now (bundle .entry)))) r ⌝ }
+    ensures { λ r. ⌜ Rattle.bundles.specs.Places.numbersOf r ≡ fileAt (now (bundle .entry)) (prefixOf kind ++ langPart) ⌝ }
 {
     match kind {
         NameType::Ashkenazi => bundles::find_file(bundle, b"ash_lang"),
@@ -86,7 +87,7 @@ fn load_names(kind: NameType, bundle: &[u8], names: &mut [u8]) -> Names
             crate::language_list::read_names(&bundle[start..end], number, names)
         }
         FileAt::Missing => Names::Refused {
-            code: 11,
+            why: Refusal::FileMissing,
             line: 0,
             file: 0,
         },
@@ -104,7 +105,7 @@ fn load_guesses(kind: NameType, bundle: &[u8], names: &[u8], out: &mut [u8], at:
                 Guessed::Done { count, at: end } => {
                     if 4096 < count {
                         Guessed::Refused {
-                            code: 18,
+                            why: Refusal::TooMuch,
                             line: 0,
                             file: 0,
                         }
@@ -112,11 +113,11 @@ fn load_guesses(kind: NameType, bundle: &[u8], names: &[u8], out: &mut [u8], at:
                         Guessed::Done { count, at: end }
                     }
                 }
-                Guessed::Refused { code, line, file } => Guessed::Refused { code, line, file },
+                Guessed::Refused { why, line, file } => Guessed::Refused { why, line, file },
             }
         }
         FileAt::Missing => Guessed::Refused {
-            code: 11,
+            why: Refusal::FileMissing,
             line: 0,
             file: 0,
         },
@@ -151,7 +152,7 @@ fn write_pack(
             let q = name_parts::push(out, at, (3 * languages + 2) as u8);
             rule_lists::write_lists(kind, bundle, names, out, q)
         }
-        Guessed::Refused { code, line, file } => Written::Refused { code, line, file },
+        Guessed::Refused { why, line, file } => Written::Refused { why, line, file },
     }
 }
 
@@ -183,7 +184,7 @@ fn load_pack(
         Written::Done { at: length } => {
             if out.len() < length {
                 return Loaded::Refused {
-                    code: 9,
+                    why: Refusal::NoRoom,
                     place: needed(length),
                     file: 0,
                 };
@@ -191,8 +192,8 @@ fn load_pack(
             write_pack(kind, bundle, names, languages, guesses, out);
             Loaded::Done { length }
         }
-        Written::Refused { code, line, file } => Loaded::Refused {
-            code,
+        Written::Refused { why, line, file } => Loaded::Refused {
+            why,
             place: line,
             file,
         },
@@ -213,14 +214,14 @@ fn load_files(kind: NameType, bundle: &[u8], out: &mut [u8]) -> Loaded
             Guessed::Done { count, at: _ } => {
                 load_pack(kind, bundle, &names[0..len], languages, count, out)
             }
-            Guessed::Refused { code, line, file } => Loaded::Refused {
-                code,
+            Guessed::Refused { why, line, file } => Loaded::Refused {
+                why,
                 place: line,
                 file,
             },
         },
-        Names::Refused { code, line, file } => Loaded::Refused {
-            code,
+        Names::Refused { why, line, file } => Loaded::Refused {
+            why,
             place: line,
             file,
         },
@@ -237,14 +238,14 @@ pub fn load(name_type: u32, bundle: &[u8], out: &mut [u8]) -> Loaded
                 load_files(kind, bundle, out)
             } else {
                 Loaded::Refused {
-                    code: 10,
+                    why: Refusal::BundleBroken,
                     place: 0,
                     file: 0,
                 }
             }
         }
         Kind::Unknown => Loaded::Refused {
-            code: 4,
+            why: Refusal::SettingUnknown,
             place: 0,
             file: 0,
         },

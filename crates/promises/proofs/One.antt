@@ -1,6 +1,6 @@
 -- What each public function promises (its `ensures`) allows one result, and one content of each buffer lent to it, for any input
--- (01, What the statements have to settle). A law for each function, named CRATE-FUNCTION. Three promises leave something open, as said there:
--- `find_file` (which of equal places), `write_lists` (the buffer after a refusal), `word` (its work buffers). Assumes nothing.
+-- (01, What the statements have to settle). A law for each function, named CRATE-FUNCTION. Two promises leave something open, as said there:
+-- `write_lists` (the buffer after a refusal), `word` (its work buffers). Assumes nothing.
 use mathlib.Core.Path.{_≡_, sym, ap, _∙_}
 use mathlib.Core.Bool.{Bool}
 use mathlib.Core.List.{List, [], _∷_}
@@ -38,10 +38,9 @@ use Rattle.rules_parser.specs.Files.{itemAt}
 use Rattle.rules_parser.specs.declared.fields.Text as field
 use Rattle.rules_parser.specs.declared.lines.FileKind.{FileKind}
 use Rattle.pack_bytes.specs.Bytes.{textPut, countBytes, maskBytes, listBytes}
-use Rattle.bundles.specs.Bundles.{Found, missing, found, readBundle, wellFormed, filesOf, fileNamed}
-use Rattle.bundles.specs.Walks.{Finds}
-use Rattle.bundles.specs.declared.FileAt.{FileAt}
-use Rattle.bundles.specs.declared.FileAt.the-variants as file-at
+use Rattle.bundles.specs.Bundles.{readBundle, wellFormed, filesOf}
+use Rattle.bundles.specs.Places.{numbersOf, fileAt}
+use Rattle.bundles.proofs.Laws.{numbers-one}
 use Rattle.held.specs.Tables.{bytesOf}
 use Rattle.rule_lists.specs.Outcomes.{Outcome, fine, refused, Told}
 use Rattle.rule_lists.specs.Lists as lists
@@ -282,22 +281,8 @@ pub «pack_bytes-put-mask» : (mask : ℕ) (out : List ℕ) (at : ℕ) → OneAn
 pub bundles-check-bundle : (bundle : List ℕ) → One (λ r. r ≡ wellFormed (readBundle bundle))
 bundles-check-bundle bundle x y = one
 
--- what a file's places say: its number and what stands there
-unfoldable pub seen : List ℕ → FileAt → Found
-seen s (file-at.At k a b) = found k (take (b - a) (drop a s))
-seen s file-at.Missing = missing
-
-finds-is : (s : List ℕ) (f : Found) (r : FileAt) → Finds s f r → seen s r ≡ f
-unfolding Finds seen
-finds-is s missing r e = ap (seen s) e
-finds-is s (found k c) r (a, b, e, w) = ap (seen s) e ∙ ap (found k) (w .is)
-
--- one number and one content; of two places where the same bytes stand, the promise does not say which
-abbrev pub OneSeen : List ℕ → (FileAt → Type 0) → Type 0
-OneSeen s P = (x y : FileAt) → P x → P y → seen s x ≡ seen s y
-
-pub bundles-find-file : (bundle wanted : List ℕ) → OneSeen bundle (λ r. Finds bundle (fileNamed wanted 0 (filesOf bundle)) r)
-bundles-find-file bundle wanted x y a b = one (finds-is bundle _ x a) (finds-is bundle _ y b)
+pub bundles-find-file : (bundle wanted : List ℕ) → One (λ r. numbersOf r ≡ fileAt bundle wanted)
+bundles-find-file bundle wanted x y a b = numbers-one x y (one a b)
 
 -- ---- rule_lists
 

@@ -9,12 +9,14 @@ use lib.Dec.{eqb, ltb}
 use lib.ListN.{length, take, drop}
 use borrow.Author.Tests.{eqb-true, ltb-false, leb-true, le-leb}
 use Rattle.base.specs.Pick.{pick, pick-inv, and-yes}
+use Rattle.refusals.specs.declared.Refusal.{Refusal}
+use Rattle.refusals.specs.declared.Refusal.the-variants.{FileMissing, PatternEmpty, TooMuch}
 use Rattle.name_parts.proofs.Laws.{clash}
 use Rattle.pack.specs.Packs.{Rule, ordered}
 use Rattle.pack_bytes.specs.Bytes.{textBytes, textPut, countBytes, ruleBytes, listBytes}
 use Rattle.pack_bytes.specs.Bytes as bytes
 use Rattle.bundles.specs.Bundles.{File, Found, missing, found, filesOf, fileNamed}
-use Rattle.bundles.specs.Walks.{Finds}
+use Rattle.bundles.specs.Places.{numbersOf, fileAt}
 use Rattle.bundles.specs.declared.FileAt.{FileAt}
 use Rattle.bundles.specs.declared.FileAt.the-variants.{At, Missing}
 use Rattle.bundles.proofs.Laws.{missing-is, found-is}
@@ -26,6 +28,8 @@ use Rattle.held.proofs.Finished.{From, finished-from, length-kept}
 use Rattle.held.proofs.Keys.{finished-keys}
 use Rattle.held.proofs.Reading.{listed-entries}
 use Rattle.rule_lists.specs.Outcomes.{Outcome, fine, refused, andThen, Told}
+use Rattle.rule_lists.specs.declared.lines.Fault.{Fault}
+use Rattle.rule_lists.specs.declared.lines.Fault.the-variants.{Is, Without}
 use Rattle.rule_lists.specs.Lines.{lengthFault, orElse, ruleFault, linesOf}
 use Rattle.rule_lists.specs.Tables.{KeptIs, keysOf, Low}
 use Rattle.rule_lists.specs.Walks.{firstOf, filesFor, counted, keptOf, CollectIs}
@@ -39,29 +43,30 @@ use Rattle.rule_lists.proofs.WalkLaws.{GoodRead, each-read, each-finish
 
 -- ---- a rule without a fault is written as a pack has it: its strings fit their length bytes
 
-or-first : (a b : ℕ) → orElse a b ≡ 0 → a ≡ 0
+or-first : (a b : Fault) → orElse a b ≡ Without → a ≡ Without
 unfolding orElse
-or-first a b e = ⊎-elim (λ w. eqb-true a 0 (w .0)) (λ w. w .1) (pick-inv (eqb a 0) b a 0 e)
+or-first Without b e = refl
+or-first (Is w) b e = e
 
-some-length : (p x : ℕ) → pick (eqb p 0) 13 x ≡ 0 → x ≡ 0
-some-length p x e = ⊎-elim (λ w. let no-way : ⊥ = omega (arith, w .1) in absurd no-way) (λ w. w .1) (pick-inv (eqb p 0) 13 x 0 e)
+some-length : (p : ℕ) (x : Fault) → pick (eqb p 0) (Is PatternEmpty) x ≡ Without → x ≡ Without
+some-length p x e = ⊎-elim (λ w. clash (cc (w .1))) (λ w. w .1) (pick-inv (eqb p 0) (Is PatternEmpty) x Without e)
 
-short-length : (p x : ℕ) → pick (ltb 255 p) 18 x ≡ 0 → (p ≤ 255) × (x ≡ 0)
-short-length p x e = ⊎-elim (λ w. let no-way : ⊥ = omega (arith, w .1) in absurd no-way) (λ w. (ltb-false 255 p (w .0), w .1)) (pick-inv (ltb 255 p) 18 x 0 e)
+short-length : (p : ℕ) (x : Fault) → pick (ltb 255 p) (Is TooMuch) x ≡ Without → (p ≤ 255) × (x ≡ Without)
+short-length p x e = ⊎-elim (λ w. clash (cc (w .1))) (λ w. (ltb-false 255 p (w .0), w .1)) (pick-inv (ltb 255 p) (Is TooMuch) x Without e)
 
 text-short : (t : List ℕ) → length t ≤ 255 → textPut t ≡ textBytes t
 unfolding textPut textBytes
 text-short t h = let e : length t % 256 ≡ length t = omega arith in ap (λ (n : ℕ). n ∷ t) e
 
-lengths-short : (p l r e : ℕ) → lengthFault p l r e ≡ 0 → (p ≤ 255) × (l ≤ 255) × (r ≤ 255) × (e ≤ 255)
+lengths-short : (p l r e : ℕ) → lengthFault p l r e ≡ Without → (p ≤ 255) × (l ≤ 255) × (r ≤ 255) × (e ≤ 255)
 unfolding lengthFault
 lengths-short p l r e h =
     let a = short-length p _ (some-length p _ h) in
     let b = short-length l _ (a .1) in
     let c = short-length r _ (b .1) in
-    (a .0, b .0, c .0, short-length e 0 (c .1) .0)
+    (a .0, b .0, c .0, short-length e Without (c .1) .0)
 
-rule-short : (names : List ℕ) (r : Rule) → ruleFault names r ≡ 0 → rulePut r ≡ ruleBytes r
+rule-short : (names : List ℕ) (r : Rule) → ruleFault names r ≡ Without → rulePut r ≡ ruleBytes r
 unfolding rulePut ruleBytes ruleFault
 rule-short names r e =
     let w = lengths-short (length (r .pattern)) (length (r .left)) (length (r .right)) (length (r .expression)) (or-first _ _ e) in
@@ -76,7 +81,7 @@ rules-short names (r ∷ rs) (bytes.more h e) = ap₂ _++_ (rule-short names r (
 
 counted-fine : (x : Read Rule) (t : Met Rule) → counted x ≡ fine t → (x ≡ good t) × (length (finished firstOf t) ≤ 4096)
 unfolding counted
-counted-fine (good u) t e = ⊎-elim (λ w. let q : u ≡ t = cc (w .1) in (ap good q, rw q at (leb-true (length (finished firstOf u)) 4096 (w .0)))) (λ w. clash (cc (w .1))) (pick-inv _ (fine u) (refused 18 0 0) (fine t) e)
+counted-fine (good u) t e = ⊎-elim (λ w. let q : u ≡ t = cc (w .1) in (ap good q, rw q at (leb-true (length (finished firstOf u)) 4096 (w .0)))) (λ w. clash (cc (w .1))) (pick-inv _ (fine u) (refused TooMuch 0 0) (fine t) e)
 counted-fine (files.refused c l f) t e = clash (cc)
 
 collect-done : (bundle : List ℕ) (x : Outcome (Met Rule)) (g : Collected) (rows : List ℕ) (n : ℕ) → CollectIs bundle x g rows → g ≡ collected.Rules n → (t : Met Rule) × (x ≡ fine t) × KeptIs bundle rows n (keptOf t)
@@ -84,7 +89,7 @@ unfolding CollectIs
 collect-done bundle (fine t) g rows n w e = let q : w .0 ≡ n = cc (w .1) in (t, refl, rw q at (w .2))
 collect-done bundle (refused c l f) g rows n w e = clash (cc)
 
-collect-stop : (bundle : List ℕ) (x : Outcome (Met Rule)) (g : Collected) (rows : List ℕ) (c l f : ℕ) → CollectIs bundle x g rows → g ≡ collected.Refused c l f → x ≡ refused c l f
+collect-stop : (bundle : List ℕ) (x : Outcome (Met Rule)) (g : Collected) (rows : List ℕ) (c : Refusal) (l f : ℕ) → CollectIs bundle x g rows → g ≡ collected.Refused c l f → x ≡ refused c l f
 unfolding CollectIs
 collect-stop bundle (fine t) g rows c l f w e = clash (cc (w .1))
 collect-stop bundle (refused d m k) g rows c l f w e = cc
@@ -113,18 +118,18 @@ module _ (names : List ℕ) (fs : List File) (k : ℕ) (s : List ℕ) (t : Met R
       (ap (keyBytes rulePut (keptOf t)) (ap (λ (m : ℕ). keysOf rows m 0 []) (sym kept) ∙ keys-rows bundle rows (keptOf t) (kept-rows h few))
       ∙ finished-keys firstOf rulePut t short (within-all t) (omega (arith, kept)) ∙ rules-short names (finished firstOf t) good-finished)
 
-module _ (bundle names wanted : List ℕ) (f : FileAt) (w : Finds bundle (fileNamed wanted 0 (filesOf bundle)) f) where
-  pub list-missing : f ≡ Missing → (o : List ℕ) (at : ℕ) → Told listBytes (listOf names (filesOf bundle) wanted) o o at (Refused 11 0 0)
+module _ (bundle names wanted : List ℕ) (f : FileAt) (w : numbersOf f ≡ fileAt bundle wanted) where
+  pub list-missing : f ≡ Missing → (o : List ℕ) (at : ℕ) → Told listBytes (listOf names (filesOf bundle) wanted) o o at (Refused FileMissing 0 0)
   unfolding listOf listIn Told
-  list-missing q o at = rw (missing-is bundle _ f w q) refl
+  list-missing q o at = rw (missing-is bundle wanted f w q) refl
 
   module _ (k a b : ℕ) (q : f ≡ At k a b) where
     list-found : listOf names (filesOf bundle) wanted ≡ andThen (counted (readListed (filesFor names (filesOf bundle)) k (linesOf names (take (b - a) (drop a bundle))))) (λ t. fine (finished firstOf t))
     unfolding listOf listIn
-    list-found = ap (listIn names (filesOf bundle)) (found-is bundle _ f w k a b q)
+    list-found = ap (listIn names (filesOf bundle)) (found-is bundle wanted f w k a b q)
 
     module _ (g : Collected) (rows : List ℕ) (v : CollectIs bundle (counted (readListed (filesFor names (filesOf bundle)) k (linesOf names (take (b - a) (drop a bundle))))) g rows) where
-      pub list-refused : (c l i : ℕ) → g ≡ collected.Refused c l i → (o o′ : List ℕ) (at : ℕ) → Told listBytes (listOf names (filesOf bundle) wanted) o o′ at (Refused c l i)
+      pub list-refused : (c : Refusal) (l i : ℕ) → g ≡ collected.Refused c l i → (o o′ : List ℕ) (at : ℕ) → Told listBytes (listOf names (filesOf bundle) wanted) o o′ at (Refused c l i)
       unfolding Told andThen
       list-refused c l i e o o′ at = rw (list-found, collect-stop bundle _ g rows c l i v e) refl
 

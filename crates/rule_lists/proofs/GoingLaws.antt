@@ -9,6 +9,8 @@ use lib.Dec.{leb, eqb}
 use lib.ListN.{length, take, drop, length-take, length-drop}
 use borrow.Author.Tests.{leb-false, eqb-true}
 use Rattle.base.specs.Pick.{pick}
+use Rattle.refusals.specs.declared.Refusal.{Refusal}
+use Rattle.refusals.specs.declared.Refusal.the-variants.{FileMissing, IncludeTooDeep}
 use Rattle.rule.specs.Matching.{firstCode}
 use Rattle.pack.specs.Packs.{Rule}
 use Rattle.bundles.specs.Bundles.{Found, missing, found, filesOf, fileNamed}
@@ -23,6 +25,8 @@ use Rattle.rules_parser.specs.declared.files.Item.the-variants as item
 use Rattle.rules_parser.proofs.Laws.{passed-goes, passed-in, passed-lines, tells-goes, tells-in, items-start, items-end, items-passed, items-tells, items-wrong}
 use Rattle.held.specs.Met.{end, rule, file, entries}
 use Rattle.held.specs.Files.{Line, passed, is-rule, include, bad, Read, good, refused, before, onRead, onContent, readLines, follow}
+use Rattle.rule_lists.specs.declared.lines.Fault.{Fault}
+use Rattle.rule_lists.specs.declared.lines.Fault.the-variants.{Is, Without}
 use Rattle.rule_lists.specs.Lines.{ruleFault, ruleIn, judged, lineOf, linesOf, rowBy, rowOf, rowIn, rowAt}
 use Rattle.rule_lists.specs.Tables.{Reads, SpotIs}
 use Rattle.rule_lists.specs.Walks.{contentIn, filesFor, Known, ruled, tally, stateOf, Holds, Ready, RuledIs, not, entryIn, entryOf, EntersIs, Told, readFrom, WalkIs}
@@ -54,7 +58,7 @@ pub record Goes (names s : List ℕ) (p k n : ℕ) (x : Line Rule) : Type 0 wher
 pub record RuleRow (names s : List ℕ) (p k n : ℕ) : Type 0 where
   pub is : Rule
   pub first : k ≡ firstCode (is .pattern)
-  pub sound : ruleFault names is ≡ 0
+  pub sound : ruleFault names is ≡ Without
   pub reads : Reads s p is
   pub goes : Goes names s p 1 n (is-rule is)
 
@@ -77,12 +81,11 @@ module _ (names s : List ℕ) (p : ℕ) (h : p < length s) where
       let a = passed-goes Rules s p k n q in
       let b = passed-lines Rules s p k n q in
       record { left = ap (map (lineOf names s)) (items-passed Rules s p k n q); ahead = a; inside = passed-in Rules s p k n q; lines = omega arith }
-  here-by (item.Tells (told.Rule a b c d) n) q = go (eqb (ruleFault names (ruleIn s a b c d)) 0) refl (told-goes _ n q)
+  here-by (item.Tells (told.Rule a b c d) n) q = go (ruleFault names (ruleIn s a b c d)) refl (told-goes _ n q)
     where
-      go : (t : Bool) → eqb (ruleFault names (ruleIn s a b c d)) 0 ≡ t → Goes names s p 1 n (pick t (is-rule (ruleIn s a b c d)) (bad (ruleFault names (ruleIn s a b c d))))
-          → Here names s p (pick t (row.Rule (firstCode (partOf s a)) n) (row.Bad (ruleFault names (ruleIn s a b c d))))
-      go true e g = record { is = ruleIn s a b c d; first = refl; sound = eqb-true _ 0 e; reads = record { a = a; b = b; c = c; d = d; next = n; says = q; is = refl }; goes = g }
-      go false e g = (linesAt names s n, g .left)
+      go : (x : Fault) → ruleFault names (ruleIn s a b c d) ≡ x → Goes names s p 1 n (judged x (ruleIn s a b c d)) → Here names s p (rowBy x (firstCode (partOf s a)) n)
+      go Without e g = record { is = ruleIn s a b c d; first = refl; sound = e; reads = record { a = a; b = b; c = c; d = d; next = n; says = q; is = refl }; goes = g }
+      go (Is w) e g = (linesAt names s n, g .left)
   here-by (item.Tells (told.Include t) n) q = told-goes _ n q
   here-by (item.Tells (told.Guess a b v) n) q = (linesAt names s n, told-goes _ n q .left)
   here-by (item.Tells (told.Name t) n) q = (linesAt names s n, told-goes _ n q .left)
@@ -104,7 +107,7 @@ module _ (names s : List ℕ) (p : ℕ) (h : p < length s) where
   unfolding Here
   at-include t n e = here _ e
 
-  at-bad : (k : ℕ) → rowAt names s p ≡ row.Bad k → (ls : List (Line Rule)) × (linesAt names s p ≡ bad k ∷ ls)
+  at-bad : (k : Refusal) → rowAt names s p ≡ row.Bad k → (ls : List (Line Rule)) × (linesAt names s p ≡ bad k ∷ ls)
   unfolding Here
   at-bad k e = here _ e
 
@@ -118,21 +121,21 @@ module _ (bundle names : List ℕ) (f l : ℕ) where
 
   follows : (left : ℕ) (g : List ℕ) (n : ℕ) (r : Entered) → EntersIs bundle (entryOf bundle left g n) r → Follows r left n (follow (filesFor names (filesOf bundle)) left g f l n)
   unfolding Follows follow entryOf EntersIs entryIn contentIn onContent readFrom pick filesFor
-  follows zero g n r e = subst (λ (z : Entered). Follows z zero n (refused 17 l f)) (sym e) refl
+  follows zero g n r e = subst (λ (z : Entered). Follows z zero n (refused IncludeTooDeep l f)) (sym e) refl
   follows (suc left) g n r e = deep (leb 256 n) refl e
     where
       into : (x : Found) → fileNamed g 0 (filesOf bundle) ≡ x → n < 256 → EntersIs bundle (entryIn x) r
-          → Follows r (suc left) n (onContent (contentIn names x) (refused 11 l f) (λ h ls. readLines (follow (filesFor names (filesOf bundle)) left) h 1 (n + 1) ls))
-      into missing q h e = subst (λ (z : Entered). Follows z (suc left) n (refused 11 l f)) (sym e) refl
+          → Follows r (suc left) n (onContent (contentIn names x) (refused FileMissing l f) (λ h ls. readLines (follow (filesFor names (filesOf bundle)) left) h 1 (n + 1) ls))
+      into missing q h e = subst (λ (z : Entered). Follows z (suc left) n (refused FileMissing l f)) (sym e) refl
       into (found k c) q h e =
           let w = e .3 in
           let z : suc left - 1 ≡ left = omega arith in
           subst (λ (z : Entered). Follows z (suc left) n (readLines (follow (filesFor names (filesOf bundle)) left) k 1 (n + 1) (linesOf names c))) (sym (e .2))
           (omega arith, h, w .order, w .within, rw (w .is, z) refl)
 
-      deep : (t : Bool) → leb 256 n ≡ t → EntersIs bundle (pick t (not 17) (entryIn (fileNamed g 0 (filesOf bundle)))) r
-          → Follows r (suc left) n (pick t (refused 17 l f) (onContent (filesFor names (filesOf bundle) g) (refused 11 l f) (λ h ls. readLines (follow (filesFor names (filesOf bundle)) left) h 1 (n + 1) ls)))
-      deep true q e = subst (λ (z : Entered). Follows z (suc left) n (refused 17 l f)) (sym e) refl
+      deep : (t : Bool) → leb 256 n ≡ t → EntersIs bundle (pick t (not IncludeTooDeep) (entryIn (fileNamed g 0 (filesOf bundle)))) r
+          → Follows r (suc left) n (pick t (refused IncludeTooDeep l f) (onContent (filesFor names (filesOf bundle) g) (refused FileMissing l f) (λ h ls. readLines (follow (filesFor names (filesOf bundle)) left) h 1 (n + 1) ls)))
+      deep true q e = subst (λ (z : Entered). Follows z (suc left) n (refused IncludeTooDeep l f)) (sym e) refl
       deep false q e = into (fileNamed g 0 (filesOf bundle)) refl (leb-false 256 n q) e
 
 -- ---- what is told, line by line
@@ -171,7 +174,7 @@ module _ (bundle : List ℕ) (task : Task) (own : ℕ) (st : State) (a : Known) 
       into n (refused c j f) z l m u = u
   told-in (refused c l f) st′ v e = clash (cc)
 
-  told-stop : (x : Read Rule) (c l f : ℕ) (lasts′ rows′ : List ℕ) → Told bundle task (st .followed + 1) (more st) a x w lasts rows → w ≡ Refused c l f
+  told-stop : (x : Read Rule) (c : Refusal) (l f : ℕ) (lasts′ rows′ : List ℕ) → Told bundle task (st .followed + 1) (more st) a x w lasts rows → w ≡ Refused c l f
       → Told bundle task own st a (Behind st k x) (Refused c l f) lasts′ rows′
   unfolding Told onRead
   told-stop (good t) c l f lasts′ rows′ v e = clash (cc (v .1))
@@ -245,7 +248,7 @@ module _ (bundle names : List ℕ) (f start end left : ℕ) (task : Task) (lasts
 module _ {bundle names : List ℕ} {f start end left : ℕ} {task : Task} {lasts₀ rows₀ s : List ℕ} {own : ℕ} {st₀ : State} {lasts rows : List ℕ} {st : State} {p line : ℕ}
     (v : Going bundle names f start end left task lasts₀ rows₀ s own st₀ lasts rows st p line) (h : p < length s) {r : Row} (e : r ≡ rowAt names s p) where
   -- a refusal says nothing of the buffers
-  refuses : (c l g : ℕ) (lasts′ rows′ : List ℕ)
+  refuses : (c : Refusal) (l g : ℕ) (lasts′ rows′ : List ℕ)
       → ((a : Known) → Holds bundle lasts rows st a → Told bundle task own st a (readLines (follow (filesFor names (filesOf bundle)) left) f line (st .followed) (linesAt names s p)) (Refused c l g) lasts′ rows′)
       → WalkIs bundle names f start end left task st₀ lasts₀ rows₀ (Refused c l g) lasts′ rows′
   refuses c l g lasts′ rows′ k = record {
@@ -254,7 +257,7 @@ module _ {bundle names : List ℕ} {f start end left : ℕ} {task : Task} {lasts
     noted = λ st′ e c. clash (cc);
   }
 
-  pub stop-bad : {k : ℕ} {lasts′ rows′ : List ℕ} → r ≡ row.Bad k → WalkIs bundle names f start end left task st₀ lasts₀ rows₀ (Refused k line f) lasts′ rows′
+  pub stop-bad : {k : Refusal} {lasts′ rows′ : List ℕ} → r ≡ row.Bad k → WalkIs bundle names f start end left task st₀ lasts₀ rows₀ (Refused k line f) lasts′ rows′
   unfolding Told readLines
   stop-bad {k} {lasts′} {rows′} q = refuses k line f lasts′ rows′ (λ a i. rw (at-bad names s p h k (sym e ∙ q) .1) refl)
 
@@ -343,7 +346,7 @@ module _ {bundle names : List ℕ} {f start end left : ℕ} {task : Task} {lasts
     rest : ℕ → Read Rule
     rest m = readLines (follow (filesFor names (filesOf bundle)) left) f (line + 1) m (linesAt names s n)
 
-    pub stop-enter : {k : ℕ} {lasts′ rows′ : List ℕ} → d ≡ Not k → WalkIs bundle names f start end left task st₀ lasts₀ rows₀ (Refused k line f) lasts′ rows′
+    pub stop-enter : {k : Refusal} {lasts′ rows′ : List ℕ} → d ≡ Not k → WalkIs bundle names f start end left task st₀ lasts₀ rows₀ (Refused k line f) lasts′ rows′
     unfolding Told readLines onRead Follows
     stop-enter {k} {lasts′} {rows′} z = refuses k line f lasts′ rows′ (λ a i. rw (goes .left, rw z at enters) refl)
 
@@ -380,7 +383,7 @@ module _ {bundle names : List ℕ} {f start end left : ℕ} {task : Task} {lasts
           unfolding Follows
           inner x i = rw (entry .4) (rw sq at (wq .told x (rw sq (record { noted = i .noted; kept = i .kept }))))
 
-          pub stop-in : {c l j : ℕ} {lasts₂ rows₂ : List ℕ} → w ≡ Refused c l j → WalkIs bundle names f start end left task st₀ lasts₀ rows₀ (Refused c l j) lasts₂ rows₂
+          pub stop-in : {c : Refusal} {l j : ℕ} {lasts₂ rows₂ : List ℕ} → w ≡ Refused c l j → WalkIs bundle names f start end left task st₀ lasts₀ rows₀ (Refused c l j) lasts₂ rows₂
           unfolding readLines rest
           stop-in {c} {l} {j} {lasts₂} {rows₂} i = refuses c l j lasts₂ rows₂ (λ x k. rw (goes .left) (told-stop bundle task own st x rest w lasts′ rows′ _ c l j lasts₂ rows₂ (inner x k) i))
 

@@ -8,3 +8,4 @@ pub mod RuledLaws
 pub mod TableLaws
 pub mod WalkLaws
 pub mod WritingLaws
+pub mod GoodLaws

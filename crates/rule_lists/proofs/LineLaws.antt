@@ -1,11 +1,13 @@
 -- Laws of the lines, as `search` applies them. Assumes nothing.
-use mathlib.Core.Path.{_≡_, refl, sym, ap, _∙_}
+use mathlib.Core.Path.{_≡_, refl, sym, ap, ap₂, _∙_}
 use mathlib.Core.Bool.{Bool}
 use mathlib.Core.List.{List}
 use Prim.Native.Nat.{ℕ, _≤_, _<_}
 use lib.Dec.{ltb}
 use borrow.Author.Tests.{eq-eqb, ne-eqb, lt-ltb, le-ltb}
 use Rattle.base.specs.Pick.{pick, pick-true, pick-false}
+use Rattle.refusals.specs.declared.Refusal.{Refusal}
+use Rattle.refusals.specs.declared.Refusal.the-variants.{LineUnreadable, ExpressionWrong, OutsideForms, NameUnlisted, TooMuch}
 use Rattle.pack.specs.Packs.{rule}
 use Rattle.regex_optim.specs.declared.OptimizedRegex.{OptimizedRegex}
 use Rattle.regex_optim.specs.declared.OptimizedRegex.the-variants.{AllStringsMatcher, IsEmpty, Equals, StartsWith, EndsWith, EqualsChar, StartsWithChar, EndsWithChar, Outside}
@@ -20,6 +22,8 @@ use Rattle.rules_parser.specs.declared.lines.Told.{Told}
 use Rattle.rules_parser.specs.declared.lines.Told.the-variants as told
 use Rattle.rules_parser.specs.declared.files.Item.{Item}
 use Rattle.rules_parser.specs.declared.files.Item.the-variants as item
+use Rattle.rule_lists.specs.declared.lines.Fault.{Fault}
+use Rattle.rule_lists.specs.declared.lines.Fault.the-variants.{Is, Without}
 use Rattle.rule_lists.specs.Lines.{lengthFault, contextFault, expressionFault, orElse, ruleFault, rowBy, rowOf, rowIn, rowAt}
 use Rattle.rule_lists.specs.declared.lines.Row.{Row}
 use Rattle.rule_lists.specs.declared.lines.Row.the-variants as row
@@ -27,80 +31,80 @@ use Rattle.rule_lists.specs.declared.lines.Row.the-variants as row
 -- ---- the faults of a rule
 
 module _ (f : OptimizedRegex) where
-  pub fault-all : f ≡ AllStringsMatcher → 0 ≡ contextFault f
+  pub fault-all : f ≡ AllStringsMatcher → Without ≡ contextFault f
   unfolding contextFault
   fault-all h = rw h refl
 
-  pub fault-empty : f ≡ IsEmpty → 0 ≡ contextFault f
+  pub fault-empty : f ≡ IsEmpty → Without ≡ contextFault f
   unfolding contextFault
   fault-empty h = rw h refl
 
-  pub fault-equals : f ≡ Equals → 0 ≡ contextFault f
+  pub fault-equals : f ≡ Equals → Without ≡ contextFault f
   unfolding contextFault
   fault-equals h = rw h refl
 
-  pub fault-starts : f ≡ StartsWith → 0 ≡ contextFault f
+  pub fault-starts : f ≡ StartsWith → Without ≡ contextFault f
   unfolding contextFault
   fault-starts h = rw h refl
 
-  pub fault-ends : f ≡ EndsWith → 0 ≡ contextFault f
+  pub fault-ends : f ≡ EndsWith → Without ≡ contextFault f
   unfolding contextFault
   fault-ends h = rw h refl
 
-  pub fault-equals-char : f ≡ EqualsChar → 0 ≡ contextFault f
+  pub fault-equals-char : f ≡ EqualsChar → Without ≡ contextFault f
   unfolding contextFault
   fault-equals-char h = rw h refl
 
-  pub fault-starts-char : f ≡ StartsWithChar → 0 ≡ contextFault f
+  pub fault-starts-char : f ≡ StartsWithChar → Without ≡ contextFault f
   unfolding contextFault
   fault-starts-char h = rw h refl
 
-  pub fault-ends-char : f ≡ EndsWithChar → 0 ≡ contextFault f
+  pub fault-ends-char : f ≡ EndsWithChar → Without ≡ contextFault f
   unfolding contextFault
   fault-ends-char h = rw h refl
 
-  pub fault-outside : f ≡ Outside → 15 ≡ contextFault f
+  pub fault-outside : f ≡ Outside → Is OutsideForms ≡ contextFault f
   unfolding contextFault
   fault-outside h = rw h refl
 
 module _ (e : Expression) where
-  pub fault-good : (n : ℕ) → e ≡ Good n → 0 ≡ expressionFault e
+  pub fault-good : (n : ℕ) → e ≡ Good n → Without ≡ expressionFault e
   unfolding expressionFault
   fault-good n h = rw h refl
 
-  pub fault-malformed : e ≡ Malformed → 14 ≡ expressionFault e
+  pub fault-malformed : e ≡ Malformed → Is ExpressionWrong ≡ expressionFault e
   unfolding expressionFault
   fault-malformed h = rw h refl
 
-  pub fault-stranger : e ≡ Stranger → 16 ≡ expressionFault e
+  pub fault-stranger : e ≡ Stranger → Is NameUnlisted ≡ expressionFault e
   unfolding expressionFault
   fault-stranger h = rw h refl
 
 -- the last two ways out of length_fault, deeper than `search` goes
 module _ (p l r e : ℕ) (h : (p ≡ 0 → ⊥)) (i : p ≤ 255) (j : l ≤ 255) (k : r ≤ 255) where
-  rest : lengthFault p l r e ≡ pick (ltb 255 e) 18 0
+  rest : lengthFault p l r e ≡ pick (ltb 255 e) (Is TooMuch) Without
   unfolding lengthFault
   rest = pick-false _ _ _ (ne-eqb p 0 h) ∙ pick-false _ _ _ (le-ltb 255 p i) ∙ pick-false _ _ _ (le-ltb 255 l j) ∙ pick-false _ _ _ (le-ltb 255 r k)
 
-  pub fault-long : 255 < e → 18 ≡ lengthFault p l r e
+  pub fault-long : 255 < e → Is TooMuch ≡ lengthFault p l r e
   fault-long m = sym (rest ∙ pick-true _ _ _ (lt-ltb 255 e m))
 
-  pub fault-none : e ≤ 255 → 0 ≡ lengthFault p l r e
+  pub fault-none : e ≤ 255 → Without ≡ lengthFault p l r e
   fault-none m = sym (rest ∙ pick-false _ _ _ (le-ltb 255 e m))
 
 -- each fault by what was answered for it
-pub or-first : (a a′ b : ℕ) → a ≡ a′ → (a ≡ 0 → ⊥) → a ≡ orElse a′ b
+pub or-first : (a a′ b : Fault) (w : Refusal) → a ≡ a′ → a ≡ Is w → Is w ≡ orElse a′ b
 unfolding orElse
-or-first a a′ b e h = e ∙ sym (pick-false _ b a′ (ne-eqb a′ 0 (λ z. h (e ∙ z))))
+or-first a a′ b w e h = ap (λ (x : Fault). orElse x b) (sym h ∙ e)
 
-pub or-next : (a a′ b x : ℕ) → a ≡ a′ → a ≡ 0 → x ≡ b → x ≡ orElse a′ b
+pub or-next : (a a′ b x : Fault) → a ≡ a′ → a ≡ Without → x ≡ b → x ≡ orElse a′ b
 unfolding orElse
-or-next a a′ b x e z h = h ∙ sym (pick-true _ b a′ (eq-eqb a′ 0 (sym e ∙ z)))
+or-next a a′ b x e z h = h ∙ ap (λ (y : Fault). orElse y b) (sym z ∙ e)
 
-pub context-by : (x : ℕ) (f g : OptimizedRegex) → x ≡ contextFault f → f ≡ g → x ≡ contextFault g
+pub context-by : (x : Fault) (f g : OptimizedRegex) → x ≡ contextFault f → f ≡ g → x ≡ contextFault g
 context-by x f g e h = e ∙ ap contextFault h
 
-pub expression-by : (x : ℕ) (f g : Expression) → x ≡ expressionFault f → f ≡ g → x ≡ expressionFault g
+pub expression-by : (x : Fault) (f g : Expression) → x ≡ expressionFault f → f ≡ g → x ≡ expressionFault g
 expression-by x f g e h = e ∙ ap expressionFault h
 
 pub ruleset fault-laws = (
@@ -126,18 +130,22 @@ pub ruleset fault-laws = (
 
 -- ---- the rule of four texts
 
-module _ (names s p l r e : List ℕ) (a b c d : Text) (n fault : ℕ)
+module _ (names s p l r e : List ℕ) (a b c d : Text) (n : ℕ) (fault : Fault)
     (is : fault ≡ ruleFault names (rule p l r e)) (ep : p ≡ partOf s a) (el : l ≡ partOf s b) (er : r ≡ partOf s c) (ee : e ≡ partOf s d) where
   by : fault ≡ ruleFault names (rule (partOf s a) (partOf s b) (partOf s c) (partOf s d))
   by = is ∙ rw (ep, el, er, ee) refl
 
-  pub row-rule : (k : ℕ) → fault ≡ 0 → k ≡ firstCode p → row.Rule k n ≡ rowOf names s a b c d n
-  unfolding rowOf rowBy
-  row-rule k z h = sym (pick-true _ _ _ (eq-eqb _ 0 (sym by ∙ z)) ∙ ap (λ (x : ℕ). row.Rule x n) (sym (h ∙ ap firstCode ep)))
+  row-by : (x : Fault) → fault ≡ x → rowBy x (firstCode p) n ≡ rowOf names s a b c d n
+  unfolding rowOf
+  row-by x z = ap₂ (λ (y : Fault) (k : ℕ). rowBy y k n) (sym z ∙ by) (ap firstCode ep)
 
-  pub row-fault : (fault ≡ 0 → ⊥) → row.Bad fault ≡ rowOf names s a b c d n
-  unfolding rowOf rowBy
-  row-fault z = sym (pick-false _ _ _ (ne-eqb _ 0 (λ w. z (by ∙ w))) ∙ ap row.Bad (sym by))
+  pub row-rule : (k : ℕ) → fault ≡ Without → k ≡ firstCode p → row.Rule k n ≡ rowOf names s a b c d n
+  unfolding rowBy
+  row-rule k z h = ap (λ (x : ℕ). row.Rule x n) h ∙ row-by Without z
+
+  pub row-fault : (w : Refusal) → fault ≡ Is w → row.Bad w ≡ rowOf names s a b c d n
+  unfolding rowBy
+  row-fault w z = row-by (Is w) z
 
 -- ---- a line
 
@@ -150,7 +158,7 @@ module _ (names s : List ℕ) (p : ℕ) (i : Item) (is : i ≡ itemAt Rules s p)
   unfolding rowIn
   row-passed k n h = by-item _ h
 
-  pub row-wrong : i ≡ item.Wrong → row.Bad 12 ≡ rowAt names s p
+  pub row-wrong : i ≡ item.Wrong → row.Bad LineUnreadable ≡ rowAt names s p
   unfolding rowIn
   row-wrong h = by-item _ h
 
@@ -166,11 +174,11 @@ module _ (names s : List ℕ) (p : ℕ) (i : Item) (is : i ≡ itemAt Rules s p)
     unfolding rowIn
     row-include x g = by-told _ g
 
-    pub row-guess : (a b : Text) (v : Bool) → t ≡ told.Guess a b v → row.Bad 12 ≡ rowAt names s p
+    pub row-guess : (a b : Text) (v : Bool) → t ≡ told.Guess a b v → row.Bad LineUnreadable ≡ rowAt names s p
     unfolding rowIn
     row-guess a b v g = by-told _ g
 
-    pub row-name : (x : Text) → t ≡ told.Name x → row.Bad 12 ≡ rowAt names s p
+    pub row-name : (x : Text) → t ≡ told.Name x → row.Bad LineUnreadable ≡ rowAt names s p
     unfolding rowIn
     row-name x g = by-told _ g
 

@@ -4,6 +4,7 @@ use mathlib.Core.List.{List, [], _∷_, _++_, append-nil}
 use Prim.Native.Nat.{ℕ, suc, _+_, _-_, _≤_, _<_}
 use native.Mathlib.Omega.{arith}
 use lib.ListN.{length, getD, take, drop, length-take, length-append}
+use Rattle.refusals.specs.declared.Refusal.{Refusal}
 use Rattle.name_parts.specs.Writing.{Put}
 use Rattle.name_parts.proofs.Laws.{clash, put-then, put-long, put-fits}
 use Rattle.languages.specs.Names.{strings, stringsOf, stringAt}
@@ -33,7 +34,7 @@ told-done f (fine a) o o′ at p r w q =
     (a, refl, rw same at (w .2))
 told-done f (refused c l k) o o′ at p r w q = clash (cc)
 
-told-refused : {A : Type 0} (f : A → List ℕ) (x : Outcome A) (o o′ : List ℕ) (at c l k : ℕ) (r : Written) → Told f x o o′ at r → r ≡ Refused c l k → x ≡ refused c l k
+told-refused : {A : Type 0} (f : A → List ℕ) (x : Outcome A) (o o′ : List ℕ) (at : ℕ) (c : Refusal) (l k : ℕ) (r : Written) → Told f x o o′ at r → r ≡ Refused c l k → x ≡ refused c l k
 unfolding Told
 told-refused f (fine a) o o′ at c l k r w q = let e = w .1 in clash (cc)
 told-refused f (refused d m j) o o′ at c l k r w q =
@@ -57,7 +58,7 @@ module _ {A B C : Type 0} (f : A → List ℕ) (g : B → List ℕ) (h : C → L
       let d = told-done f x o o₁ at p r v q in
       rw (d .1) (then-done (d .0) y o o₁ o₂ at p s (d .2) w)
 
-told-stop : {A B : Type 0} (f : A → List ℕ) (h : B → List ℕ) (x : Outcome A) (m : A → Outcome B) (o o₁ : List ℕ) (at : ℕ) (r : Written) (c l i : ℕ) → Told f x o o₁ at r → r ≡ Refused c l i
+told-stop : {A B : Type 0} (f : A → List ℕ) (h : B → List ℕ) (x : Outcome A) (m : A → Outcome B) (o o₁ : List ℕ) (at : ℕ) (r : Written) (c : Refusal) (l i : ℕ) → Told f x o o₁ at r → r ≡ Refused c l i
     → Told h (andThen x m) o o₁ at (Refused c l i)
 unfolding Told andThen
 told-stop f h x m o o₁ at r c l i v q = rw (told-refused f x o o₁ at c l i r v q) refl
@@ -127,7 +128,7 @@ module _ (names : List ℕ) (fs : List File) where
       by (fine rs) v = (v .0, v .1, rw (append-nil (listBytes rs)) (v .2))
       by (refused c l f) v = v
 
-  list-stop : (w : List ℕ) (ws : List (List ℕ)) (o o₁ : List ℕ) (at : ℕ) (r : Written) (c l i : ℕ) → One w o o₁ at r → r ≡ Refused c l i → Lists (w ∷ ws) o o₁ at (Refused c l i)
+  list-stop : (w : List ℕ) (ws : List (List ℕ)) (o o₁ : List ℕ) (at : ℕ) (r : Written) (c : Refusal) (l i : ℕ) → One w o o₁ at r → r ≡ Refused c l i → Lists (w ∷ ws) o o₁ at (Refused c l i)
   unfolding listsOf
   list-stop w ws o o₁ at r c l i v q = told-stop listBytes (bytesOf listBytes) (listOf names fs w) _ o o₁ at r c l i v q
 
@@ -135,7 +136,7 @@ module _ (names : List ℕ) (fs : List File) where
   lists-then ws us o o₁ o₂ at p r s v q u = rw (lists-append ws us)
       (told-then (bytesOf listBytes) (bytesOf listBytes) (bytesOf listBytes) _++_ (bytes-append listBytes) (listsOf names fs ws) (listsOf names fs us) o o₁ o₂ at p r s v q u)
 
-  lists-stop : (ws us : List (List ℕ)) (o o₁ : List ℕ) (at : ℕ) (r : Written) (c l i : ℕ) → Lists ws o o₁ at r → r ≡ Refused c l i → Lists (ws ++ us) o o₁ at (Refused c l i)
+  lists-stop : (ws us : List (List ℕ)) (o o₁ : List ℕ) (at : ℕ) (r : Written) (c : Refusal) (l i : ℕ) → Lists ws o o₁ at r → r ≡ Refused c l i → Lists (ws ++ us) o o₁ at (Refused c l i)
   lists-stop ws us o o₁ at r c l i v q = rw (lists-append ws us) (told-stop (bytesOf listBytes) (bytesOf listBytes) (listsOf names fs ws) _ o o₁ at r c l i v q)
 
   -- ---- the lists of a language
@@ -145,7 +146,7 @@ module _ (names : List ℕ) (fs : List File) where
     unfolding twoOf
     two-all v q u = list-then _ _ o o₁ o₂ at p r s v q (list-last _ o₁ o₂ p s u)
 
-    pub two-stop : (c l i : ℕ) → One (pre ++ (approxPart ++ lang)) o o₁ at r → r ≡ Refused c l i → Lists (twoOf pre lang) o o₁ at (Refused c l i)
+    pub two-stop : (c : Refusal) (l i : ℕ) → One (pre ++ (approxPart ++ lang)) o o₁ at r → r ≡ Refused c l i → Lists (twoOf pre lang) o o₁ at (Refused c l i)
     unfolding twoOf
     two-stop c l i v q = list-stop _ _ o o₁ at r c l i v q
 
@@ -153,7 +154,7 @@ module _ (names : List ℕ) (fs : List File) where
     unfolding threeOf
     three-all v q u = list-then _ _ o o₁ o₂ at p r s v q u
 
-    pub three-stop : (c l i : ℕ) → One (pre ++ (rulesPart ++ lang)) o o₁ at r → r ≡ Refused c l i → Lists (threeOf pre lang) o o₁ at (Refused c l i)
+    pub three-stop : (c : Refusal) (l i : ℕ) → One (pre ++ (rulesPart ++ lang)) o o₁ at r → r ≡ Refused c l i → Lists (threeOf pre lang) o o₁ at (Refused c l i)
     unfolding threeOf
     three-stop c l i v q = list-stop _ _ o o₁ at r c l i v q
 
@@ -183,7 +184,7 @@ module _ (names : List ℕ) (fs : List File) where
         is = λ o′ t u. w .is o′ t (rw (files-one _ some-fuel) (lists-then _ _ o o₁ o′ at z s t v d u));
       }
 
-      pub listing-stop : (c l i : ℕ) → s ≡ Refused c l i → Lists (listFiles pre (stringsOf names)) o₀ o₁ at₀ (Refused c l i)
+      pub listing-stop : (c : Refusal) (l i : ℕ) → s ≡ Refused c l i → Lists (listFiles pre (stringsOf names)) o₀ o₁ at₀ (Refused c l i)
       listing-stop c l i d = w .is o₁ _ (rw (files-one _ some-fuel) (lists-stop _ _ o o₁ at s c l i v d))
 
     pub listing-done : r ≡ next.Cut → (o₁ : List ℕ) (s : Written) → Lists (twoOf pre commonPart) o o₁ at s → Lists (listFiles pre (stringsOf names)) o₀ o₁ at₀ s

@@ -9,6 +9,8 @@ use lib.Dec.{leb}
 use lib.ListN.{length, take, drop}
 use borrow.Author.Tests.{le-leb, lt-leb, leb-true}
 use Rattle.base.specs.Pick.{pick, pick-true, pick-false, and-inv}
+use Rattle.refusals.specs.declared.Refusal.{Refusal}
+use Rattle.refusals.specs.declared.Refusal.the-variants.{FileMissing, IncludeTooDeep, TooMuch}
 use Rattle.letters.specs.Utf8.{within, lowSecond, highSecond, code2, code3, code4, decode2, decode3, decode4, decodeBytes, decodeAt}
 use Rattle.letters.specs.declared.utf8.Step.{Step}
 use Rattle.letters.specs.declared.utf8.Step.the-variants.{Char, Ill, End}
@@ -24,6 +26,7 @@ use Rattle.held.specs.Tables.{noted, kept, Each, Within}
 use Rattle.held.proofs.Finished.{length-kept, length-noted}
 use Rattle.held.proofs.Reading.{listed-entries}
 use Rattle.rule_lists.specs.Outcomes as outcome
+use Rattle.rule_lists.specs.declared.lines.Fault.the-variants.{Without}
 use Rattle.rule_lists.specs.Lines.{ruleFault, linesOf, rowAt}
 use Rattle.rule_lists.specs.Tables.{Reads, KeptIs}
 use Rattle.rule_lists.specs.Walks.{firstOf, contentIn, filesFor, Known, known, ruled, tally, stateOf, Room, Holds, Ready, Told, readFrom, WalkIs, counted, keptOf, CollectIs}
@@ -82,13 +85,13 @@ first-under r = code-under _ (pick-under _ _ _ (λ e. bytes-under _ _ _ _) tt)
 -- ---- every rule that is read
 
 pub record GoodRead (names : List ℕ) (r : Rule) : Type 0 where
-  pub fault : ruleFault names r ≡ 0
+  pub fault : ruleFault names r ≡ Without
   pub pattern : ruleText (r .pattern) ≡ true
   pub left : ruleText (r .left) ≡ true
   pub right : ruleText (r .right) ≡ true
   pub expression : ruleText (r .expression) ≡ true
 
-reads-good : (names s : List ℕ) (p : ℕ) (r : Rule) → ruleFault names r ≡ 0 → Reads s p r → GoodRead names r
+reads-good : (names s : List ℕ) (p : ℕ) (r : Rule) → ruleFault names r ≡ Without → Reads s p r → GoodRead names r
 reads-good names s p r e w = subst (GoodRead names) (w .is) (record {
   fault = rw (w .is) e;
   pattern = rule-pattern s p _ _ _ _ _ (w .says);
@@ -153,7 +156,7 @@ module _ (names : List ℕ) where
     sound-follow (suc left) g f l n = deep (leb 256 n) (fileNamed g 0 fs) (sound-follow left)
       where
         deep : (t : Bool) (x : Found) → ((g : List ℕ) (f l n : ℕ) → Sound (follow (filesFor names fs) left g f l n))
-            → Sound (pick t (refused 17 l f) (onContent (contentIn names x) (refused 11 l f) (λ h ls. readLines (follow (filesFor names fs) left) h 1 (n + 1) ls)))
+            → Sound (pick t (refused IncludeTooDeep l f) (onContent (contentIn names x) (refused FileMissing l f) (λ h ls. readLines (follow (filesFor names fs) left) h 1 (n + 1) ls)))
         deep true x ih = tt
         deep false missing ih = tt
         deep false (found k c) ih = sound-lines _ ih k 1 (n + 1) (linesOf names c) (lines-good names c)
@@ -218,7 +221,7 @@ unfolding Told
 told-done bundle task own st a (good t) w st′ lasts rows v e = let q : v .0 ≡ st′ = cc (v .1) in (t, refl, rw q at (v .3))
 told-done bundle task own st a (refused c l f) w st′ lasts rows v e = clash (cc)
 
-told-refused : (bundle : List ℕ) (task : Task) (own : ℕ) (st : State) (a : Known) (x : Read Rule) (w : Walked) (c l f : ℕ) (lasts rows : List ℕ) → Told bundle task own st a x w lasts rows → w ≡ Refused c l f → x ≡ refused c l f
+told-refused : (bundle : List ℕ) (task : Task) (own : ℕ) (st : State) (a : Known) (x : Read Rule) (w : Walked) (c : Refusal) (l f : ℕ) (lasts rows : List ℕ) → Told bundle task own st a x w lasts rows → w ≡ Refused c l f → x ≡ refused c l f
 unfolding Told
 told-refused bundle task own st a (good t) w c l f lasts rows v e = clash (cc (v .1))
 told-refused bundle task own st a (refused k m g) w c l f lasts rows v e = cc
@@ -240,24 +243,24 @@ module _ (bundle names : List ℕ) (f start end : ℕ) where
   }
 
   -- a refusal says nothing of the rows
-  refuses : (c l g : ℕ) (rows′ : List ℕ) → Listed ≡ refused c l g → CollectIs bundle (counted Listed) (collected.Refused c l g) rows′
+  refuses : (c : Refusal) (l g : ℕ) (rows′ : List ℕ) → Listed ≡ refused c l g → CollectIs bundle (counted Listed) (collected.Refused c l g) rows′
   unfolding counted CollectIs
   refuses c l g rows′ e = rw e refl
 
-  too-many : (t : Met Rule) (rows′ : List ℕ) → Listed ≡ good t → 4096 < length (finished firstOf t) → CollectIs bundle (counted Listed) (collected.Refused 18 0 0) rows′
+  too-many : (t : Met Rule) (rows′ : List ℕ) → Listed ≡ good t → 4096 < length (finished firstOf t) → CollectIs bundle (counted Listed) (collected.Refused TooMuch 0 0) rows′
   unfolding counted CollectIs
-  too-many t rows′ e h = rw (e, pick-false (leb (length (finished firstOf t)) 4096) (outcome.fine t) (outcome.refused 18 0 0) (lt-leb _ 4096 h)) refl
+  too-many t rows′ e h = rw (e, pick-false (leb (length (finished firstOf t)) 4096) (outcome.fine t) (outcome.refused TooMuch 0 0) (lt-leb _ 4096 h)) refl
 
   all-kept : (t : Met Rule) (n : ℕ) (rows′ : List ℕ) → Listed ≡ good t → length (finished firstOf t) ≤ 4096 → KeptIs bundle rows′ n (keptOf t) → CollectIs bundle (counted Listed) (collected.Rules n) rows′
   unfolding counted CollectIs
-  all-kept t n rows′ e h k = rw (e, pick-true (leb (length (finished firstOf t)) 4096) (outcome.fine t) (outcome.refused 18 0 0) (le-leb _ 4096 h)) (n, refl, k)
+  all-kept t n rows′ e h k = rw (e, pick-true (leb (length (finished firstOf t)) 4096) (outcome.fine t) (outcome.refused TooMuch 0 0) (le-leb _ 4096 h)) (n, refl, k)
 
   module _ {lasts rows lasts₁ rows₁ : List ℕ} {w : Walked} (room : Room lasts rows) (one : WalkIs bundle names f start end 8 Survey (stateOf 0 0 0) lasts rows w lasts₁ rows₁) where
     told-one : Told bundle Survey 0 (stateOf 0 0 0) (known [] []) Listed w lasts₁ rows₁
     unfolding readListed readFrom ready-survey
     told-one = one .told (known [] []) (ready-survey room .some .1)
 
-    pub stop-first : {c l g : ℕ} (rows′ : List ℕ) → w ≡ Refused c l g → CollectIs bundle (counted Listed) (collected.Refused c l g) rows′
+    pub stop-first : {c : Refusal} {l g : ℕ} (rows′ : List ℕ) → w ≡ Refused c l g → CollectIs bundle (counted Listed) (collected.Refused c l g) rows′
     stop-first {c} {l} {g} rows′ e = refuses c l g rows′ (told-refused bundle Survey 0 _ _ Listed w c l g lasts₁ rows₁ told-one e)
 
     module _ {st : State} (e : w ≡ Done st) where
@@ -270,7 +273,7 @@ module _ (bundle names : List ℕ) (f start end : ℕ) where
       sizes : (length (noted firstOf 0 0 [] (met .0)) ≤ length (finished firstOf (met .0))) × (length (keptOf (met .0)) ≡ length (finished firstOf (met .0)))
       sizes = counts (met .0) (listed-entries _ f _ (met .0) (met .1))
 
-      pub stop-noted : (rows′ : List ℕ) → 4096 < st .noted → CollectIs bundle (counted Listed) (collected.Refused 18 0 0) rows′
+      pub stop-noted : (rows′ : List ℕ) → 4096 < st .noted → CollectIs bundle (counted Listed) (collected.Refused TooMuch 0 0) rows′
       stop-noted rows′ h = too-many (met .0) rows′ (met .1) (omega (arith, holds .noted .count, sizes .0))
 
       module _ (few : st .noted ≤ 4096) where
@@ -285,7 +288,7 @@ module _ (bundle names : List ℕ) (f start end : ℕ) where
           unfolding readListed readFrom
           told-two = two .told _ start-two
 
-          pub stop-second : {c l g : ℕ} (rows′ : List ℕ) → w₂ ≡ Refused c l g → CollectIs bundle (counted Listed) (collected.Refused c l g) rows′
+          pub stop-second : {c : Refusal} {l g : ℕ} (rows′ : List ℕ) → w₂ ≡ Refused c l g → CollectIs bundle (counted Listed) (collected.Refused c l g) rows′
           stop-second {c} {l} {g} rows′ i = refuses c l g rows′ (told-refused bundle Collect 0 _ _ Listed w₂ c l g lasts₂ rows₂ told-two i)
 
           module _ {st₂ : State} (i : w₂ ≡ Done st₂) where
@@ -297,7 +300,7 @@ module _ (bundle names : List ℕ) (f start end : ℕ) where
                 let k : Holds bundle lasts₂ rows₂ st₂ (known (noted firstOf 0 0 [] (met .0)) (kept firstOf (noted firstOf 0 0 [] (met .0)) 0 [] (u .0))) = rw (tally-collect (u .0) 0 0 (noted firstOf 0 0 [] (met .0)) []) at (u .2) in
                 subst (λ (t : Met Rule). KeptIs bundle rows₂ (st₂ .kept) (kept firstOf (noted firstOf 0 0 [] (met .0)) 0 [] t)) q (k .kept)
 
-            pub stop-kept : (rows′ : List ℕ) → 4096 < st₂ .kept → CollectIs bundle (counted Listed) (collected.Refused 18 0 0) rows′
+            pub stop-kept : (rows′ : List ℕ) → 4096 < st₂ .kept → CollectIs bundle (counted Listed) (collected.Refused TooMuch 0 0) rows′
             stop-kept rows′ h = too-many (met .0) rows′ (met .1) (omega (arith, kept-is .count, sizes .1))
 
             pub collects : st₂ .kept ≤ 4096 → CollectIs bundle (counted Listed) (collected.Rules (st₂ .kept)) rows₂

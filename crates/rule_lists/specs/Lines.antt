@@ -4,6 +4,7 @@ use mathlib.Core.List.{List, map}
 use lib.Dec.{eqb, ltb}
 use lib.ListN.{length}
 use Rattle.base.specs.Pick.{pick}
+use Rattle.refusals.specs.declared.Refusal.the-variants.{LineUnreadable, PatternEmpty, ExpressionWrong, OutsideForms, NameUnlisted, TooMuch}
 use Rattle.regex_optim.specs.Contexts.{leftForm, rightForm, kindOf}
 use Rattle.regex_optim.specs.declared.OptimizedRegex.{OptimizedRegex}
 use Rattle.regex_optim.specs.declared.OptimizedRegex.the-variants.{AllStringsMatcher, IsEmpty, Equals, StartsWith, EndsWith, EqualsChar, StartsWithChar, EndsWithChar, Outside}
@@ -20,39 +21,42 @@ use Rattle.rules_parser.specs.declared.lines.FileKind.the-variants.{Rules}
 use Rattle.rules_parser.specs.declared.lines.Told.the-variants as told
 use Rattle.rules_parser.specs.declared.files.Item.{Item}
 use Rattle.rules_parser.specs.declared.files.Item.the-variants as item
+use Rattle.rule_lists.specs.declared.lines.Fault.{Fault}
+use Rattle.rule_lists.specs.declared.lines.Fault.the-variants.{Is, Without}
 use Rattle.rule_lists.specs.declared.lines.Row.{Row}
 use Rattle.rule_lists.specs.declared.lines.Row.the-variants as row
 
--- ---- the faults of a rule, each the number of its refusal, and 0 for none
+-- ---- the faults of a rule, each its refusal, or none
 
 -- "pattern empty"; "string over 255 bytes"
-unfoldable pub lengthFault : ℕ → ℕ → ℕ → ℕ → ℕ
+unfoldable pub lengthFault : ℕ → ℕ → ℕ → ℕ → Fault
 lengthFault p l r e =
-    pick (eqb p 0) 13 (pick (ltb 255 p) 18 (pick (ltb 255 l) 18 (pick (ltb 255 r) 18 (pick (ltb 255 e) 18 0))))
+    pick (eqb p 0) (Is PatternEmpty) (pick (ltb 255 p) (Is TooMuch) (pick (ltb 255 l) (Is TooMuch) (pick (ltb 255 r) (Is TooMuch) (pick (ltb 255 e) (Is TooMuch) Without))))
 
 -- "context .. outside the forms"
-unfoldable pub contextFault : OptimizedRegex → ℕ
-contextFault AllStringsMatcher = 0
-contextFault IsEmpty = 0
-contextFault Equals = 0
-contextFault StartsWith = 0
-contextFault EndsWith = 0
-contextFault EqualsChar = 0
-contextFault StartsWithChar = 0
-contextFault EndsWithChar = 0
-contextFault Outside = 15
+unfoldable pub contextFault : OptimizedRegex → Fault
+contextFault AllStringsMatcher = Without
+contextFault IsEmpty = Without
+contextFault Equals = Without
+contextFault StartsWith = Without
+contextFault EndsWith = Without
+contextFault EqualsChar = Without
+contextFault StartsWithChar = Without
+contextFault EndsWithChar = Without
+contextFault Outside = Is OutsideForms
 
 -- "phoneme expression wrong"; "language name not in the list"
-unfoldable pub expressionFault : Expression → ℕ
-expressionFault (Good n) = 0
-expressionFault Malformed = 14
-expressionFault Stranger = 16
+unfoldable pub expressionFault : Expression → Fault
+expressionFault (Good n) = Without
+expressionFault Malformed = Is ExpressionWrong
+expressionFault Stranger = Is NameUnlisted
 
 -- the first fault, else the second
-unfoldable pub orElse : ℕ → ℕ → ℕ
-orElse a b = pick (eqb a 0) b a
+unfoldable pub orElse : Fault → Fault → Fault
+orElse Without b = b
+orElse (Is w) b = Is w
 
-unfoldable pub ruleFault : List ℕ → Rule → ℕ
+unfoldable pub ruleFault : List ℕ → Rule → Fault
 ruleFault names r =
     orElse (lengthFault (length (r .pattern)) (length (r .left)) (length (r .right)) (length (r .expression)))
     (orElse (contextFault (kindOf (leftForm (r .left))))
@@ -64,16 +68,17 @@ ruleFault names r =
 abbrev pub ruleIn : List ℕ → Text → Text → Text → Text → Rule
 ruleIn s a b c d = rule (partOf s a) (partOf s b) (partOf s c) (partOf s d)
 
-unfoldable pub judged : ℕ → Rule → Line Rule
-judged fault r = pick (eqb fault 0) (is-rule r) (bad fault)
+unfoldable pub judged : Fault → Rule → Line Rule
+judged Without r = is-rule r
+judged (Is w) r = bad w
 
 unfoldable pub lineOf : List ℕ → List ℕ → Item → Line Rule
 lineOf names s (item.Passed k n) = passed k
 lineOf names s (item.Tells (told.Rule a b c d) n) = judged (ruleFault names (ruleIn s a b c d)) (ruleIn s a b c d)
 lineOf names s (item.Tells (told.Include t) n) = include (partOf s t)
-lineOf names s (item.Tells (told.Guess a b v) n) = bad 12
-lineOf names s (item.Tells (told.Name t) n) = bad 12
-lineOf names s item.Wrong = bad 12
+lineOf names s (item.Tells (told.Guess a b v) n) = bad LineUnreadable
+lineOf names s (item.Tells (told.Name t) n) = bad LineUnreadable
+lineOf names s item.Wrong = bad LineUnreadable
 
 -- the lines of a file
 unfoldable pub linesOf : List ℕ → List ℕ → List (Line Rule)
@@ -81,8 +86,9 @@ linesOf names s = map (lineOf names s) (itemsOf Rules s)
 
 -- ---- the same as the code reads it
 
-unfoldable pub rowBy : ℕ → ℕ → ℕ → Row
-rowBy fault code next = pick (eqb fault 0) (row.Rule code next) (row.Bad fault)
+unfoldable pub rowBy : Fault → ℕ → ℕ → Row
+rowBy Without code next = row.Rule code next
+rowBy (Is w) code next = row.Bad w
 
 unfoldable pub rowOf : List ℕ → List ℕ → Text → Text → Text → Text → ℕ → Row
 rowOf names s a b c d next = rowBy (ruleFault names (ruleIn s a b c d)) (firstCode (partOf s a)) next
@@ -91,9 +97,9 @@ unfoldable pub rowIn : List ℕ → List ℕ → Item → Row
 rowIn names s (item.Passed k n) = row.Passed k n
 rowIn names s (item.Tells (told.Rule a b c d) n) = rowOf names s a b c d n
 rowIn names s (item.Tells (told.Include t) n) = row.Include t n
-rowIn names s (item.Tells (told.Guess a b v) n) = row.Bad 12
-rowIn names s (item.Tells (told.Name t) n) = row.Bad 12
-rowIn names s item.Wrong = row.Bad 12
+rowIn names s (item.Tells (told.Guess a b v) n) = row.Bad LineUnreadable
+rowIn names s (item.Tells (told.Name t) n) = row.Bad LineUnreadable
+rowIn names s item.Wrong = row.Bad LineUnreadable
 
 unfoldable pub rowAt : List ℕ → List ℕ → ℕ → Row
 rowAt names s p = rowIn names s (itemAt Rules s p)

@@ -1,6 +1,7 @@
 -- The lists of a pack in order, from the files of a bundle (01, Bundle and pack; What the desk gets).
 use Prim.Native.Nat.{ℕ}
 use mathlib.Core.List.{List, [], _∷_, _++_}
+use Rattle.refusals.specs.declared.Refusal.the-variants.{FileMissing}
 use Rattle.prefixes.specs.declared.prefixes.NameType.{NameType}
 use Rattle.prefixes.specs.declared.prefixes.NameType.the-variants.{Ashkenazi, Generic, Sephardic}
 use Rattle.pack.specs.Packs.{Rule}
@@ -13,7 +14,7 @@ use Rattle.rule_lists.specs.Walks.{firstOf, filesFor, counted}
 
 -- a listed file that isn't in the bundle is 11 without a line
 unfoldable pub listIn : List ℕ → List File → Found → Outcome (List Rule)
-listIn names fs missing = refused 11 0 0
+listIn names fs missing = refused FileMissing 0 0
 listIn names fs (found k s) = andThen (counted (readListed (filesFor names fs) k (linesOf names s))) (λ t. fine (finished firstOf t))
 
 -- the list of the file of a name; `names` is the bytes of the languages, each behind its length byte

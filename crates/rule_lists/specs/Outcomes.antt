@@ -1,14 +1,15 @@
--- What loading a part comes to: its value, or the refusal's code, line and file (01, What the desk gets).
+-- What loading a part comes to: its value, or the refusal with its line and file (01, What the desk gets).
 use mathlib.Core.Path.{_≡_}
 use Prim.Native.Nat.{ℕ}
 use mathlib.Core.List.{List}
+use Rattle.refusals.specs.declared.Refusal.{Refusal}
 use Rattle.name_parts.specs.Writing.{Put}
 use Rattle.rule_lists.specs.declared.writing.Written.{Written}
 use Rattle.rule_lists.specs.declared.writing.Written.the-variants.{Done, Refused}
 
 pub data Outcome (A : Type 0) : Type 0 where
   fine : A → Outcome A
-  refused : (code line file : ℕ) → Outcome A
+  refused : (why : Refusal) (line file : ℕ) → Outcome A
 
 -- what goes on where nothing was refused
 unfoldable pub andThen : {A B : Type 0} → Outcome A → (A → Outcome B) → Outcome B

@@ -5,6 +5,8 @@ use mathlib.Core.List.{List, [], _∷_, _++_}
 use lib.Dec.{leb}
 use lib.ListN.{length, take, drop}
 use Rattle.base.specs.Pick.{pick}
+use Rattle.refusals.specs.declared.Refusal.{Refusal}
+use Rattle.refusals.specs.declared.Refusal.the-variants.{FileMissing, IncludeTooDeep, TooMuch}
 use Rattle.rule.specs.Matching.{firstCode}
 use Rattle.pack.specs.Packs.{Rule}
 use Rattle.bundles.specs.Bundles.{File, Found, missing, found, filesOf, fileNamed}
@@ -88,19 +90,19 @@ pub record RuledIs (bundle : List ℕ) (task : Task) (own : ℕ) (st : State) (s
 
 -- ---- an include
 
--- the number and the content of the file to read, or the number of the refusal
+-- the number and the content of the file to read, or the refusal
 pub data Entry : Type 0 where
-  not : ℕ → Entry
+  not : Refusal → Entry
   into : ℕ → List ℕ → Entry
 
 unfoldable pub entryIn : Found → Entry
-entryIn missing = not 11
+entryIn missing = not FileMissing
 entryIn (found f c) = into f c
 
 -- 17 where it is too deep or one too many, 11 where the file isn't in the bundle
 unfoldable pub entryOf : List ℕ → ℕ → List ℕ → ℕ → Entry
-entryOf s zero name n = not 17
-entryOf s (suc left) name n = pick (leb 256 n) (not 17) (entryIn (fileNamed name 0 (filesOf s)))
+entryOf s zero name n = not IncludeTooDeep
+entryOf s (suc left) name n = pick (leb 256 n) (not IncludeTooDeep) (entryIn (fileNamed name 0 (filesOf s)))
 
 -- a file to read is told by its number and where its content stands
 unfoldable pub EntersIs : List ℕ → Entry → Entered → Type 0
@@ -128,7 +130,7 @@ pub record WalkIs (bundle names : List ℕ) (f start end left : ℕ) (task : Tas
 
 -- "list over 4,096 rules": "Lists are counted when finished"
 unfoldable pub counted : files.Read Rule → Outcome (met.Met Rule)
-counted (files.good t) = pick (leb (length (met.finished firstOf t)) 4096) (fine t) (refused 18 0 0)
+counted (files.good t) = pick (leb (length (met.finished firstOf t)) 4096) (fine t) (refused TooMuch 0 0)
 counted (files.refused c l f) = refused c l f
 
 -- the rules that stay, in the order in which they are met

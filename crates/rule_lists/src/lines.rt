@@ -1,8 +1,9 @@
-// The lines of a rule file: what each says, or the number of its fault.
+// The lines of a rule file: what each says, or its fault.
 ghost use mathlib.Core.Path.{_≡_};
 ghost use Rattle.pack.specs.Packs.{rule};
 ghost use Rattle.rule_lists.specs.Lines.{lengthFault, contextFault, expressionFault, ruleFault, rowOf, rowAt};
 use phonemes::Expression;
+use refusals::Refusal;
 use regex_optim::OptimizedRegex;
 use rules_parser::FileKind;
 use rules_parser::Item;
@@ -14,73 +15,94 @@ pub(crate) enum Row {
     Passed { lines: usize, next: usize },
     Rule { code: u32, next: usize },
     Include { name: Text, next: usize },
-    Bad { code: u32 },
+    Bad { why: Refusal },
 }
 
-// 13 for an empty pattern, 18 for a string over 255 bytes, else 0.
-fn length_fault(pattern: usize, left: usize, right: usize, expression: usize) -> u32
+// The fault of a rule or of a part of it, or that it has none.
+pub(crate) enum Fault {
+    Is { why: Refusal },
+    Without,
+}
+
+// An empty pattern, or a string over 255 bytes.
+fn length_fault(pattern: usize, left: usize, right: usize, expression: usize) -> Fault
     ensures { λ r. ⌜ r ≡ lengthFault pattern left right expression ⌝ }
 {
     if pattern == 0 {
-        13
+        Fault::Is {
+            why: Refusal::PatternEmpty,
+        }
     } else if 255 < pattern {
-        18
+        Fault::Is {
+            why: Refusal::TooMuch,
+        }
     } else if 255 < left {
-        18
+        Fault::Is {
+            why: Refusal::TooMuch,
+        }
     } else if 255 < right {
-        18
+        Fault::Is {
+            why: Refusal::TooMuch,
+        }
     } else if 255 < expression {
-        18
+        Fault::Is {
+            why: Refusal::TooMuch,
+        }
     } else {
-        0
+        Fault::Without
     }
 }
 
-// 15 for a context outside the forms, else 0.
-fn context_fault(form: OptimizedRegex) -> u32
+// A context outside the forms.
+fn context_fault(form: OptimizedRegex) -> Fault
     ensures { λ r. ⌜ r ≡ contextFault form ⌝ }
 {
     match form {
-        OptimizedRegex::AllStringsMatcher => 0,
-        OptimizedRegex::IsEmpty => 0,
-        OptimizedRegex::Equals => 0,
-        OptimizedRegex::StartsWith => 0,
-        OptimizedRegex::EndsWith => 0,
-        OptimizedRegex::EqualsChar => 0,
-        OptimizedRegex::StartsWithChar => 0,
-        OptimizedRegex::EndsWithChar => 0,
-        OptimizedRegex::Outside => 15,
+        OptimizedRegex::AllStringsMatcher => Fault::Without,
+        OptimizedRegex::IsEmpty => Fault::Without,
+        OptimizedRegex::Equals => Fault::Without,
+        OptimizedRegex::StartsWith => Fault::Without,
+        OptimizedRegex::EndsWith => Fault::Without,
+        OptimizedRegex::EqualsChar => Fault::Without,
+        OptimizedRegex::StartsWithChar => Fault::Without,
+        OptimizedRegex::EndsWithChar => Fault::Without,
+        OptimizedRegex::Outside => Fault::Is {
+            why: Refusal::OutsideForms,
+        },
     }
 }
 
-// 14 for an expression that is not well formed, 16 for a name that is not listed, else 0.
-fn expression_fault(checked: Expression) -> u32
+// An expression that is not well formed, or a name that is not listed.
+fn expression_fault(checked: Expression) -> Fault
     ensures { λ r. ⌜ r ≡ expressionFault checked ⌝ }
 {
     match checked {
-        Expression::Good(_) => 0,
-        Expression::Malformed => 14,
-        Expression::Stranger => 16,
+        Expression::Good(_) => Fault::Without,
+        Expression::Malformed => Fault::Is {
+            why: Refusal::ExpressionWrong,
+        },
+        Expression::Stranger => Fault::Is {
+            why: Refusal::NameUnlisted,
+        },
     }
 }
 
-// The first fault of a rule whose strings are texts, in the order 13, 18, 15 (left, then right), 14, 16; 0 where there is none.
-fn rule_fault(names: &[u8], pattern: &[u8], left: &[u8], right: &[u8], expression: &[u8]) -> u32
+// The first fault of a rule whose strings are texts, in the order 13, 18, 15 (left, then right), 14, 16.
+fn rule_fault(names: &[u8], pattern: &[u8], left: &[u8], right: &[u8], expression: &[u8]) -> Fault
     ensures { λ r. ⌜ r ≡ ruleFault (now (names .entry)) (rule (now (pattern .entry)) (now (left .entry)) (now (right .entry)) (now (expression .entry))) ⌝ }
 {
-    let length = length_fault(pattern.len(), left.len(), right.len(), expression.len());
-    if length != 0 {
-        return length;
+    match length_fault(pattern.len(), left.len(), right.len(), expression.len()) {
+        Fault::Is { why } => Fault::Is { why },
+        Fault::Without => match context_fault(regex_optim::left_form(left)) {
+            Fault::Is { why } => Fault::Is { why },
+            Fault::Without => match context_fault(regex_optim::right_form(right)) {
+                Fault::Is { why } => Fault::Is { why },
+                Fault::Without => {
+                    expression_fault(phonemes::check_expression(expression, names))
+                }
+            },
+        },
     }
-    let before = context_fault(regex_optim::left_form(left));
-    if before != 0 {
-        return before;
-    }
-    let after = context_fault(regex_optim::right_form(right));
-    if after != 0 {
-        return after;
-    }
-    expression_fault(phonemes::check_expression(expression, names))
 }
 
 // The rule of these texts of s, whose line ends at `next`.
@@ -96,20 +118,18 @@ fn row_of(
     ensures { λ r. ⌜ r ≡ rowOf (now (names .entry)) (now (s .entry)) pattern left right expression next ⌝ }
 {
     let first = rules_parser::part(s, pattern);
-    let fault = rule_fault(
+    match rule_fault(
         names,
         first,
         rules_parser::part(s, left),
         rules_parser::part(s, right),
         rules_parser::part(s, expression),
-    );
-    if fault == 0 {
-        Row::Rule {
+    ) {
+        Fault::Without => Row::Rule {
             code: rule::first_code(first),
             next,
-        }
-    } else {
-        Row::Bad { code: fault }
+        },
+        Fault::Is { why } => Row::Bad { why },
     }
 }
 
@@ -131,9 +151,15 @@ pub(crate) fn row_at(names: &[u8], s: &[u8], p: usize) -> Row
                 pattern: _,
                 names: _,
                 accept: _,
-            } => Row::Bad { code: 12 },
-            Told::Name { name: _ } => Row::Bad { code: 12 },
+            } => Row::Bad {
+                why: Refusal::LineUnreadable,
+            },
+            Told::Name { name: _ } => Row::Bad {
+                why: Refusal::LineUnreadable,
+            },
         },
-        Item::Wrong => Row::Bad { code: 12 },
+        Item::Wrong => Row::Bad {
+            why: Refusal::LineUnreadable,
+        },
     }
 }

@@ -15,6 +15,7 @@ use crate::writing::Written;
 use bundles::FileAt;
 use languages::Next;
 use prefixes::NameType;
+use refusals::Refusal;
 
 // Writes the list of a listed file.
 fn write_list(
@@ -38,11 +39,11 @@ fn write_list(
                         at: crate::writing::put_rows(bundle, rows, lasts, n, out, at),
                     }
                 }
-                Collected::Refused { code, line, file } => Written::Refused { code, line, file },
+                Collected::Refused { why, line, file } => Written::Refused { why, line, file },
             }
         }
         FileAt::Missing => Written::Refused {
-            code: 11,
+            why: Refusal::FileMissing,
             line: 0,
             file: 0,
         },
@@ -118,7 +119,7 @@ fn write_two(
                 p,
             )
         }
-        Written::Refused { code, line, file } => Written::Refused { code, line, file },
+        Written::Refused { why, line, file } => Written::Refused { why, line, file },
     }
 }
 
@@ -151,7 +152,7 @@ fn write_three(
         Written::Done { at: p } => {
             write_two(bundle, names, prefix, language, lasts, rows, out, p)
         }
-        Written::Refused { code, line, file } => Written::Refused { code, line, file },
+        Written::Refused { why, line, file } => Written::Refused { why, line, file },
     }
 }
 
@@ -205,8 +206,8 @@ fn write_all(
                         place = q;
                         from = end;
                     }
-                    Written::Refused { code, line, file } => {
-                        return Written::Refused { code, line, file };
+                    Written::Refused { why, line, file } => {
+                        return Written::Refused { why, line, file };
                     }
                 }
             }
@@ -218,7 +219,8 @@ fn write_all(
 }
 
 // Writes what fits of the lists of a type from a place on: the rule files in `bundle`, for the languages of `names`, strings behind
-// their length bytes. The end is told, or the first refusal.
+// their length bytes. The end is told, or the first refusal: then nothing is said of `out`, which may hold the lists before it. Public
+// for crate loader alone, which measures into a buffer of its own first, so that a refusal of `load` leaves its caller's as it was.
 pub fn write_lists(
     kind: NameType,
     bundle: &[u8],

@@ -10,6 +10,7 @@ ghost use Rattle.rule_lists.specs.Walks.{filesFor, Room, Ready, RuledIs,
 use crate::lines::Row;
 use crate::tables::Spot;
 use bundles::FileAt;
+use refusals::Refusal;
 
 // What a walk is for.
 pub(crate) enum Task {
@@ -25,11 +26,17 @@ pub(crate) struct State {
 }
 
 pub(crate) enum Walked {
-    Done { state: State },
-    Refused { code: u32, line: usize, file: usize },
+    Done {
+        state: State,
+    },
+    Refused {
+        why: Refusal,
+        line: usize,
+        file: usize,
+    },
 }
 
-// A file that may be entered, or the number of the refusal.
+// A file that may be entered, or the refusal.
 pub(crate) enum Entered {
     Go {
         file: usize,
@@ -37,7 +44,7 @@ pub(crate) enum Entered {
         end: usize,
     },
     Not {
-        code: u32,
+        why: Refusal,
     },
 }
 
@@ -88,10 +95,14 @@ fn enter(bundle: &[u8], left: usize, name: &[u8], followed: usize) -> Entered
     ensures { λ r. ⌜ EntersIs (now (bundle .entry)) (entryOf (now (bundle .entry)) left (now (name .entry)) followed) r ⌝ }
 {
     if left == 0 {
-        return Entered::Not { code: 17 };
+        return Entered::Not {
+            why: Refusal::IncludeTooDeep,
+        };
     }
     if 256 <= followed {
-        return Entered::Not { code: 17 };
+        return Entered::Not {
+            why: Refusal::IncludeTooDeep,
+        };
     }
     match bundles::find_file(bundle, name) {
         FileAt::At { number, start, end } => Entered::Go {
@@ -99,7 +110,9 @@ fn enter(bundle: &[u8], left: usize, name: &[u8], followed: usize) -> Entered
             start,
             end,
         },
-        FileAt::Missing => Entered::Not { code: 11 },
+        FileAt::Missing => Entered::Not {
+            why: Refusal::FileMissing,
+        },
     }
 }
 
@@ -180,25 +193,25 @@ fn walk(
                                 p = next;
                             }
                             Walked::Refused {
-                                code,
+                                why,
                                 line: l,
                                 file: f,
                             } => {
                                 return Walked::Refused {
-                                    code,
+                                    why,
                                     line: l,
                                     file: f,
                                 };
                             }
                         }
                     }
-                    Entered::Not { code } => {
-                        return Walked::Refused { code, line, file };
+                    Entered::Not { why } => {
+                        return Walked::Refused { why, line, file };
                     }
                 }
             }
-            Row::Bad { code } => {
-                return Walked::Refused { code, line, file };
+            Row::Bad { why } => {
+                return Walked::Refused { why, line, file };
             }
         }
     }
@@ -207,8 +220,14 @@ fn walk(
 
 // How many rules a listed file holds, or the refusal.
 pub(crate) enum Collected {
-    Rules { n: usize },
-    Refused { code: u32, line: usize, file: usize },
+    Rules {
+        n: usize,
+    },
+    Refused {
+        why: Refusal,
+        line: usize,
+        file: usize,
+    },
 }
 
 // Keeps where the rules of a listed file stand, in the order in which they are met: one walk to note, and one to keep.
@@ -246,7 +265,7 @@ pub(crate) fn collect(
             let noted = state.noted;
             if 4096 < noted {
                 return Collected::Refused {
-                    code: 18,
+                    why: Refusal::TooMuch,
                     line: 0,
                     file: 0,
                 };
@@ -272,7 +291,7 @@ pub(crate) fn collect(
                     let n = last.kept;
                     if 4096 < n {
                         Collected::Refused {
-                            code: 18,
+                            why: Refusal::TooMuch,
                             line: 0,
                             file: 0,
                         }
@@ -280,25 +299,9 @@ pub(crate) fn collect(
                         Collected::Rules { n }
                     }
                 }
-                Walked::Refused {
-                    code,
-                    line,
-                    file: f,
-                } => Collected::Refused {
-                    code,
-                    line,
-                    file: f,
-                },
+                Walked::Refused { why, line, file: f } => Collected::Refused { why, line, file: f },
             }
         }
-        Walked::Refused {
-            code,
-            line,
-            file: f,
-        } => Collected::Refused {
-            code,
-            line,
-            file: f,
-        },
+        Walked::Refused { why, line, file: f } => Collected::Refused { why, line, file: f },
     }
 }

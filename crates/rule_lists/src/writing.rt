@@ -7,6 +7,7 @@ ghost use Rattle.name_parts.specs.Writing.{Put, cap};
 ghost use Rattle.rule_lists.specs.Lines.{ruleIn};
 ghost use Rattle.rule_lists.specs.Tables.{keysOf};
 ghost use Rattle.rule_lists.specs.Writing.{rulePut, rowPut, SomeKept, RowFits, rowAtPut, RowsPut};
+use refusals::Refusal;
 use rules_parser::FileKind;
 use rules_parser::Item;
 use rules_parser::Text;
@@ -14,8 +15,14 @@ use rules_parser::Told;
 
 // The place behind what was written, or the refusal.
 pub enum Written {
-    Done { at: usize },
-    Refused { code: u32, line: usize, file: usize },
+    Done {
+        at: usize,
+    },
+    Refused {
+        why: Refusal,
+        line: usize,
+        file: usize,
+    },
 }
 
 // Writes the four strings of a rule.

@@ -6,7 +6,7 @@ use Rattle.lang.proofs.is_framed.Statement.{statement}
 use Rattle.lang.proofs.is_framed.Tie as tie
 use Rattle.lang.proofs.is_framed.Reads as reads
 use Rattle.lang.proofs.is_framed.Lts as lts
-use Rattle.texts.proofs.find_byte.Reads as find-byte-reads
+use Rattle.lang.proofs.is_blankless.Reads as is-blankless-reads
 use Rattle.texts.proofs.first_is.Reads as first-is-reads
 
 first-is-requires : tie.Need-first-is-requires
@@ -15,8 +15,8 @@ first-is-requires c κs = search (framed-laws, needs)
 first-is-requires-2 : tie.Need-first-is-requires-2
 first-is-requires-2 c κs = search (framed-laws, needs)
 
-find-byte-requires : tie.Need-find-byte-requires
-find-byte-requires c κs = search (framed-laws, needs)
+is-blankless-requires : tie.Need-is-blankless-requires
+is-blankless-requires c κs = search (framed-laws, needs)
 
 returns : tie.Need-returns
 unfolding framed
@@ -44,7 +44,7 @@ is-framed-spec =
     (tie.spec
     first-is-requires
     first-is-requires-2
-    find-byte-requires
+    is-blankless-requires
     returns
     returns-2
     returns-3

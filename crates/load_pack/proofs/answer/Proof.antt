@@ -33,8 +33,11 @@ part-write-end c = search (load-within, needs)
 write-requires : tie.Need-write-requires
 write-requires c κs = search needs
 
-enum-known-code : tie.Need-enum-known-code
-enum-known-code c = search needs
+enum-known-why : tie.Need-enum-known-why
+enum-known-why c = search needs
+
+number-of-requires : tie.Need-number-of-requires
+number-of-requires c κs = search needs
 
 print-refusal-requires : tie.Need-print-refusal-requires
 print-refusal-requires c κs = search needs
@@ -57,7 +60,8 @@ answer-spec =
     part-write-start
     part-write-end
     write-requires
-    enum-known-code
+    enum-known-why
+    number-of-requires
     print-refusal-requires
     returns
     returns-2)

@@ -21,14 +21,17 @@ slice-write-tail c = search needs
 slice-write-tail-2 : tie.Need-slice-write-tail-2
 slice-write-tail-2 c = search needs
 
-enum-known-code : tie.Need-enum-known-code
-enum-known-code c = search needs
+enum-known-why : tie.Need-enum-known-why
+enum-known-why c = search needs
 
 slice-write-tail-3 : tie.Need-slice-write-tail-3
 slice-write-tail-3 c = search needs
 
 slice-write-tail-4 : tie.Need-slice-write-tail-4
 slice-write-tail-4 c = search needs
+
+number-of-requires : tie.Need-number-of-requires
+number-of-requires c κs = search needs
 
 same-length : tie.Need-same-length
 same-length c = search needs
@@ -57,9 +60,10 @@ bm-load-spec =
     enum-known-length
     slice-write-tail
     slice-write-tail-2
-    enum-known-code
+    enum-known-why
     slice-write-tail-3
     slice-write-tail-4
+    number-of-requires
     same-length
     same-length-2
     returns-2

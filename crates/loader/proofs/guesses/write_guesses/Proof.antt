@@ -68,8 +68,8 @@ loop-less-2 c = search (writing-laws, needs)
 loop-again-2 : tie.Need-loop-again-2 Inv-loop μ-loop
 loop-again-2 c = search (writing-laws, needs)
 
-enum-known-code : tie.Need-enum-known-code Inv-loop μ-loop
-enum-known-code c = search (writing-laws, needs)
+enum-known-why : tie.Need-enum-known-why Inv-loop μ-loop
+enum-known-why c = search (writing-laws, needs)
 
 same-length : tie.Need-same-length Inv-loop μ-loop
 same-length c = search (writing-laws, needs)
@@ -142,7 +142,7 @@ write-guesses-spec =
     add-line-2
     loop-less-2
     loop-again-2
-    enum-known-code
+    enum-known-why
     same-length
     returns
     enum-told

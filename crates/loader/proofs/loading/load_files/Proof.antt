@@ -47,11 +47,11 @@ part-load-pack-end c = search (file-laws, needs)
 load-pack-requires : tie.Need-load-pack-requires
 load-pack-requires c κs = search (file-laws, needs)
 
-enum-known-code : tie.Need-enum-known-code
-enum-known-code c = search (file-laws, needs)
+enum-known-why : tie.Need-enum-known-why
+enum-known-why c = search (file-laws, needs)
 
-enum-known-code-2 : tie.Need-enum-known-code-2
-enum-known-code-2 c = search (file-laws, needs)
+enum-known-why-2 : tie.Need-enum-known-why-2
+enum-known-why-2 c = search (file-laws, needs)
 
 same-length : tie.Need-same-length
 same-length c = search (file-laws, needs)
@@ -82,8 +82,8 @@ load-files-spec =
     part-load-pack-start
     part-load-pack-end
     load-pack-requires
-    enum-known-code
-    enum-known-code-2
+    enum-known-why
+    enum-known-why-2
     same-length
     returns
     returns-2

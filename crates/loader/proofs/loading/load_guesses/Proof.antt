@@ -28,8 +28,8 @@ write-guesses-requires c κs = search (load-laws, needs)
 enum-known-count : tie.Need-enum-known-count
 enum-known-count c = search (load-laws, needs)
 
-enum-known-code : tie.Need-enum-known-code
-enum-known-code c = search (load-laws, needs)
+enum-known-why : tie.Need-enum-known-why
+enum-known-why c = search (load-laws, needs)
 
 enum-told : tie.Need-enum-told
 enum-told c = search (load-laws, needs)
@@ -66,7 +66,7 @@ load-guesses-spec =
     part-write-guesses-end
     write-guesses-requires
     enum-known-count
-    enum-known-code
+    enum-known-why
     enum-told
     same-length
     returns

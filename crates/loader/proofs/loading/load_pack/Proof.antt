@@ -25,8 +25,8 @@ returns c = search (answer-laws, needs)
 write-pack-requires-2 : tie.Need-write-pack-requires-2
 write-pack-requires-2 c κs = search needs
 
-enum-known-code : tie.Need-enum-known-code
-enum-known-code c = search needs
+enum-known-why : tie.Need-enum-known-why
+enum-known-why c = search needs
 
 same-length : tie.Need-same-length
 same-length c = search needs
@@ -47,7 +47,7 @@ load-pack-spec =
     needed-requires
     returns
     write-pack-requires-2
-    enum-known-code
+    enum-known-why
     same-length
     returns-2
     returns-3)

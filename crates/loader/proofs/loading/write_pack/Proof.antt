@@ -33,8 +33,8 @@ push-requires c κs = search needs
 write-lists-requires : tie.Need-write-lists-requires
 write-lists-requires c κs = search needs
 
-enum-known-code : tie.Need-enum-known-code
-enum-known-code c = search needs
+enum-known-why : tie.Need-enum-known-why
+enum-known-why c = search needs
 
 same-length : tie.Need-same-length
 same-length c = search needs
@@ -60,7 +60,7 @@ write-pack-spec =
     cast-push
     push-requires
     write-lists-requires
-    enum-known-code
+    enum-known-why
     same-length
     returns
     same-length-2

@@ -18,8 +18,14 @@ part-requires-4 c κs = search needs
 rule-fault-requires : tie.Need-rule-fault-requires
 rule-fault-requires c κs = search needs
 
+enum-told : tie.Need-enum-told
+enum-told c = search needs
+
 first-code-requires : tie.Need-first-code-requires
 first-code-requires c κs = search needs
+
+enum-known-why : tie.Need-enum-known-why
+enum-known-why c = search needs
 
 returns : tie.Need-returns
 returns c = search row-laws
@@ -36,6 +42,8 @@ row-of-spec =
     part-requires-3
     part-requires-4
     rule-fault-requires
+    enum-told
     first-code-requires
+    enum-known-why
     returns
     returns-2)

@@ -50,8 +50,8 @@ loop-less c = search (all-laws, needs)
 loop-again : tie.Need-loop-again Inv-loop μ-loop
 loop-again c = (search needs, search needs, search needs, search (all-laws, needs))
 
-enum-known-code : tie.Need-enum-known-code Inv-loop μ-loop
-enum-known-code c = search (all-laws, needs)
+enum-known-why : tie.Need-enum-known-why Inv-loop μ-loop
+enum-known-why c = search (all-laws, needs)
 
 same-length : tie.Need-same-length Inv-loop μ-loop
 same-length c = search (all-laws, needs)
@@ -99,7 +99,7 @@ write-all-spec =
     enum-known-q
     loop-less
     loop-again
-    enum-known-code
+    enum-known-why
     same-length
     same-length-2
     same-length-3

@@ -31,8 +31,8 @@ put-rows-requires c κs = (
   list-kept _ _ _ _ (c .before .before .before .before .before .before .before .before .before .before .before .before .before .before .before .before .before .before .before .before .before .find-file .ensures) _ _ _ (c .before .before .before .before .before .before .before .before .before .before .before .before .before .before .before .before .before .before .before .number .given .1) _ _ (c .before .before .before .before .before .before .before .before .before .before .before .before .before .before .before .collect .ensures) _ (c .before .before .before .before .before .before .before .before .before .n .given .1),
 )
 
-enum-known-code : tie.Need-enum-known-code
-enum-known-code c = search needs
+enum-known-why : tie.Need-enum-known-why
+enum-known-why c = search needs
 
 enum-told : tie.Need-enum-told
 enum-told c = search needs
@@ -71,7 +71,7 @@ write-list-spec =
     enum-known-n
     sort-requires
     put-rows-requires
-    enum-known-code
+    enum-known-why
     enum-told
     same-length
     same-length-2

@@ -19,8 +19,8 @@ enum-known-p c = search needs
 write-two-requires : tie.Need-write-two-requires
 write-two-requires c κs = search needs
 
-enum-known-code : tie.Need-enum-known-code
-enum-known-code c = search needs
+enum-known-why : tie.Need-enum-known-why
+enum-known-why c = search needs
 
 same-length : tie.Need-same-length
 same-length c = search needs
@@ -54,7 +54,7 @@ write-three-spec =
     write-named-requires
     enum-known-p
     write-two-requires
-    enum-known-code
+    enum-known-why
     same-length
     same-length-2
     same-length-3

@@ -21,8 +21,8 @@ slice-aggregate-write-named-2 c = search needs
 write-named-requires-2 : tie.Need-write-named-requires-2
 write-named-requires-2 c κs = search needs
 
-enum-known-code : tie.Need-enum-known-code
-enum-known-code c = search needs
+enum-known-why : tie.Need-enum-known-why
+enum-known-why c = search needs
 
 same-length : tie.Need-same-length
 same-length c = search needs
@@ -57,7 +57,7 @@ write-two-spec =
     enum-known-p
     slice-aggregate-write-named-2
     write-named-requires-2
-    enum-known-code
+    enum-known-why
     same-length
     same-length-2
     same-length-3

@@ -98,7 +98,7 @@ walk-one-more-requires : (t : ℕ) → walk-lts.Need-one-more-requires (walk-cal
 walk-one-more-requires t c κs = search needs
 
 walk-walk-requires : (t : ℕ) → walk-lts.Need-walk-requires (walk-calls t) (walk-at t) walk.Post walk-Inv-loop walk-μ-loop
-walk-walk-requires t c κs = (search entry-less, ((search entry-order, search entry-within), entry-ready (c .before .before .before .before .before .before .before .before .before .before .before .before .before .loop .inv) (c .before .before .before .before .before .before .before .before .before .before .before .before .loop-test .taken) (c .before .before .before .before .before .before .before .before .before .before .before .row-at .ensures) (c .before .before .before .before .before .before .before .before .before .name .given .1) (c .before .before .before .before .before .before .before .part .ensures) _ (c .before .before .before .before .before .before .enter .ensures) (c .before .before .before .before .g .given .1) (c .before .before .one-more .ensures)))
+walk-walk-requires t c κs = (search entry-less, ((entry-order (c .before .before .before .before .before .before .before .before .before .before .before .before .before .loop .inv) (c .before .before .before .before .before .before .before .before .before .before .before .before .loop-test .taken) (c .before .before .before .before .before .before .before .before .before .before .before .row-at .ensures) (c .before .before .before .before .before .before .before .before .before .name .given .1) (c .before .before .before .before .before .before .before .part .ensures) _ (c .before .before .before .before .before .before .enter .ensures) (c .before .before .before .before .g .given .1), entry-within (c .before .before .before .before .before .before .before .before .before .before .before .before .before .loop .inv) (c .before .before .before .before .before .before .before .before .before .before .before .before .loop-test .taken) (c .before .before .before .before .before .before .before .before .before .before .before .row-at .ensures) (c .before .before .before .before .before .before .before .before .before .name .given .1) (c .before .before .before .before .before .before .before .part .ensures) _ (c .before .before .before .before .before .before .enter .ensures) (c .before .before .before .before .g .given .1)), entry-ready (c .before .before .before .before .before .before .before .before .before .before .before .before .before .loop .inv) (c .before .before .before .before .before .before .before .before .before .before .before .before .loop-test .taken) (c .before .before .before .before .before .before .before .before .before .before .before .row-at .ensures) (c .before .before .before .before .before .before .before .before .before .name .given .1) (c .before .before .before .before .before .before .before .part .ensures) _ (c .before .before .before .before .before .before .enter .ensures) (c .before .before .before .before .g .given .1) (c .before .before .one-more .ensures)))
 
 walk-enum-known-state : (t : ℕ) → walk-lts.Need-enum-known-state (walk-calls t) (walk-at t) walk.Post walk-Inv-loop walk-μ-loop
 walk-enum-known-state t c = search needs
@@ -112,8 +112,8 @@ walk-loop-less-3 t c = less-include (c .before .before .before .before .before .
 walk-loop-again-3 : (t : ℕ) → walk-lts.Need-loop-again-3 (walk-calls t) (walk-at t) walk.Post walk-Inv-loop walk-μ-loop
 walk-loop-again-3 t c = going-in (c .before .before .before .before .before .before .before .before .before .before .before .before .before .before .before .before .before .before .before .before .before .loop .inv) (c .before .before .before .before .before .before .before .before .before .before .before .before .before .before .before .before .before .before .before .before .loop-test .taken) (c .before .before .before .before .before .before .before .before .before .before .before .before .before .before .before .before .before .before .before .row-at .ensures) (c .before .before .before .before .before .before .before .before .before .before .before .before .before .before .before .before .before .name .given .1) (c .before .before .before .before .before .before .before .before .before .before .before .before .before .before .before .part .ensures) _ (c .before .before .before .before .before .before .before .before .before .before .before .before .before .before .enter .ensures) (c .before .before .before .before .before .before .before .before .before .before .before .before .g .given .1) (c .before .before .before .before .before .before .before .before .before .before .one-more .ensures) (c .before .before .before .before .before .before .before .walk .ensures) (c .before .state .given .1)
 
-walk-enum-known-code-2 : (t : ℕ) → walk-lts.Need-enum-known-code-2 (walk-calls t) (walk-at t) walk.Post walk-Inv-loop walk-μ-loop
-walk-enum-known-code-2 t c = search needs
+walk-enum-known-why : (t : ℕ) → walk-lts.Need-enum-known-why (walk-calls t) (walk-at t) walk.Post walk-Inv-loop walk-μ-loop
+walk-enum-known-why t c = search needs
 
 walk-same-length : (t : ℕ) → walk-lts.Need-same-length (walk-calls t) (walk-at t) walk.Post walk-Inv-loop walk-μ-loop
 walk-same-length t c = omega (arith, c .before .before .before .before .before .before .before .before .before .before .before .before .before .before .before .before .before .before .before .before .before .loop .inv .long)
@@ -122,10 +122,10 @@ walk-same-length-2 : (t : ℕ) → walk-lts.Need-same-length-2 (walk-calls t) (w
 walk-same-length-2 t c = omega (arith, c .before .before .before .before .before .before .before .before .before .before .before .before .before .before .before .before .before .before .before .before .before .loop .inv .wide)
 
 walk-returns : (t : ℕ) → walk-lts.Need-returns (walk-calls t) (walk-at t) walk.Post walk-Inv-loop walk-μ-loop
-walk-returns t c = stop-in (c .before .before .before .before .before .before .before .before .before .before .before .before .before .before .before .before .before .before .before .before .before .loop .inv) (c .before .before .before .before .before .before .before .before .before .before .before .before .before .before .before .before .before .before .before .before .loop-test .taken) (c .before .before .before .before .before .before .before .before .before .before .before .before .before .before .before .before .before .before .before .row-at .ensures) (c .before .before .before .before .before .before .before .before .before .before .before .before .before .before .before .before .before .name .given .1) (c .before .before .before .before .before .before .before .before .before .before .before .before .before .before .before .part .ensures) _ (c .before .before .before .before .before .before .before .before .before .before .before .before .before .before .enter .ensures) (c .before .before .before .before .before .before .before .before .before .before .before .before .g .given .1) (c .before .before .before .before .before .before .before .before .before .before .one-more .ensures) (c .before .before .before .before .before .before .before .walk .ensures) (c .before .code2 .given .1)
+walk-returns t c = stop-in (c .before .before .before .before .before .before .before .before .before .before .before .before .before .before .before .before .before .before .before .before .before .loop .inv) (c .before .before .before .before .before .before .before .before .before .before .before .before .before .before .before .before .before .before .before .before .loop-test .taken) (c .before .before .before .before .before .before .before .before .before .before .before .before .before .before .before .before .before .before .before .row-at .ensures) (c .before .before .before .before .before .before .before .before .before .before .before .before .before .before .before .before .before .name .given .1) (c .before .before .before .before .before .before .before .before .before .before .before .before .before .before .before .part .ensures) _ (c .before .before .before .before .before .before .before .before .before .before .before .before .before .before .enter .ensures) (c .before .before .before .before .before .before .before .before .before .before .before .before .g .given .1) (c .before .before .before .before .before .before .before .before .before .before .one-more .ensures) (c .before .before .before .before .before .before .before .walk .ensures) (c .before .why .given .1)
 
-walk-enum-known-code-3 : (t : ℕ) → walk-lts.Need-enum-known-code-3 (walk-calls t) (walk-at t) walk.Post walk-Inv-loop walk-μ-loop
-walk-enum-known-code-3 t c = search needs
+walk-enum-known-why-2 : (t : ℕ) → walk-lts.Need-enum-known-why-2 (walk-calls t) (walk-at t) walk.Post walk-Inv-loop walk-μ-loop
+walk-enum-known-why-2 t c = search needs
 
 walk-same-length-3 : (t : ℕ) → walk-lts.Need-same-length-3 (walk-calls t) (walk-at t) walk.Post walk-Inv-loop walk-μ-loop
 walk-same-length-3 t c = omega (arith, c .before .before .before .before .before .before .before .before .before .before .loop .inv .long)
@@ -136,8 +136,8 @@ walk-same-length-4 t c = omega (arith, c .before .before .before .before .before
 walk-returns-2 : (t : ℕ) → walk-lts.Need-returns-2 (walk-calls t) (walk-at t) walk.Post walk-Inv-loop walk-μ-loop
 walk-returns-2 t c = search stop-enter
 
-walk-enum-known-code-4 : (t : ℕ) → walk-lts.Need-enum-known-code-4 (walk-calls t) (walk-at t) walk.Post walk-Inv-loop walk-μ-loop
-walk-enum-known-code-4 t c = search needs
+walk-enum-known-why-3 : (t : ℕ) → walk-lts.Need-enum-known-why-3 (walk-calls t) (walk-at t) walk.Post walk-Inv-loop walk-μ-loop
+walk-enum-known-why-3 t c = search needs
 
 walk-same-length-5 : (t : ℕ) → walk-lts.Need-same-length-5 (walk-calls t) (walk-at t) walk.Post walk-Inv-loop walk-μ-loop
 walk-same-length-5 t c = search needs
@@ -188,15 +188,15 @@ pub +walk-spec : {M : Type 1} → statement M
     (walk-add-line-3 t)
     (walk-loop-less-3 t)
     (walk-loop-again-3 t)
-    (walk-enum-known-code-2 t)
+    (walk-enum-known-why t)
     (walk-same-length t)
     (walk-same-length-2 t)
     (walk-returns t)
-    (walk-enum-known-code-3 t)
+    (walk-enum-known-why-2 t)
     (walk-same-length-3 t)
     (walk-same-length-4 t)
     (walk-returns-2 t)
-    (walk-enum-known-code-4 t)
+    (walk-enum-known-why-3 t)
     (walk-same-length-5 t)
     (walk-same-length-6 t)
     (walk-returns-3 t)

@@ -24,11 +24,11 @@ walk-requires-2 c κs = (search needs, search collect-laws)
 enum-known-last : tie.Need-enum-known-last
 enum-known-last c = search needs
 
-enum-known-code : tie.Need-enum-known-code
-enum-known-code c = search needs
+enum-known-why : tie.Need-enum-known-why
+enum-known-why c = search needs
 
-enum-known-code-2 : tie.Need-enum-known-code-2
-enum-known-code-2 c = search needs
+enum-known-why-2 : tie.Need-enum-known-why-2
+enum-known-why-2 c = search needs
 
 same-length-3 : tie.Need-same-length-3
 same-length-3 c = search needs
@@ -77,8 +77,8 @@ collect-spec =
     returns
     walk-requires-2
     enum-known-last
-    enum-known-code
-    enum-known-code-2
+    enum-known-why
+    enum-known-why-2
     same-length-3
     same-length-4
     returns-2
