@@ -39,6 +39,9 @@ enum-known-why c = search needs
 number-of-requires : tie.Need-number-of-requires
 number-of-requires c κs = search needs
 
+cast-print-refusal : tie.Need-cast-print-refusal
+cast-print-refusal c = search needs
+
 print-refusal-requires : tie.Need-print-refusal-requires
 print-refusal-requires c κs = search needs
 
@@ -62,6 +65,7 @@ answer-spec =
     write-requires
     enum-known-why
     number-of-requires
+    cast-print-refusal
     print-refusal-requires
     returns
     returns-2)

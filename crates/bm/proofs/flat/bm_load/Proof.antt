@@ -33,6 +33,9 @@ slice-write-tail-4 c = search needs
 number-of-requires : tie.Need-number-of-requires
 number-of-requires c κs = search needs
 
+cast-result : tie.Need-cast-result
+cast-result c = search needs
+
 same-length : tie.Need-same-length
 same-length c = search needs
 
@@ -64,6 +67,7 @@ bm-load-spec =
     slice-write-tail-3
     slice-write-tail-4
     number-of-requires
+    cast-result
     same-length
     same-length-2
     returns-2
