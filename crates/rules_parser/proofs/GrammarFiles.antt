@@ -67,19 +67,19 @@ pub record Item-as (s : List ℕ) (i : Item) (x : Found) (left : List ℕ) : Typ
 
 -- the line l at p of the file s
 module _ (k : FileKind) (s : List ℕ) (p : ℕ) (o : p < length s) (l left : List ℕ) (f : FirstLine (drop p s) l left) where
-  abbrev c : List ℕ
-  c = take (p + length l) s
+  abbrev upTo : List ℕ
+  upTo = take (p + length l) s
 
-  abbrev z : List ℕ
-  z = drop (p + length l) s
+  abbrev beyond : List ℕ
+  beyond = drop (p + length l) s
 
-  here : drop p c ≡ l
+  here : drop p upTo ≡ l
   here = let w = cut s p l left f in line-text s p l (w .rest) (omega arith) (w .whole)
 
-  joined : c ++ z ≡ s
+  joined : upTo ++ beyond ≡ s
   joined = take-append-drop (p + length l) s
 
-  item-line : itemAt k s p ≡ onLine (lineAt k c p) s p
+  item-line : itemAt k s p ≡ onLine (lineAt k upTo p) s p
   unfolding itemAt
   item-line = pick-false _ _ _ (lt-leb _ _ o) ∙ ap (λ (n : ℕ). onLine (lineAt k (take n s) p) s p) (cut s p l left f .end)
 
@@ -88,17 +88,17 @@ module _ (k : FileKind) (s : List ℕ) (p : ℕ) (o : p < length s) (l left : Li
 
   blank-item : Blanks l → Item-as s (itemAt k s p) (passed 1) left
   unfolding onLine foundOf More
-  blank-item h = rw (item-line, blank-complete k c p (rw here h)) (record { found = refl; more = goes })
+  blank-item h = rw (item-line, blank-complete k upTo p (rw here h)) (record { found = refl; more = goes })
 
   comment-item : CommentLine l → Item-as s (itemAt k s p) (passed 1) left
   unfolding onLine foundOf More
-  comment-item h = rw (item-line, comment-complete k c p (rw here h)) (record { found = refl; more = goes })
+  comment-item h = rw (item-line, comment-complete k upTo p (rw here h)) (record { found = refl; more = goes })
 
   opening-item : OpeningLine l → itemAt k s p ≡ commentAt s p
   unfolding onLine
-  opening-item h = rw (item-line, opening-complete k c p (rw here h)) refl
+  opening-item h = rw (item-line, opening-complete k upTo p (rw here h)) refl
 
-  says-item : (x : Said) → (Told-as (c ++ z) (lineAt k c p) x) → Item-as s (itemAt k s p) (said x) left
+  says-item : (x : Said) → (Told-as (upTo ++ beyond) (lineAt k upTo p) x) → Item-as s (itemAt k s p) (said x) left
   unfolding onLine foundOf More
   says-item x w =
       let m : saidOf s (w .told) ≡ x = ap (λ (v : List ℕ). saidOf v (w .told)) (sym joined) ∙ w .same in
