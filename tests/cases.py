@@ -540,6 +540,30 @@ def spelling_all():
             yield spell_case(data, settings, (0, 0), 40, ("de " + words[0]).encode())
 
 
+def lines_case(data, settings, room, names):
+    return unasked("pack %s\nlines %s %d %s" % (hex_of(data), " ".join(map(str, settings)), room, hex_of(names)))
+
+
+def block_all():
+    """Blocks in every small buffer: answers and refusals that fit, that wait for an emptier buffer, and that never fit."""
+    for names in ("aaaaa\n", "Ω\n", "\n", "\naaaaa\n", "aba\nde a\na-a\nd'\nΩ\n", "a\naaaaaaaaaaaa\na\n", "", "aaaaa", "a\naaaaa"):
+        for room in range(26):
+            yield lines_case(PAPER_PACK, (1, 0, 0, 20), room, names.encode())
+    for room in range(8):
+        yield lines_case(PAPER_PACK[:-1], (1, 0, 0, 20), room, b"a\na\n")
+        yield lines_case(PAPER_PACK, (1, 0, 0, 257), room, b"a\n\n")
+        yield lines_case(PAPER_PACK, (1, 0, 0, 20), room, b"a" * 97 + b"\na\n")
+
+
+def block_random(rng, count):
+    for _ in range(count):
+        sounds, data = spelling_pack(rng)
+        for _ in range(20):
+            settings = (rng.randrange(3), rng.randrange(2), rng.randrange(2), rng.choice(LIMITS))
+            names = b"".join(name_over(rng, sounds) + b"\n" for _ in range(rng.randrange(1, 5)))
+            yield lines_case(data, settings, rng.choice((0, 3, 4, 5, 9, 20, 40, 80, 200)), names[:rng.choice((len(names), len(names), 30))])
+
+
 def name_over(rng, sounds):
     """Words of a pack's letters, parted and led as steps 2 to 5 look for; seldom bytes that are no name."""
     name = rng.choice((" ", "-", "'", "  ")).join(word_over(rng, sounds, 6) for _ in range(rng.choice((1, 1, 1, 2, 2, 3))))
@@ -916,6 +940,7 @@ LAYERS = {
     "words": (words_all, words_random),
     "spelling": (spelling_all, spelling_random),
     "loading": (loading_all, loading_random),
+    "blocks": (block_all, block_random),
 }
 
 

@@ -29,6 +29,7 @@ NO_CASES = ["", " ", "foo", "decode", "decode 6", "decode 6g", "decode 61 62", "
             "word 0 3 1 20 0 4294967296 61", "word - 3 1 20 0 0 61", "spell 1 0 0 20 4", "spell 1 0 0 20 4 61 61",
             "spell 1 0 0 20 4 6", "spell 4294967296 0 0 20 4 61", "spell 1 0 0 20 4097 61", "given 1 0 0 20 4 61",
             "given 1 0 0 20 0 0 4 61 61", "given 1 0 0 20 0 x 4 61", "given 1 0 0 20 0 0 4097 61", "bundle", "bundle 6", "bundle 0000 00",
+            "lines 1 0 0 20 4", "lines 1 0 0 20 4 61 61", "lines 1 0 0 20 4 6", "lines 1 0 0 20 4097 61", "lines 1 0 0 x 4 61",
             "load", "load 1", "load 1 0 0", "load 1 98305", "load x 0", "load 1 -", "load 4294967296 0"]
 # what is no case of a pack with five lists: a limit over 256, a list that is not there
 NO_CASES += ["pack %s\nword %s" % (cases.PAPER_PACK.hex(), fields) for fields in (
@@ -75,9 +76,10 @@ def sampled(layer, seed, count, sample):
 
 
 def stored(layer):
-    """Some cases of each kind, by the last line's word; of spelling those of some packs, all of them; of loading as cases.py says."""
-    if layer == "spelling":
-        return list(cases.cases_of(layer, 1, 40))
+    """Some cases of each kind, by the last line's word; of spelling and blocks those of some packs, all of them; of loading as cases.py
+    says."""
+    if layer in ("spelling", "blocks"):
+        return list(cases.cases_of(layer, 1, 40 if layer == "spelling" else 10))
     if layer == "loading":
         return list(cases.loading_stored())
     kinds = {}

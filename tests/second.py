@@ -1062,6 +1062,20 @@ def key_line(settings, checked, name):
     return b"%d %d\n" % (code, result)
 
 
+def block(settings, checked, names, room):
+    """(0, bytes read, text) for the lines of a block that go into a buffer, or (9, length needed, nothing)
+    where the first doesn't (01, code 9: "answer .. longer than the output buffer", of a line)."""
+    read, text, size = 0, b"", min(room, MOST)
+    for name in names.split(b"\n")[:-1]:
+        whole = key_line(settings, checked, name)
+        needed = min(len(whole), MOST)
+        line = b"9 %d\n" % needed if whole[:1] == b"0" and len(whole) > size else whole
+        if len(text) + len(line) > size:
+            return (0, read, text) if read else (9, needed, b"")
+        read, text = read + len(name) + 1, text + line
+    return 0, read, text
+
+
 def keys(settings, pack, names):
     """What document 01's program prints for a block of names, "one name a line"."""
     if len(pack) > PROGRAM_PACK:
@@ -1079,7 +1093,7 @@ def keys(settings, pack, names):
 
 UNTOUCHED = 165                 # each byte of a lent buffer
 LONGEST_PACK = 98304            # of a `pack` or `bundle` line, and the largest room of `load`
-LARGEST_ROOM = 4096             # of `spell` and `given`
+LARGEST_ROOM = 4096             # of `spell`, `given` and `lines`
 
 
 class NotACase(Exception):
@@ -1307,6 +1321,12 @@ class Cases:
     def on_given(self, name_type, rule_type, concat, limit, kind, bits, room, name):
         given = number_of(kind), number_of(bits)
         return self.spelled((name_type, rule_type, concat, limit), given, room, name)
+
+    def on_lines(self, name_type, rule_type, concat, limit, room, names):
+        settings = Settings(*(number_of(field) for field in (name_type, rule_type, concat, limit)))
+        room, names = number_of(room, LARGEST_ROOM), bytes_of(names)
+        code, number, text = block(settings, self.checked, names, room)
+        return "%d %d %s%s" % (code, number, "%d " % len(text) if code == 0 else "", lent(room, text))
 
     def on_bundle(self, data):
         data = bytes_of(data)

@@ -834,6 +834,15 @@ class Spelling(Case):
         self.assertEqual(second.keys(settings, PACK[:-1], b"a\n\xff\n"), b"5 22\n1 0\n")
         self.assertEqual(second.keys(Settings(GENERIC, 0, 0, 257), PACK, b"a\n"), b"4 0\n")
 
+    def test_01_a_block_in_a_buffer(self):
+        settings, checked = Settings(GENERIC, 0, 0, 20), second.check_pack(PACK)
+        self.assertEqual(second.block(settings, checked, b"aaaaa\n", 10), (0, 6, b"0 0 ooooo\n"))
+        self.assertEqual(second.block(settings, checked, b"aaaaa\n", 9), (0, 6, b"9 10\n"))
+        self.assertEqual(second.block(settings, checked, b"aaaaa\n", 4), (9, 10, b""))
+        self.assertEqual(second.block(settings, checked, "Ω\n".encode(), 3), (9, 4, b""))
+        self.assertEqual(second.block(settings, checked, b"a\naaaaa\n", 10), (0, 2, b"0 0 o\n"))
+        self.assertEqual(second.block(settings, checked, b"aaaaa", 0), (0, 0, b""))
+
     def test_order_of_checks(self):
         bad = PACK[:-1]
         long, ill, outside = b"\xff" * 97, b"\x01\xff", b"\x01"

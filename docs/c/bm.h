@@ -28,7 +28,8 @@ uint32_t bm_spell_given(uint32_t name_type, uint32_t rule_type, uint32_t concat,
                         size_t out_length, uint64_t *tail, size_t tail_length);
 
 /* The lines that the program keys prints for a block of names, each ended by LF: as many as fit into `out`. given: 0 guesses,
-   else kind and bits count. Answers 0. tail[0]: bytes of the block that were read; tail[1]: bytes written. */
+   else kind and bits count. 0: tail[0] bytes of the block were read (more than none where it holds a whole line), and tail[1] bytes
+   written. 9: not even the first line fits; with tail[0] bytes in `out` it does (4294967295: it never will), and tail[1] is 0. */
 uint32_t bm_spell_lines(uint32_t name_type, uint32_t rule_type, uint32_t concat, uint32_t limit, uint32_t given, uint32_t kind,
                         uint32_t bits, const uint8_t *pack, size_t pack_length, const uint8_t *block, size_t block_length,
                         uint8_t *out, size_t out_length, uint64_t *tail, size_t tail_length);

@@ -26,6 +26,7 @@ fn said_of(
         cases::WORD => words_cases::word(given, tells, made, kept),
         cases::SPELL => spelling_cases::spell(given, tells, made, kept),
         cases::GIVEN => spelling_cases::spell_given(given, tells, made, kept),
+        cases::LINES => spelling_cases::spell_lines(given, tells, made, kept),
         cases::LOAD => loading_cases::load(tells, made, files),
         _ => cases::said_of(command, given, tells, made, kept),
     }

@@ -1,6 +1,8 @@
-// The cases of the crate beider_morse: a name spelled into a buffer of so many bytes, each 165.
+// The cases of the crate beider_morse: a name or a block of names spelled into a buffer of so many bytes, each 165.
+use beider_morse::Lines;
 use beider_morse::Settings;
 use beider_morse::Spelled;
+use beider_morse::Start;
 use cases::Said;
 use cases::lent;
 
@@ -55,4 +57,29 @@ pub fn spell_given(given: &[u8], tells: &[usize; 9], made: &mut [u8], kept: &[u8
         lent(made, room),
     );
     answered(s, room)
+}
+
+fn taken(l: Lines, room: usize) -> Said {
+    match l {
+        Lines::Done { read, written } => Said::Line(0, read, written, room),
+        Lines::NoRoom { needed } => Said::Line(9, needed, cases::NO_NUMBER, room),
+    }
+}
+
+// `lines T K C L ROOM HEX`: a block of names, by guessing: 0, how much was read and how much written, or 9 and the length needed; then
+// the buffer.
+pub fn spell_lines(given: &[u8], tells: &[usize; 9], made: &mut [u8], kept: &[u8]) -> Said {
+    let room = tells[5];
+    if room > ROOM {
+        return cases::word(cases::NO_CASE);
+    }
+    let block = cases::part(given, 0, tells[6]);
+    let l = beider_morse::spell_lines(
+        settings_of(tells),
+        Start::Guessed,
+        kept,
+        block,
+        lent(made, room),
+    );
+    taken(l, room)
 }

@@ -1,11 +1,10 @@
 // The face: rule files loaded, a pack checked, a name spelled, names a line each. What is refused, and with which number, is the paper's
 // table. Crate bm is the same for C.
 ghost use mathlib.Core.Path.{_≡_};
-ghost use lib.ListN.{length};
 ghost use Rattle.pack.specs.Packs.{packOf, verdictOf};
 ghost use Rattle.loader.specs.Loading.{LoadIs};
 ghost use Rattle.engine.specs.Calls.{callOf, SpellIs};
-ghost use Rattle.engine.specs.Lines.{lineFor, LinesIs};
+ghost use Rattle.engine.specs.Lines.{LinesIs};
 ghost use Rattle.engine.specs.declared.call.Start.the-variants.{Guessed, Given};
 pub use engine::Lines;
 pub use engine::Settings;
@@ -50,7 +49,7 @@ pub fn spell_given(
     engine::spell(settings, Start::Given { kind, bits }, pack, name, out)
 }
 
-// The lines that the program prints for a block of names, each ended by LF: as many as fit.
+// The lines that the program prints for a block of names, each ended by LF: as many as fit; or 9, where the first does not.
 pub fn spell_lines(
     settings: Settings,
     start: Start,
@@ -58,7 +57,7 @@ pub fn spell_lines(
     block: &[u8],
     out: &mut [u8],
 ) -> Lines
-    ensures { λ r. ⌜ LinesIs (lineFor settings start (now (pack .entry)) (length (now (out .entry)))) (now (block .entry)) (now (out .entry)) r (now (out .exit)) ⌝ }
+    ensures { λ r. ⌜ LinesIs (callOf settings start (now (pack .entry))) (now (block .entry)) (now (out .entry)) r (now (out .exit)) ⌝ }
 {
     engine::spell_lines(settings, start, pack, block, out)
 }

@@ -22,14 +22,15 @@ use Rattle.loader.specs.declared.loading.Loaded.the-variants as loaded
 use Rattle.refusals.specs.Numbers.{numberOf}
 use Rattle.refusals.specs.declared.Refusal.{Refusal}
 use Rattle.engine.specs.Calls as spelling
-use Rattle.engine.specs.Calls.{Outcome, SpellIs, numbersOf}
-use Rattle.engine.specs.Lines.{lineFor, LinesIs}
+use Rattle.engine.specs.Calls.{Outcome, callOf, SpellIs, numbersOf}
+use Rattle.engine.specs.Lines.{BlockNumbers, blockNumbers, blockBy, LinesIs}
 use Rattle.engine.specs.declared.call.Settings.{Settings}
 use Rattle.engine.specs.declared.call.Start.{Start}
 use Rattle.engine.specs.declared.lines.Lines.{Lines}
+use Rattle.engine.specs.declared.lines.Lines.the-variants as lines
 use Rattle.engine.specs.declared.spelling.Spelled.{Spelled}
 use Rattle.engine.specs.declared.spelling.Spelled.the-variants.{Done, Refused}
-use Rattle.bm.specs.Flat.{flagBit, numbered, TailIs, SpellFlat, checkNumbers, CheckFlat, LinesFlat, placed, LoadFlat}
+use Rattle.bm.specs.Flat.{flagBit, numbered, TailIs, SpellFlat, checkNumbers, CheckFlat, blocked, LinesFlat, placed, LoadFlat}
 
 bit-is : (f : Bool) → boolByte f ≡ flagBit f
 unfolding flagBit
@@ -90,20 +91,29 @@ module _ (s tail : List ℕ) (a : Checked) (h : 1 ≤ length tail) (e : a ≡ ve
 
 -- ---- a block of names
 
-pub lines-short : (f : Text → Text) (block out tail : List ℕ) → length tail < 2 → LinesFlat f block out out tail tail 255
-lines-short f block out tail h =
+pub lines-short : (call : Text → Outcome) (block out tail : List ℕ) → length tail < 2 → LinesFlat call block out out tail tail 255
+lines-short call block out tail h =
     let t = lt-ltb (length tail) 2 h in
     record { code = pick-yes _ _ _ _ t refl; buffer = pick-yes _ _ _ _ t refl; numbers = pick-yes _ _ _ _ t refl }
 
-pub lines-flat : (c : Settings) (start start′ : Start) (s block out out′ tail : List ℕ) (r : Lines) → 2 ≤ length tail → start ≡ start′ → LinesIs (lineFor c start s (length out)) block out r out′
-    → LinesFlat (lineFor c start′ s (length out)) block out out′ tail (set (set tail 0 (r .read)) 1 (r .written)) 0
-lines-flat c start start′ s block out out′ tail r h e w =
-    let t = le-ltb (length tail) 2 h in
-    rw (← e) (record {
-      code = pick-no _ _ _ _ t refl;
-      buffer = pick-no _ _ _ _ t (w .buffer);
-      numbers = pick-no _ _ _ _ t (ap (λ (x : Lines). set (set tail 0 (x .read)) 1 (x .written)) (w .result));
-    })
+module _ (c : Settings) (start start′ : Start) (s block out out′ tail : List ℕ) (a : Lines) (h : 2 ≤ length tail) (e : start ≡ start′) (w : LinesIs (callOf c start s) block out a out′) where
+  lines-numbers : (n : BlockNumbers) → blockNumbers a ≡ n → LinesFlat (callOf c start′ s) block out out′ tail (blocked n tail) (n .code)
+  lines-numbers n q =
+      let t = le-ltb (length tail) 2 h in
+      let v : n ≡ blockBy (callOf c start s) block (length out) = sym q ∙ w .result in
+      rw (← e) (record {
+        code = pick-no _ _ _ _ t (ap (λ (x : BlockNumbers). x .code) v);
+        buffer = pick-no _ _ _ _ t (w .buffer);
+        numbers = pick-no _ _ _ _ t (ap (λ (x : BlockNumbers). blocked x tail) v);
+      })
+
+  pub lines-done : (read written : ℕ) → a ≡ lines.Done read written → LinesFlat (callOf c start′ s) block out out′ tail (set (set tail 0 read) 1 written) 0
+  unfolding blockNumbers blocked
+  lines-done read written q = lines-numbers (record { code = 0; first = read; second = written }) (ap blockNumbers q)
+
+  pub lines-over : (n : ℕ) → a ≡ lines.NoRoom n → LinesFlat (callOf c start′ s) block out out′ tail (set (set tail 0 n) 1 0) 9
+  unfolding blockNumbers blocked
+  lines-over n q = lines-numbers (record { code = 9; first = n; second = 0 }) (ap blockNumbers q)
 
 -- ---- a bundle
 
@@ -131,7 +141,7 @@ module _ (x : loading.Outcome (List ℕ)) (out out′ tail : List ℕ) (s : Load
   unfolding load.numbersOf placed
   load-refused c p f k e q = load-numbers (record { code = k; place = p; file = f }) (ap load.numbersOf e ∙ ap (λ (m : ℕ). record { code = m; place = p; file = f }) (sym q))
 
-pub ruleset flat-laws = (load-short, load-done, load-refused, tail-done, tail-refused, spell-short, spell-flat, check-short, check-accepted, check-refused, lines-short, lines-flat)
+pub ruleset flat-laws = (load-short, load-done, load-refused, tail-done, tail-refused, spell-short, spell-flat, check-short, check-accepted, check-refused, lines-short, lines-done, lines-over)
 
 -- ---- one answer, one content of each lent buffer
 
@@ -141,7 +151,7 @@ spell-flat-one a b = (one (a .code) (b .code), one (a .buffer) (b .buffer), one 
 pub check-flat-one : {s tail t t′ : List ℕ} {r r′ : ℕ} → CheckFlat s tail t r → CheckFlat s tail t′ r′ → (r ≡ r′) × (t ≡ t′)
 check-flat-one a b = (one (a .code) (b .code), one (a .numbers) (b .numbers))
 
-pub lines-flat-one : {f : Text → Text} {block out tail o o′ t t′ : List ℕ} {r r′ : ℕ} → LinesFlat f block out o tail t r → LinesFlat f block out o′ tail t′ r′ → (r ≡ r′) × (o ≡ o′) × (t ≡ t′)
+pub lines-flat-one : {call : Text → Outcome} {block out tail o o′ t t′ : List ℕ} {r r′ : ℕ} → LinesFlat call block out o tail t r → LinesFlat call block out o′ tail t′ r′ → (r ≡ r′) × (o ≡ o′) × (t ≡ t′)
 lines-flat-one a b = (one (a .code) (b .code), one (a .buffer) (b .buffer), one (a .numbers) (b .numbers))
 
 pub load-flat-one : {x : loading.Outcome (List ℕ)} {out tail o o′ t t′ : List ℕ} {r r′ : ℕ} → LoadFlat x out o tail t r → LoadFlat x out o′ tail t′ r′ → (r ≡ r′) × (o ≡ o′) × (t ≡ t′)

@@ -14,7 +14,7 @@ use Rattle.pack.specs.declared.sections.Checked.the-variants as checked
 use Rattle.rule_lists.specs.Outcomes as loading
 use Rattle.loader.specs.Loading as load
 use Rattle.engine.specs.Calls.{Outcome, Numbers, numbersIn, numbersOf, filledBy}
-use Rattle.engine.specs.Lines.{taken}
+use Rattle.engine.specs.Lines.{taken, BlockNumbers, blockBy}
 use Rattle.engine.specs.declared.call.Settings.{Settings}
 use Rattle.engine.specs.declared.call.Start.{Start}
 use Rattle.engine.specs.declared.call.Start.the-variants.{Guessed, Given}
@@ -53,11 +53,14 @@ pub record CheckFlat (s tail tail′ : List ℕ) (r : ℕ) : Type 0 where
   pub code : r ≡ pick (ltb (length tail) 1) 255 (checkNumbers (verdictOf (packOf s)) .code)
   pub numbers : tail′ ≡ pick (ltb (length tail) 1) tail (set tail 0 (checkNumbers (verdictOf (packOf s)) .place))
 
--- how much was read and how much written
-pub record LinesFlat (f : Text → Text) (block out out′ tail tail′ : List ℕ) (r : ℕ) : Type 0 where
-  pub code : r ≡ pick (ltb (length tail) 2) 255 0
-  pub buffer : out′ ≡ pick (ltb (length tail) 2) out (sets out 0 (taken f block out .text))
-  pub numbers : tail′ ≡ pick (ltb (length tail) 2) tail (set (set tail 0 (taken f block out .read)) 1 (length (taken f block out .text)))
+-- how much was read and how much written, or 9 and the length needed: the two numbers of a block's answer in a tail
+unfoldable pub blocked : BlockNumbers → List ℕ → List ℕ
+blocked n tail = set (set tail 0 (n .first)) 1 (n .second)
+
+pub record LinesFlat (call : Text → Outcome) (block out out′ tail tail′ : List ℕ) (r : ℕ) : Type 0 where
+  pub code : r ≡ pick (ltb (length tail) 2) 255 (blockBy call block (length out) .code)
+  pub buffer : out′ ≡ pick (ltb (length tail) 2) out (sets out 0 (taken call block (length out) .text))
+  pub numbers : tail′ ≡ pick (ltb (length tail) 2) tail (blocked (blockBy call block (length out)) tail)
 
 -- place and file of a loading answer in a tail
 unfoldable pub placed : load.Numbers → List ℕ → List ℕ

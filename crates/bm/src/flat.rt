@@ -5,9 +5,9 @@ ghost use Prim.Native.Nat.{_≤_};
 ghost use lib.ListN.{length};
 ghost use Rattle.loader.specs.Loading.{loadOf, written};
 ghost use Rattle.engine.specs.Calls.{callOf};
-ghost use Rattle.engine.specs.Lines.{lineFor};
 ghost use Rattle.engine.specs.declared.call.Start.the-variants.{Guessed, Given};
 ghost use Rattle.bm.specs.Flat.{settingsOf, startOf, TailIs, CheckFlat, SpellFlat, LinesFlat, LoadFlat};
+use engine::Lines;
 use engine::Settings;
 use engine::Spelled;
 use engine::Start;
@@ -142,7 +142,8 @@ fn start_of(given: u32, kind: u32, bits: u32) -> Start
     }
 }
 
-// The lines of a block of names: 0; `tail` takes how much was read and how much written. `given` 0 guesses, else kind and bits count.
+// The lines of a block of names: 0, and `tail` takes how much was read and how much written; or 9, and `tail` takes the length that the
+// first line needs. `given` 0 guesses, else kind and bits count.
 #[no_mangle]
 pub extern "C" fn bm_spell_lines(
     name_type: u32,
@@ -157,7 +158,7 @@ pub extern "C" fn bm_spell_lines(
     out: &mut [u8],
     tail: &mut [u64],
 ) -> u32
-    ensures { λ r. ⌜ LinesFlat (lineFor (settingsOf «name_type» «rule_type» concat limit) (startOf given kind bits) (now (pack .entry)) (length (now (out .entry)))) (now (block .entry)) (now (out .entry)) (now (out .exit)) (now (tail .entry)) (now (tail .exit)) r ⌝ }
+    ensures { λ r. ⌜ LinesFlat (callOf (settingsOf «name_type» «rule_type» concat limit) (startOf given kind bits) (now (pack .entry))) (now (block .entry)) (now (out .entry)) (now (out .exit)) (now (tail .entry)) (now (tail .exit)) r ⌝ }
 {
     if tail.len() < 2 {
         return 255;
@@ -168,8 +169,16 @@ pub extern "C" fn bm_spell_lines(
         concat,
         limit,
     };
-    let lines = engine::spell_lines(settings, start_of(given, kind, bits), pack, block, out);
-    tail[0] = lines.read as u64;
-    tail[1] = lines.written as u64;
-    0
+    match engine::spell_lines(settings, start_of(given, kind, bits), pack, block, out) {
+        Lines::Done { read, written } => {
+            tail[0] = read as u64;
+            tail[1] = written as u64;
+            0
+        }
+        Lines::NoRoom { needed } => {
+            tail[0] = needed as u64;
+            tail[1] = 0;
+            9
+        }
+    }
 }

@@ -62,14 +62,16 @@ pub const GIVEN: usize = 24;
 
 pub const LOAD: usize = 25;
 
-const NO_WORD: usize = 26;
+pub const LINES: usize = 26;
+
+const NO_WORD: usize = 27;
 
 // Reads a line: the place of its word, or NO_WORD where it is no case.
 pub fn read(line: &[u8], given: &mut [u8], tells: &mut [usize; 9]) -> usize {
     let words =
-        b"decode/outside/lower/name/guess/pack/bundle/order/same/listed/left/right/expr/guessing/narrow/merge/empty/singleton/single/subtract/rule/check/word/spell/given/load";
+        b"decode/outside/lower/name/guess/pack/bundle/order/same/listed/left/right/expr/guessing/narrow/merge/empty/singleton/single/subtract/rule/check/word/spell/given/load/lines";
     let kinds =
-        b"h/h/h/h/h/h/h/hh/hh/hh/hh/hh/hh/hh/ss/ss/s/s/s/nn/hhhhn//nnnnnnh/nnnnnh/nnnnnnnh/nn";
+        b"h/h/h/h/h/h/h/hh/hh/hh/hh/hh/hh/hh/ss/ss/s/s/s/nn/hhhhn//nnnnnnh/nnnnnh/nnnnnnnh/nn/nnnnnh";
     let from = fields::past_blanks(line, 0);
     let to = bytes::scan::find(line, from, line.len(), b' ');
     let command = lists::place_of(words, &line[from..to]);

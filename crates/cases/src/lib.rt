@@ -13,6 +13,7 @@ mod said;
 
 pub use commands::BUNDLE;
 pub use commands::GIVEN;
+pub use commands::LINES;
 pub use commands::LOAD;
 pub use commands::PACK;
 pub use commands::SPELL;

@@ -5,7 +5,7 @@ use mathlib.Core.List.{List, [], _∷_, _++_, append-assoc, append-nil}
 use mathlib.Core.Logic.{_⊎_, inl, inr}
 use Prim.Native.Nat.{ℕ, zero, suc, _+_, _-_, _/_, _%_, _≤_, _<_, min, max, zero-le}
 use native.Mathlib.Nat.{zero-add, sub-zero}
-use native.Mathlib.Decide.{decLe}
+use native.Mathlib.Decide.{decLe, ℕ-discrete}
 use native.Mathlib.Omega.{arith}
 use mir.Val.{boolByte}
 use lib.Dec.{eqb, leb}
@@ -33,19 +33,32 @@ use Rattle.phoneme_builder.specs.Sets.{Spelling, refusal, texts, united}
 use Rattle.phoneme_builder.specs.Passes.{Matcher, Ran, tooLong, ran, raised, onRan, finalText, finalFrom, finalPass, then, mainOf, wordOf}
 use Rattle.engine.specs.Spelling.{Spelt, bad, good, Steps, both, hyphened, andWords, eachWord, onePart, byWords, byPrefix, nameBy, nameFrom, spelledName}
 use Rattle.engine.specs.Calls.{speltBy, wordBy, stepsBy, stepsOf, spelledBy, Outcome, refusedBy, key, outcomeOf, unless, onPack, lettersThen, checkedThen, callOf, toldOf, filledBy, SpellIs, refusedAs, numbersOf}
-use Rattle.engine.specs.Lines.{decimalBy, decimal, flagDigit, answerLine, refusalLine, lineBy, most, room, textOf, lineOf, lineFor, linesFrom, wholeLines, Taken, andTaken, noneTaken, takeLines, taken, LinesIs, LineAt, headOf, DoneIs, waitsFor, RefusedIs}
+use Rattle.engine.specs.Lines.{decimalBy, decimal, flagDigit, answerLine, refusalLine, wholeLine, most, holds, needed, lineOf, lineFor, linesFrom, wholeLines, Taken, andTaken, noneTaken, takeLines, taken, BlockNumbers, blockNumbers, took, noRoom, numbersBy, blockBy, LinesIs}
+use Rattle.engine.specs.Fitting.{LineAt, headOf, lineLength, DoneIs, placeTold, refusedLine, lengthTold, lengthNeeded, waitsFor, RefusedIs, stoppedAt}
 use Rattle.engine.proofs.NumberLaws.{told-is}
 use Rattle.engine.proofs.EncodeLaws.{rest-is}
 use Rattle.engine.specs.declared.call.Settings.{Settings}
 use Rattle.engine.specs.declared.call.Start.{Start}
 use Rattle.engine.specs.declared.lines.Lines.{Lines}
+use Rattle.engine.specs.declared.lines.Lines.the-variants as lines
+use Rattle.engine.specs.declared.lines.Fit.{Fit}
+use Rattle.engine.specs.declared.lines.Fit.the-variants.{Behind, Over}
 use Rattle.engine.specs.declared.spelling.Spelled.{Spelled}
 use Rattle.engine.specs.declared.spelling.Spelled.the-variants.{Done, Refused}
 
 -- ---- the promise
 
-pub lines-one : {f : Text → Text} {block out : List ℕ} {r s : Lines} {o p : List ℕ} → LinesIs f block out r o → LinesIs f block out s p → (r ≡ s) × (o ≡ p)
-lines-one x y = (one (x .result) (y .result), one (x .buffer) (y .buffer))
+-- no two answers have the same numbers
+pub block-one : (r s : Lines) → blockNumbers r ≡ blockNumbers s → r ≡ s
+unfolding blockNumbers
+block-one (lines.Done read written) (lines.Done read′ written′) e =
+    ap₂ (λ (m n : ℕ). lines.Done m n) (ap (λ (x : BlockNumbers). x .first) e) (ap (λ (x : BlockNumbers). x .second) e)
+block-one (lines.NoRoom n) (lines.NoRoom m) e = ap lines.NoRoom (ap (λ (x : BlockNumbers). x .first) e)
+block-one (lines.Done read written) (lines.NoRoom n) e = clash (omega (arith, ap (λ (x : BlockNumbers). x .code) e))
+block-one (lines.NoRoom n) (lines.Done read written) e = clash (omega (arith, ap (λ (x : BlockNumbers). x .code) e))
+
+pub lines-one : {call : Text → Outcome} {block out : List ℕ} {r s : Lines} {o p : List ℕ} → LinesIs call block out r o → LinesIs call block out s p → (r ≡ s) × (o ≡ p)
+lines-one x y = (block-one _ _ (one (x .result) (y .result)), one (x .buffer) (y .buffer))
 
 -- the first line of a text, and what is taken of it
 pub lines-more : (n : ℕ) (s : List ℕ) → placeOf 10 s < length s → linesFrom (suc n) s ≡ take (placeOf 10 s) s ∷ linesFrom n (drop (suc (placeOf 10 s)) s)
@@ -93,14 +106,33 @@ taken-long f size (name ∷ names) = elim (decLe (length (f name)) size) [
   | no h ↦ rw (take-stop f size name names (omega arith)) zero-le
 ]
 
-module _ {f : Text → Text} {block out : List ℕ} {r : Lines} {o : List ℕ} (x : LinesIs f block out r o) where
-  pub lines-read : r .read ≤ length block
-  unfolding taken wholeLines
-  lines-read = rw (x .result) (taken-read f _ _ block)
+-- a block that is not refused: what was taken of it
+took-first : (b : Bool) (x : BlockNumbers) (n : ℕ) → pick b x (noRoom n) .code ≡ 0 → pick b x (noRoom n) ≡ x
+unfolding pick
+took-first true x n e = refl
+took-first false x n e = clash (omega (arith, e))
 
-  pub lines-written : r .written ≤ length out
-  unfolding taken
-  lines-written = rw (x .result) (omega (arith, taken-long f (min (length out) most) (wholeLines block)))
+took-by : (call : Text → Outcome) (size : ℕ) (names : List Text) (t : Taken) → numbersBy call size names t .code ≡ 0 → numbersBy call size names t ≡ took t
+unfolding numbersBy
+took-by call size [] t e = refl
+took-by call size (name ∷ names) t e = took-first _ _ _ e
+
+pub blocked-took : (call : Text → Outcome) (block : List ℕ) (size : ℕ) → blockBy call block size .code ≡ 0 → blockBy call block size ≡ took (taken call block size)
+unfolding blockBy
+blocked-took call block size e = took-by call size (wholeLines block) (taken call block size) e
+
+module _ {call : Text → Outcome} {block out o : List ℕ} {read written : ℕ} (x : LinesIs call block out (lines.Done read written) o) where
+  taken-is : blockNumbers (lines.Done read written) ≡ took (taken call block (length out))
+  unfolding blockNumbers
+  taken-is = x .result ∙ blocked-took call block (length out) (sym (ap (λ (n : BlockNumbers). n .code) (x .result)))
+
+  pub lines-read : read ≤ length block
+  unfolding taken wholeLines blockNumbers
+  lines-read = omega (arith, ap (λ (n : BlockNumbers). n .first) taken-is, taken-read (lineFor call (length out)) (min (length out) most) (length block) block)
+
+  pub lines-written : written ≤ length out
+  unfolding taken blockNumbers
+  lines-written = omega (arith, ap (λ (n : BlockNumbers). n .second) taken-is, taken-long (lineFor call (length out)) (min (length out) most) (wholeLines block))
 
 -- ---- a number
 
@@ -136,24 +168,54 @@ pub refusal-put : (code place : ℕ) {o o₁ o₂ o₃ o₄ : List ℕ} {at p q 
 unfolding refusalLine
 refusal-put code place w x y z = put-then w (put-then x (put-then y z))
 
-module _ (code place size : ℕ) (o : List ℕ) (at : ℕ) (t : Bool) (w : t ≡ waitsFor code place size) where
-  pub refused-waits : t ≡ true → RefusedIs code place size o o at at
-  refused-waits e = record { waits = λ _. (refl, refl); line = λ z. absurd (false≢true (sym z ∙ sym w ∙ e)) }
+-- for 9 and for others
+told-nine : (n : ℕ) → placeTold 9 n ≡ lineLength n
+unfolding placeTold
+told-nine n = pick-true _ _ _ refl
 
-  module _ (e : t ≡ false) (none none′ : List ℕ) (n : ℕ) (h : (at ≤ size) × (size ≤ length o)) (x : Put none none′ 0 n (refusalLine (refusedAs code place))) where
-    pub refused-fits : (o′ : List ℕ) (r : ℕ) → n ≤ size - at → Put o o′ at r (refusalLine (refusedAs code place)) → RefusedIs code place size o o′ at r
-    refused-fits o′ r f y = record {
+needed-nine : (n : ℕ) → lengthNeeded 9 n ≡ lineLength n
+unfolding lengthTold
+needed-nine n = pick-true _ _ _ refl
+
+module _ (code place : ℕ) (h : code ≡ 9 → ⊥) where
+  told-other : placeTold code place ≡ place
+  unfolding placeTold
+  told-other = pick-false _ _ _ (ne-eqb _ _ h)
+
+  line-told : refusedLine code place ≡ refusalLine (refusedAs code place)
+  unfolding refusedLine
+  line-told = ap (λ (n : ℕ). refusalLine (refusedAs code n)) told-other
+
+  needed-other : lengthNeeded code place ≡ min (length (refusalLine (refusedAs code place))) most
+  unfolding lengthTold
+  needed-other = pick-false _ _ _ (ne-eqb _ _ h) ∙ ap (λ (t : Text). min (length t) most) line-told
+
+module _ (code place size : ℕ) (o : List ℕ) (at told n few told-length : ℕ) (none none′ : List ℕ) (t : Bool) (w : t ≡ waitsFor code place size)
+    (p : told ≡ placeTold code place) (x : Put none none′ 0 n (refusalLine (refusedAs code told))) (f : few ≡ min n most) (l : told-length ≡ lengthTold code place few) where
+  line-here : refusalLine (refusedAs code told) ≡ refusedLine code place
+  unfolding refusedLine
+  line-here = ap (λ (m : ℕ). refusalLine (refusedAs code m)) p
+
+  long-here : told-length ≡ lengthNeeded code place
+  long-here = l ∙ ap (lengthTold code place) (omega (arith, f, x .ends, ap length line-here))
+
+  pub refused-waits : t ≡ true → RefusedIs code place size o o at (Over told-length)
+  refused-waits e = record { waits = λ _. (ap Over long-here, refl); line = λ z. absurd (false≢true (sym z ∙ sym w ∙ e)) }
+
+  module _ (e : t ≡ false) (h : (at ≤ size) × (size ≤ length o)) where
+    pub refused-fits : (o′ : List ℕ) (next : ℕ) → n ≤ size - at → Put o o′ at next (refusalLine (refusedAs code told)) → RefusedIs code place size o o′ at (Behind next)
+    refused-fits o′ next g y = record {
       waits = λ z. absurd (false≢true (sym e ∙ w ∙ z));
       line = λ _. record {
-        fits = λ _. (omega (arith, h .0, h .1, x .ends, y .ends, y .room), y .wrote);
-        stops = λ s. absurd (omega (arith, h .1, x .ends, y .room));
+        fits = λ _. (ap Behind (omega (arith, h .0, h .1, x .ends, y .ends, y .room, ap length line-here)), y .wrote ∙ ap (sets o at) line-here);
+        stops = λ s. absurd (omega (arith, h .1, x .ends, y .room, ap length line-here));
       };
     }
 
-    pub refused-stops : size - at < n → RefusedIs code place size o o at at
-    refused-stops f = record {
-      waits = λ _. (refl, refl);
-      line = λ _. record { fits = λ s. absurd (omega (arith, x .ends)); stops = λ _. (refl, refl) };
+    pub refused-stops : size - at < n → RefusedIs code place size o o at (Over told-length)
+    refused-stops g = record {
+      waits = λ _. (ap Over long-here, refl);
+      line = λ _. record { fits = λ s. absurd (omega (arith, x .ends, ap length line-here)); stops = λ _. (ap Over long-here, refl) };
     }
 
 -- ---- the line of an answer
@@ -171,18 +233,22 @@ digit-small true = omega arith
 digit-small false = omega arith
 
 module _ (written : ℕ) (flag : Bool) (size : ℕ) (o : List ℕ) (at : ℕ) (h : (at ≤ size) × (size ≤ length o)) where
-  pub done-fits : (o₁ o₂ : List ℕ) (p r : ℕ) → 5 ≤ size - at → written ≤ size - at - 5 → Put o o₁ at p (headOf flag) → Put o₁ o₂ (at + 4 + written) r (10 ∷ [])
-      → DoneIs written flag size o o₂ at r
-  done-fits o₁ o₂ p r f g x y = record {
-    fits = λ _. (omega (arith, h .0, h .1, x .room, y .ends), y .wrote ∙ ap (λ (l : List ℕ). sets l (at + 4 + written) (10 ∷ [])) (x .wrote));
-    stops = λ s. absurd (omega arith);
-  }
+  module _ (t : Bool) (e : t ≡ leb (written + 5) (size - at)) where
+    pub done-fits : (o₁ o₂ : List ℕ) (p next : ℕ) → t ≡ true → Put o o₁ at p (headOf flag) → Put o₁ o₂ (at + 4 + written) next (10 ∷ []) → DoneIs written flag size o o₂ at (Behind next)
+    done-fits o₁ o₂ p next y x z =
+        let here : written + 5 ≤ size - at = leb-true _ _ (sym e ∙ y) in
+        record {
+          fits = λ _. (ap Behind (omega (arith, h .0, h .1, x .room, z .ends)), z .wrote ∙ ap (λ (l : List ℕ). sets l (at + 4 + written) (10 ∷ [])) (x .wrote));
+          stops = λ s. absurd (omega arith);
+        }
 
-  pub done-small : size - at < 5 → DoneIs written flag size o o at at
-  done-small f = record { fits = λ s. absurd (omega arith); stops = λ _. (refl, refl) }
+    pub done-over : (o₂ : List ℕ) (r : Fit) → t ≡ false → RefusedIs 9 written size o o₂ at r → DoneIs written flag size o o₂ at r
+    done-over o₂ r n x =
+        let over : size - at < written + 5 = leb-false _ _ (sym e ∙ n) in
+        record { fits = λ s. absurd (omega arith); stops = λ _. x }
 
-  pub done-narrow : size - at - 5 < written → DoneIs written flag size o o at at
-  done-narrow f = record { fits = λ s. absurd (omega arith); stops = λ _. (refl, refl) }
+pub done-within : (written size at : ℕ) {t : Bool} → at ≤ size → t ≡ leb (written + 5) (size - at) → t ≡ true → at + 4 + written < size
+done-within written size at h e y = let here : written + 5 ≤ size - at = leb-true _ _ (sym e ∙ y) in omega arith
 
 set-apart : (ws l : List ℕ) (i v j : ℕ) → i < j → set (sets l j ws) i v ≡ sets (set l i v) j ws
 set-apart [] l i v j h = refl
@@ -378,17 +444,25 @@ call-below c start s name =
 -- ---- the line of a name
 
 -- what a line is by what the call came to
-pub line-answer : (size : ℕ) (t : Text) (f : Bool) → length t ≤ room size → lineOf size (key t f) ≡ answerLine (numbersOf (Done (length t) f)) t
-unfolding lineOf textOf toldOf lineBy
-line-answer size t f h = ap (λ (r : Spelled). lineBy r t) (pick-true _ _ _ (le-leb _ _ h))
+pub line-answer : (size : ℕ) (t : Text) (f : Bool) → length t + 5 ≤ min size most → lineOf size (key t f) ≡ answerLine (numbersOf (Done (length t) f)) t
+unfolding lineOf wholeLine holds
+line-answer size t f h = pick-true _ _ _ (le-leb (length (answerLine (numbersOf (Done (length t) f)) t)) (min size most) (omega (arith, answer-long (length t) f t)))
 
-pub line-long : (size : ℕ) (t : Text) (f : Bool) → room size < length t → lineOf size (key t f) ≡ refusalLine (refusedAs 9 (min (length t) most))
-unfolding lineOf textOf toldOf lineBy numbersOf numberOf
-line-long size t f h = ap (λ (r : Spelled). lineBy r t) (pick-false _ _ _ (lt-leb _ _ h))
+pub needed-answer : (t : Text) (f : Bool) → needed (key t f) ≡ lineLength (length t)
+unfolding needed wholeLine
+needed-answer t f = omega (arith, answer-long (length t) f t)
+
+pub line-long : (size : ℕ) (t : Text) (f : Bool) → min size most < length t + 5 → lineOf size (key t f) ≡ refusalLine (refusedAs 9 (lineLength (length t)))
+unfolding lineOf wholeLine holds numbersOf numberOf
+line-long size t f h = pick-false _ _ _ (lt-leb (length (answerLine (numbersOf (Done (length t) f)) t)) (min size most) (omega (arith, answer-long (length t) f t))) ∙ ap (λ (n : ℕ). refusalLine (refusedAs 9 n)) (needed-answer t f)
 
 pub line-other : (size : ℕ) (why : Refusal) (place : ℕ) → lineOf size (refusedBy why place) ≡ refusalLine (refusedAs (numberOf why) place)
-unfolding lineOf textOf toldOf lineBy numbersOf
+unfolding lineOf wholeLine numbersOf
 line-other size why place = refl
+
+pub needed-refusal : (why : Refusal) (place : ℕ) → needed (refusedBy why place) ≡ min (length (refusalLine (refusedAs (numberOf why) place))) most
+unfolding needed wholeLine numbersOf
+needed-refusal why place = refl
 
 -- what an answer in the part tells of the call
 record Answered (x : Outcome) (a space : ℕ) (o o₁ : List ℕ) (written : ℕ) (flag : Bool) : Type 0 where
@@ -453,53 +527,65 @@ module _ {o : List ℕ} {at size a e : ℕ} (w : Lent o at size a e) where
   lent-space : e - a ≡ size - (at + 5)
   lent-space = omega (arith, w .within, w .front-is, w .end-is)
 
-  lent-room : room (length o) ≡ size - 5
-  unfolding room
-  lent-room = omega (arith, w .size-is)
+  -- an answer whose line has room in the whole buffer
+  line-room : (x : Outcome) (t : Text) (f : Bool) → x ≡ key t f → length t + 5 ≤ size → lineOf (length o) x ≡ answerLine (numbersOf (Done (length t) f)) t
+  line-room x t f p h = ap (lineOf (length o)) p ∙ line-answer (length o) t f (omega (arith, w .size-is))
 
-  -- an answer that has room in the whole buffer
-  line-room : (x : Outcome) (t : Text) (f : Bool) → x ≡ key t f → length t ≤ size - 5 → lineOf (length o) x ≡ answerLine (numbersOf (Done (length t) f)) t
-  line-room x t f p h = ap (lineOf (length o)) p ∙ line-answer (length o) t f (omega (arith, lent-room))
+  line-nine : {x : Outcome} (t : Text) (f : Bool) (place : ℕ) → x ≡ key t f → min (length o) most < length t + 5 → lineLength place ≡ lineLength (length t) → lineOf (length o) x ≡ refusedLine 9 place
+  unfolding refusedLine
+  line-nine t f place p over q = ap (lineOf (length o)) p ∙ line-long (length o) t f over ∙ ap (λ (n : ℕ). refusalLine (refusedAs 9 n)) (sym (told-nine place ∙ q))
 
-  module _ {x : Outcome} {o₁ o₂ : List ℕ} {r : ℕ} where
-    line-done : {written : ℕ} {flag : Bool} → Answered x a (e - a) o o₁ written flag → DoneIs written flag size o₁ o₂ at r → LineAt (lineOf (length o) x) size o o₂ at r
-    line-done {written} {flag} p d =
-        let long = answer-long (length (p .text)) flag (p .text) in
-        rw (line-room x (p .text) flag (p .is) (omega (arith, lent-space, p .long, p .room-is))) (record {
-          fits = λ s.
-              let put = d .fits (omega (arith, p .long, long)) in
-              let place : a ≡ at + 4 = omega (arith, w .within, w .front-is, long) in (
-                omega (arith, put .0, p .long, long),
-                put .1
-                    ∙ ap₂ (λ (l : List ℕ) (n : ℕ). sets (sets l at (headOf flag)) (at + 4 + n) (10 ∷ [])) (p .stands ∙ ap (λ (n : ℕ). sets o n (p .text)) place) (sym (p .long))
-                    ∙ answer-stands o at (length (p .text)) flag (p .text),
-              );
-          stops = λ s.
-              let left = d .stops (omega (arith, p .long, long)) in
-              (left .0, left .1 ∙ p .stands ∙ sets-none (p .text) o a (omega (arith, lent-space, p .long, p .room-is, long)));
-        })
-
-    line-long-by : {code place : ℕ} (b : Bool) → waitsFor code place size ≡ b → Long x (e - a) o o₁ code place → RefusedIs code place size o₁ o₂ at r → LineAt (lineOf (length o) x) size o o₂ at r
+  module _ {x : Outcome} {o₁ o₂ : List ℕ} {r : Fit} where
+    -- an answer that has no room here: its line waits, or is that of 9
+    line-long-by : {place : ℕ} (t : Text) (f b : Bool) → waitsFor 9 place size ≡ b → x ≡ key t f → place ≡ min (length t) most → size - at < length t + 5 → o₁ ≡ o → RefusedIs 9 place size o₁ o₂ at r
+        → LineAt (lineOf (length o) x) (needed x) size o o₂ at r
     unfolding waitsFor and
-    line-long-by {code} {place} true h p d =
-        let small : place + 5 ≤ size = leb-true _ _ (and-inv (eqb code 9) (leb (place + 5) size) h .1) in
+    line-long-by {place} t f true h p q over same d =
+        let small : place + 5 ≤ size = leb-true _ _ (and-inv (eqb 9 9) (leb (place + 5) size) h .1) in
         let left = d .waits h in
-        rw (line-room x (p .text) (p .flag) (p .is) (omega (arith, w .size-is, p .place-is))) (record {
-          fits = λ s. absurd (omega (arith, lent-space, p .over, answer-long (length (p .text)) (p .flag) (p .text)));
-          stops = λ _. (left .0, left .1 ∙ p .same);
+        let told : lengthNeeded 9 place ≡ needed x = needed-nine place ∙ omega (arith, ap needed p, needed-answer t f, q) in
+        rw (line-room x t f p (omega (arith, w .size-is, q))) (record {
+          fits = λ s. absurd (omega (arith, over, answer-long (length t) f t));
+          stops = λ _. (left .0 ∙ ap Over told, left .1 ∙ same);
         })
-    line-long-by {code} {place} false h p d =
-        let large : size < place + 5 = leb-false _ _ (rw (eq-eqb _ _ (p .code-is)) at h) in
-        let over : room (length o) < length (p .text) = omega (arith, lent-room, lent-space, p .place-is, p .over) in
-        let line-is : lineOf (length o) x ≡ refusalLine (refusedAs code place) =
-        ap (lineOf (length o)) (p .is) ∙ line-long (length o) (p .text) (p .flag) over ∙ ap₂ (λ (k n : ℕ). refusalLine (refusedAs k n)) (sym (p .code-is)) (sym (p .place-is)) in
-        rw (line-is, ← p .same) (d .line h)
+    line-long-by {place} t f false h p q over same d =
+        let large : size < place + 5 = leb-false _ _ h in
+        let length-is : lineLength place ≡ lineLength (length t) = omega (arith, q) in
+        let told : lengthNeeded 9 place ≡ needed x = needed-nine place ∙ length-is ∙ sym (ap needed p ∙ needed-answer t f) in
+        let line-is : lineOf (length o) x ≡ refusedLine 9 place = line-nine t f place p (omega (arith, w .size-is, large, q)) length-is in
+        rw (line-is, ← told, ← same) (d .line h)
 
-    line-refused : (why : Refusal) {place : ℕ} → Long x (e - a) o o₁ (numberOf why) place ⊎ Other x o o₁ why place → RefusedIs (numberOf why) place size o₁ o₂ at r → LineAt (lineOf (length o) x) size o o₂ at r
+    line-done : {written : ℕ} {flag : Bool} → Answered x a (e - a) o o₁ written flag → DoneIs written flag size o₁ o₂ at r → LineAt (lineOf (length o) x) (needed x) size o o₂ at r
+    line-done {written} {flag} p d = elim (decLe (written + 5) (size - at)) [
+      | yes here ↦
+          let long = answer-long (length (p .text)) flag (p .text) in
+          let put = d .fits here in
+          let place : a ≡ at + 4 = omega (arith, w .within, w .front-is) in
+          rw (line-room x (p .text) flag (p .is) (omega (arith, p .long))) (record {
+            fits = λ s. (
+              put .0 ∙ ap Behind (omega (arith, p .long, long)),
+              put .1
+                  ∙ ap₂ (λ (l : List ℕ) (n : ℕ). sets (sets l at (headOf flag)) (at + 4 + n) (10 ∷ [])) (p .stands ∙ ap (λ (n : ℕ). sets o n (p .text)) place) (sym (p .long))
+                  ∙ answer-stands o at (length (p .text)) flag (p .text),
+            );
+            stops = λ s. absurd (omega (arith, p .long, long));
+          })
+      | no here ↦
+          let empty : length (p .text) ≡ 0 = omega (arith, lent-space, p .long, p .room-is) in
+          line-long-by (p .text) flag _ refl (p .is) (omega (arith, p .long)) (omega (arith, p .long)) (p .stands ∙ sets-none (p .text) o a empty) (d .stops (omega arith))
+    ]
+
+    line-refused : (why : Refusal) {place : ℕ} → Long x (e - a) o o₁ (numberOf why) place ⊎ Other x o o₁ why place → RefusedIs (numberOf why) place size o₁ o₂ at r
+        → LineAt (lineOf (length o) x) (needed x) size o o₂ at r
     unfolding waitsFor
-    line-refused why (inl p) d = line-long-by _ refl p d
+    line-refused why {place} (inl p) d =
+        line-long-by (p .text) (p .flag) _ refl (p .is) (p .place-is) (omega (arith, lent-space, p .over)) (p .same) (rw (p .code-is) at d)
     line-refused why {place} (inr p) d =
-        rw (p .is, line-other (length o) why place, ← p .same) (d .line (and-first _ _ (ne-eqb (numberOf why) 9 (λ z. absurd (omega (arith, p .low))))))
+        let other : numberOf why ≡ 9 → ⊥ = λ z. omega (arith, p .low) in
+        let line-is : lineOf (length o) x ≡ refusedLine (numberOf why) place =
+        ap (lineOf (length o)) (p .is) ∙ line-other (length o) why place ∙ sym (line-told (numberOf why) place other) in
+        let told : lengthNeeded (numberOf why) place ≡ needed x = needed-other (numberOf why) place other ∙ sym (ap needed (p .is) ∙ needed-refusal why place) in
+        rw (line-is, ← told, ← p .same) (d .line (and-first _ _ (ne-eqb (numberOf why) 9 other)))
 
 module _ (o : List ℕ) (at size a e : ℕ) (h : (at ≤ size) × (size ≡ min (length o) most)) (f : a ≡ min (at + 4) size) (g : e ≡ max a (size - 1)) where
   pub lent-order : a ≤ e
@@ -515,37 +601,41 @@ module _ (o : List ℕ) (at size a e : ℕ) (h : (at ≤ size) × (size ≡ min 
   lent-long {x} {r} {m} p =
       alike-long (take a o) m (take (e - a) (drop a o)) (drop (e - a) (drop a o)) (ap length (p .buffer) ∙ filled-long x (take (e - a) (drop a o))) ∙ ap length (back-same a (e - a) o)
 
-  module _ (settings : Settings) (start : Start) (pack name m o₂ : List ℕ) (r : Spelled) (next : ℕ) (p : SpellIs (callOf settings start pack name) (take (e - a) (drop a o)) r m) where
+  module _ (call : Text → Outcome) (name : Text) (m o₂ : List ℕ) (r : Spelled) (next : Fit) (low : Below (call name)) (p : SpellIs (call name) (take (e - a) (drop a o)) r m) where
     abbrev o₁ : List ℕ
     o₁ = take a o ++ (m ++ drop (e - a) (drop a o))
 
-    part-here : PartIs (callOf settings start pack name) a (e - a) o r o₁
+    part-here : PartIs (call name) a (e - a) o r o₁
     part-here = part-back _ a e o r m (lent-order, lent-within) p
 
-    pub put-done : (written : ℕ) (flag : Bool) → r ≡ Done written flag → DoneIs written flag size o₁ o₂ at next → LineAt (lineFor settings start pack (length o) name) size o o₂ at next
+    pub put-done : (written : ℕ) (flag : Bool) → r ≡ Done written flag → DoneIs written flag size o₁ o₂ at next → LineAt (lineFor call (length o) name) (needed (call name)) size o o₂ at next
     unfolding lineFor
     put-done written flag q d = line-done lent (answered-of _ a (e - a) o o₁ r written flag part-here q) d
 
     pub put-refused : (why : Refusal) (code place : ℕ) → r ≡ Refused why place → code ≡ numberOf why → RefusedIs code place size o₁ o₂ at next
-        → LineAt (lineFor settings start pack (length o) name) size o o₂ at next
+        → LineAt (lineFor call (length o) name) (needed (call name)) size o o₂ at next
     unfolding lineFor
-    put-refused why code place q n d = line-refused lent why (refused-of _ a (e - a) o o₁ r why place (call-below settings start pack name) part-here q) (rw n at d)
+    put-refused why code place q n d = line-refused lent why (refused-of _ a (e - a) o o₁ r why place low part-here q) (rw n at d)
 
 -- ---- the lines of a block
 
-by-some : (r : Spelled) (t : Text) → 0 < length (lineBy r t)
-unfolding lineBy refusalLine numbersOf
-by-some (Done written flag) t = let long : length (lineBy (Done written flag) t) ≡ 5 + length t = answer-long written flag t in omega (arith, long)
-by-some (Refused why place) t =
-    let long : length (lineBy (Refused why place) t) ≡ length (decimal (numberOf why)) + suc (length (decimal place ++ 10 ∷ [])) = length-append (decimal (numberOf why)) _ in
-    omega (arith, long)
+refusal-some : (code place : ℕ) → 0 < length (refusalLine (refusedAs code place))
+unfolding refusalLine
+refusal-some code place = omega (arith, length-append (decimal code) ((32 ∷ []) ++ (decimal place ++ 10 ∷ [])))
 
-line-some : (settings : Settings) (start : Start) (pack : List ℕ) (size : ℕ) (name : Text) → 0 < length (lineFor settings start pack size name)
-unfolding lineFor lineOf
-line-some settings start pack size name = by-some (toldOf (callOf settings start pack name) (room size)) _
+line-some : (size : ℕ) (x : Outcome) → 0 < length (lineOf size x)
+line-some size (refusedBy why place) = rw (line-other size why place) (refusal-some (numberOf why) place)
+line-some size (key t f) = elim (decLe (length t + 5) (min size most)) [
+  | yes h ↦ rw (line-answer size t f h) (omega (arith, answer-long (length t) f t))
+  | no h ↦ rw (line-long size t f (omega arith)) (refusal-some 9 (lineLength (length t)))
+]
+
+took-none : (call : Text → Outcome) (size : ℕ) (names : List Text) (t : Taken) → names ≡ [] → numbersBy call size names t ≡ took t
+unfolding numbersBy
+took-none call size names t e = ap (λ (ns : List Text). numbersBy call size ns t) e
 
 -- what is read and written so far, and what is left to take
-pub record Going (settings : Settings) (start : Start) (pack block o₀ o : List ℕ) (size read written : ℕ) : Type 0 where
+pub record Going (call : Text → Outcome) (block o₀ o : List ℕ) (size read written : ℕ) : Type 0 where
   pub fuel : ℕ
   pub enough : length block - read ≤ fuel
   pub read-in : read ≤ length block
@@ -554,7 +644,9 @@ pub record Going (settings : Settings) (start : Start) (pack block o₀ o : List
   pub text : Text
   pub long : length text ≡ written
   pub stands : o ≡ sets o₀ 0 text
-  pub is : taken (lineFor settings start pack (length o₀)) block o₀ ≡ andTaken read text (takeLines (lineFor settings start pack (length o₀)) (size - written) (linesFrom fuel (drop read block)))
+  pub is : taken call block (length o₀) ≡ andTaken read text (takeLines (lineFor call (length o₀)) (size - written) (linesFrom fuel (drop read block)))
+  pub first : written ≡ 0 → linesFrom fuel (drop read block) ≡ wholeLines block
+  pub later : (written ≡ 0 → ⊥) → blockBy call block (length o₀) ≡ took (taken call block (length o₀))
 
 and-none-taken : (x : Taken) → x ≡ andTaken 0 [] x
 unfolding andTaken
@@ -564,9 +656,9 @@ and-twice : (n m : ℕ) (t u : Text) (x : Taken) → andTaken n t (andTaken m u 
 unfolding andTaken
 and-twice n m t u x = ap₂ (λ (k : ℕ) (v : Text). record { read = k; text = v }) (omega arith) (sym (append-assoc t u (x .text)))
 
-pub going-start : (settings : Settings) (start : Start) (pack block o : List ℕ) (size : ℕ) → size ≡ min (length o) most → Going settings start pack block o o size 0 0
+pub going-start : (call : Text → Outcome) (block o : List ℕ) (size : ℕ) → size ≡ min (length o) most → Going call block o o size 0 0
 unfolding taken wholeLines
-going-start settings start pack block o size e = record {
+going-start call block o size e = record {
   fuel = length block;
   enough = omega arith;
   read-in = zero-le;
@@ -576,9 +668,11 @@ going-start settings start pack block o size e = record {
   long = refl;
   stands = refl;
   is = rw (← e, sub-zero size) (and-none-taken _);
+  first = λ _. refl;
+  later = λ z. absurd (z refl);
 }
 
-module _ {settings : Settings} {start : Start} {pack block o₀ o : List ℕ} {size read written : ℕ} (w : Going settings start pack block o₀ o size read written) where
+module _ {call : Text → Outcome} {block o₀ o : List ℕ} {size read written : ℕ} (w : Going call block o₀ o size read written) where
   pub going-in : read ≤ length block
   going-in = w .read-in
 
@@ -588,26 +682,38 @@ module _ {settings : Settings} {start : Start} {pack block o₀ o : List ℕ} {s
   pub going-room : (written ≤ size) × (size ≡ min (length o) most)
   going-room = (w .written-in, w .size-is ∙ ap (λ (n : ℕ). min n most) (sym going-long))
 
-  going-over : takeLines (lineFor settings start pack (length o₀)) (size - written) (linesFrom (w .fuel) (drop read block)) ≡ noneTaken
-      → LinesIs (lineFor settings start pack (length o₀)) block o₀ (record { read = read; written = written }) o
-  unfolding andTaken
-  going-over e =
-      let is : taken (lineFor settings start pack (length o₀)) block o₀ ≡ record { read = read; text = w .text } =
-      w .is ∙ ap (andTaken read (w .text)) e ∙ ap₂ (λ (k : ℕ) (v : Text). record { read = k; text = v }) (omega arith) (append-nil (w .text)) in
-      record {
-        result = ap (λ (n : ℕ). record { read = read; written = n }) (sym (w .long)) ∙ ap (λ (x : Taken). record { read = x .read; written = length (x .text) }) (sym is);
-        buffer = w .stands ∙ ap (λ (x : Taken). sets o₀ 0 (x .text)) (sym is);
-      }
+  module _ (e : takeLines (lineFor call (length o₀)) (size - written) (linesFrom (w .fuel) (drop read block)) ≡ noneTaken) where
+    taken-here : taken call block (length o₀) ≡ record { read = read; text = w .text }
+    unfolding andTaken
+    taken-here = w .is ∙ ap (andTaken read (w .text)) e ∙ ap₂ (λ (k : ℕ) (v : Text). record { read = k; text = v }) (omega arith) (append-nil (w .text))
+
+    stands-here : o ≡ sets o₀ 0 (taken call block (length o₀) .text)
+    stands-here = w .stands ∙ ap (λ (x : Taken). sets o₀ 0 (x .text)) (sym taken-here)
+
+    going-over : blockBy call block (length o₀) ≡ took (taken call block (length o₀)) → LinesIs call block o₀ (lines.Done read written) o
+    unfolding blockNumbers
+    going-over b = record {
+      result = ap (λ (n : ℕ). record { code = 0; first = read; second = n }) (sym (w .long)) ∙ ap took (sym taken-here) ∙ sym b;
+      buffer = stands-here;
+    }
 
   -- the part of the block that is left
   abbrev left-over : List ℕ
   left-over = take (length block - read) (drop read block)
 
-  pub going-end : (n : ℕ) → n ≡ placeOf 10 left-over → length left-over ≤ n → LinesIs (lineFor settings start pack (length o₀)) block o₀ (record { read = read; written = written }) o
+  took-block : wholeLines block ≡ [] → blockBy call block (length o₀) ≡ took (taken call block (length o₀))
+  unfolding blockBy
+  took-block e = took-none call (length o₀) _ _ e
+
+  pub going-end : (n : ℕ) → n ≡ placeOf 10 left-over → length left-over ≤ n → LinesIs call block o₀ (lines.Done read written) o
   unfolding takeLines
   going-end n e h =
       let past : length (drop read block) ≤ placeOf 10 (drop read block) = rw (rest-is block read) at (rw e at h) in
-      going-over (ap (takeLines (lineFor settings start pack (length o₀)) (size - written)) (lines-none _ _ past))
+      let none = lines-none (w .fuel) _ past in
+      going-over (ap (takeLines (lineFor call (length o₀)) (size - written)) none) (elim (ℕ-discrete written 0) [
+        | yes z ↦ took-block (sym (w .first z) ∙ none)
+        | no z ↦ w .later z
+      ])
 
   pub going-most : (n : ℕ) → n < length left-over → read + n + 1 ≤ length block
   going-most n h = omega (arith, ap length (rest-is block read), length-drop read block)
@@ -615,15 +721,15 @@ module _ {settings : Settings} {start : Start} {pack block o₀ o : List ℕ} {s
   pub going-less : (n : ℕ) → n < length left-over → length block - (read + n + 1) < length block - read
   going-less n h = omega (arith, going-most n h)
 
-  module _ (n : ℕ) (e : n ≡ placeOf 10 left-over) (h : n < length left-over) (o′ : List ℕ) (next : ℕ)
-      (l : LineAt (lineFor settings start pack (length o) (take (n - 0) left-over)) size o o′ written next) where
+  module _ (n : ℕ) (e : n ≡ placeOf 10 left-over) (h : n < length left-over) (o′ : List ℕ) (next : Fit)
+      (l : LineAt (lineFor call (length o) (take (n - 0) left-over)) (needed (call (take (n - 0) left-over))) size o o′ written next) where
     abbrev name : Text
     name = take n (drop read block)
 
     abbrev line : Text
-    line = lineFor settings start pack (length o₀) name
+    line = lineFor call (length o₀) name
 
-    line-at : LineAt line size o o′ written next
+    line-at : LineAt line (needed (call name)) size o o′ written next
     line-at = rw (going-long, rest-is block read, sub-zero n) at l
 
     -- the next name, and those behind it
@@ -637,56 +743,125 @@ module _ {settings : Settings} {start : Start} {pack block o₀ o : List ℕ} {s
         ∙ ap (λ (k : ℕ). take k (drop read block) ∷ linesFrom (w .fuel - 1) (drop (suc k) (drop read block))) (sym place)
         ∙ ap (λ (s : List ℕ). name ∷ linesFrom (w .fuel - 1) s) (drop-drop (suc n) read block ∙ ap (λ (k : ℕ). drop k block) behind)
 
-    pub going-stop : next ≡ written → LinesIs (lineFor settings start pack (length o₀)) block o₀ (record { read = read; written = written }) o′
-    going-stop z = elim (decLe (length line) (size - written)) [
-      | yes k ↦ absurd (omega (arith, line-at .fits k .0, line-some settings start pack (length o₀) name))
+    none-fits : size - written < length line → takeLines (lineFor call (length o₀)) (size - written) (linesFrom (w .fuel) (drop read block)) ≡ noneTaken
+    none-fits k = ap (takeLines (lineFor call (length o₀)) (size - written)) names-are ∙ take-stop _ _ _ _ k
+
+    -- whether the buffer holds the first line
+    first-by : (b : Bool) → written ≡ 0 → leb (length line) size ≡ b
+        → blockBy call block (length o₀) ≡ pick b (took (taken call block (length o₀))) (noRoom (needed (call name)))
+    unfolding blockBy numbersBy holds
+    first-by b z k =
+        ap (λ (ns : List Text). numbersBy call (length o₀) ns (taken call block (length o₀))) (sym (w .first z) ∙ names-are)
+        ∙ ap (λ (t : Bool). pick t (took (taken call block (length o₀))) (noRoom (needed (call name)))) (ap (leb (length line)) (sym (w .size-is)) ∙ k)
+
+    going-narrow : written ≡ 0 → size - written < length line → LinesIs call block o₀ (lines.NoRoom (needed (call name))) o
+    unfolding blockNumbers
+    going-narrow y over = record {
+      result = sym (first-by false y (lt-leb (length line) size (omega arith)) ∙ pick-false _ _ _ refl);
+      buffer = stands-here (none-fits over);
+    }
+
+    some-line : 0 < length line
+    unfolding lineFor
+    some-line = line-some (length o₀) (call name)
+
+    pub going-stop : (told : ℕ) (r : Lines) → next ≡ Over told → r ≡ stoppedAt read written told → LinesIs call block o₀ r o′
+    unfolding stoppedAt
+    going-stop told r z e = elim (decLe (length line) (size - written)) [
+      | yes k ↦ clash (cc (line-at .fits k .0))
       | no k ↦
-          rw (line-at .stops (omega arith) .1) (going-over (ap (takeLines (lineFor settings start pack (length o₀)) (size - written)) names-are ∙ take-stop _ _ _ _ (omega arith)))
+          let over : size - written < length line = omega arith in
+          let stop = line-at .stops over in
+          let told-is : told ≡ needed (call name) = cc (stop .0) in
+          rw (stop .1) (elim (ℕ-discrete written 0) [
+            | yes y ↦ rw (e ∙ pick-true _ _ _ (eq-eqb _ _ y) ∙ ap lines.NoRoom told-is) (going-narrow y over)
+            | no y ↦ rw (e ∙ pick-false _ _ _ (ne-eqb _ _ y)) (going-over (none-fits over) (w .later y))
+          ])
     ]
 
-    going-fits : (next ≡ written → ⊥) → length line ≤ size - written
-    going-fits z = elim (decLe (length line) (size - written)) [
-      | yes k ↦ k
-      | no k ↦ absurd (z (line-at .stops (omega arith) .0))
-    ]
+    module _ (at : ℕ) (z : next ≡ Behind at) where
+      going-fits : length line ≤ size - written
+      going-fits = elim (decLe (length line) (size - written)) [
+        | yes k ↦ k
+        | no k ↦ clash (cc (line-at .stops (omega arith) .0))
+      ]
 
-    pub going-next : (next ≡ written → ⊥) → Going settings start pack block o₀ o′ size (read + n + 1) next
-    going-next z =
-        let put = line-at .fits (going-fits z) in
-        let left : size - written - length line ≡ size - next = omega (arith, put .0) in
-        let read-is : read + suc (length name) ≡ read + n + 1 = omega (arith, going-most n h, length-take n (drop read block), length-drop read block) in
-        record {
-          fuel = w .fuel - 1;
-          enough = omega (arith, w .enough);
-          read-in = going-most n h;
-          written-in = omega (arith, put .0, going-fits z, w .written-in);
-          size-is = w .size-is;
-          text = w .text ++ line;
-          long = omega (arith, length-append (w .text) line, w .long, put .0);
-          stands = put .1 ∙ ap₂ (λ (l : List ℕ) (k : ℕ). sets l k line) (w .stands) (sym (w .long) ∙ sym (zero-add _)) ∙ sets-then o₀ 0 (w .text) line;
-          is =
-              w .is ∙ ap (λ (ns : List Text). andTaken read (w .text) (takeLines (lineFor settings start pack (length o₀)) (size - written) ns)) names-are
-              ∙ ap (andTaken read (w .text)) (take-fits _ _ _ _ (going-fits z))
-              ∙ and-twice read (suc (length name)) (w .text) line _
-              ∙ ap₂ (λ (k m : ℕ). andTaken k (w .text ++ line) (takeLines (lineFor settings start pack (length o₀)) m (linesFrom (w .fuel - 1) (drop (read + n + 1) block)))) read-is left;
-        }
+      going-at : at ≡ written + length line
+      going-at = cc (line-at .fits going-fits .0)
+
+      pub going-next : Going call block o₀ o′ size (read + n + 1) at
+      going-next =
+          let put = line-at .fits going-fits in
+          let left : size - written - length line ≡ size - at = omega (arith, going-at) in
+          let read-is : read + suc (length name) ≡ read + n + 1 = omega (arith, going-most n h, length-take n (drop read block), length-drop read block) in
+          record {
+            fuel = w .fuel - 1;
+            enough = omega (arith, w .enough);
+            read-in = going-most n h;
+            written-in = omega (arith, going-at, going-fits, w .written-in);
+            size-is = w .size-is;
+            text = w .text ++ line;
+            long = omega (arith, length-append (w .text) line, w .long, going-at);
+            stands = put .1 ∙ ap₂ (λ (l : List ℕ) (k : ℕ). sets l k line) (w .stands) (sym (w .long) ∙ sym (zero-add _)) ∙ sets-then o₀ 0 (w .text) line;
+            is =
+                w .is ∙ ap (λ (ns : List Text). andTaken read (w .text) (takeLines (lineFor call (length o₀)) (size - written) ns)) names-are
+                ∙ ap (andTaken read (w .text)) (take-fits _ _ _ _ going-fits)
+                ∙ and-twice read (suc (length name)) (w .text) line _
+                ∙ ap₂ (λ (k m : ℕ). andTaken k (w .text ++ line) (takeLines (lineFor call (length o₀)) m (linesFrom (w .fuel - 1) (drop (read + n + 1) block)))) read-is left;
+            first = λ y. absurd (omega (arith, going-at, some-line));
+            later = λ _. elim (ℕ-discrete written 0) [
+              | yes y ↦ first-by true y (le-leb (length line) size (omega (arith, going-fits))) ∙ pick-true _ _ _ refl
+              | no y ↦ w .later y
+            ];
+          }
 
 -- ---- what waits for an emptier buffer
 
-module _ (code place size : ℕ) where
-  pub waits-room : code ≡ 9 → 5 ≤ size → leb place (size - 5) ≡ waitsFor code place size
-  unfolding waitsFor
-  waits-room e h = and-rest _ _ _ (eq-eqb _ _ e) (elim (decLe place (size - 5)) [
-    | yes k ↦ le-leb place (size - 5) k ∙ sym (le-leb (place + 5) size (omega arith))
-    | no k ↦ lt-leb place (size - 5) (omega arith) ∙ sym (lt-leb (place + 5) size (omega arith))
-  ])
+module _ (n room : ℕ) where
+  pub room-large : 5 ≤ room → leb n (room - 5) ≡ leb (n + 5) room
+  room-large h = elim (decLe n (room - 5)) [
+    | yes k ↦ le-leb n (room - 5) k ∙ sym (le-leb (n + 5) room (omega arith))
+    | no k ↦ lt-leb n (room - 5) (omega arith) ∙ sym (lt-leb (n + 5) room (omega arith))
+  ]
 
-  pub waits-small : size < 5 → false ≡ waitsFor code place size
+  pub room-small : room < 5 → false ≡ leb (n + 5) room
+  room-small h = sym (lt-leb (n + 5) room (omega arith))
+
+module _ (code place size : ℕ) where
+  pub waits-room : (t : Bool) → code ≡ 9 → t ≡ leb (place + 5) size → t ≡ waitsFor code place size
   unfolding waitsFor
-  waits-small h = and-no _ _ (sym (lt-leb (place + 5) size (omega arith)))
+  waits-room t e w = and-rest _ _ _ (eq-eqb _ _ e) w
 
   pub waits-other : (code ≡ 9 → ⊥) → false ≡ waitsFor code place size
   unfolding waitsFor
   waits-other e = and-none _ _ _ (ne-eqb _ _ e) refl
 
-pub ruleset lines-laws = (slice-room, put-long, digit-one, digit-more, refused-waits, refused-fits, refused-stops, done-fits, done-small, done-narrow, waits-room, waits-small, waits-other)
+-- ---- the small functions, as `search` applies them
+
+module _ (code place n l : ℕ) where
+  pub told-yes : code ≡ 9 → l ≡ lineLength place → l ≡ placeTold code place
+  unfolding placeTold
+  told-yes h e = e ∙ sym (pick-true _ _ _ (eq-eqb _ _ h))
+
+  pub told-no : (code ≡ 9 → ⊥) → place ≡ placeTold code place
+  unfolding placeTold
+  told-no h = sym (pick-false _ _ _ (ne-eqb _ _ h))
+
+  pub length-yes : code ≡ 9 → l ≡ lineLength place → l ≡ lengthTold code place n
+  unfolding lengthTold
+  length-yes h e = e ∙ sym (pick-true _ _ _ (eq-eqb _ _ h))
+
+  pub length-no : (code ≡ 9 → ⊥) → n ≡ lengthTold code place n
+  unfolding lengthTold
+  length-no h = sym (pick-false _ _ _ (ne-eqb _ _ h))
+
+module _ (read written n : ℕ) where
+  pub stopped-first : written ≡ 0 → lines.NoRoom n ≡ stoppedAt read written n
+  unfolding stoppedAt
+  stopped-first h = sym (pick-true _ _ _ (eq-eqb _ _ h))
+
+  pub stopped-later : (written ≡ 0 → ⊥) → lines.Done read written ≡ stoppedAt read written n
+  unfolding stoppedAt
+  stopped-later h = sym (pick-false _ _ _ (ne-eqb _ _ h))
+
+pub ruleset lines-laws = (told-yes, told-no, length-yes, length-no, stopped-first, stopped-later, slice-room, put-long, digit-one, digit-more, refused-waits, refused-fits, refused-stops, done-fits, done-over, room-large, room-small, waits-room, waits-other)

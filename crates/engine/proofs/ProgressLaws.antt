@@ -1,14 +1,15 @@
--- A block that holds a whole line is read on, whatever the names and the pack: every line fits into 32 bytes. Assumes nothing.
-use mathlib.Core.Path.{_≡_, refl, ap}
+-- A block that holds a whole line is read on or answered by 9, with the length needed; and every line fits into 32 bytes. Assumes nothing.
+use mathlib.Core.Path.{_≡_, refl, sym, ap, _∙_}
 use mathlib.Core.Bool.{Bool, true, false}
 use mathlib.Core.List.{List, [], _∷_, _++_}
+use mathlib.Core.Logic.{_⊎_, inl, inr, ⊎-elim}
 use Prim.Native.Nat.{ℕ, zero, suc, _+_, _-_, _*_, _/_, _%_, _≤_, _<_, min, zero-le}
 use native.Mathlib.Decide.{decLe}
 use native.Mathlib.Omega.{arith}
 use lib.Dec.{ltb}
-use lib.ListN.{length, drop, length-append}
-use borrow.Author.Tests.{lt-ltb, ltb-false}
-use Rattle.base.specs.Pick.{pick, pick-true, pick-all}
+use lib.ListN.{length, take, drop, length-append}
+use borrow.Author.Tests.{lt-ltb, le-leb, lt-leb, ltb-false}
+use Rattle.base.specs.Pick.{pick, pick-true, pick-false, pick-all}
 use Rattle.texts.specs.Parts.{placeOf}
 use Rattle.letters.specs.Utf8.{decodeAt}
 use Rattle.letters.specs.Reading.{piecesOn, piecesFrom, piecesOf, illIn, firstIll, outsideIn, firstOutside}
@@ -27,11 +28,13 @@ use Rattle.refusals.specs.declared.Refusal.{Refusal}
 use Rattle.refusals.specs.declared.Refusal.the-variants.{NotUtf8, OutsideRange, NameTooLong}
 use Rattle.engine.specs.Spelling.{Spelt, bad, good}
 use Rattle.engine.specs.Calls.{Outcome, refusedBy, key, outcomeOf, unless, onPack, lettersThen, checkedThen, callOf, refusedAs}
-use Rattle.engine.specs.Lines.{decimalBy, decimal, refusalLine, most, room, lineOf, lineFor, linesFrom, wholeLines, andTaken, takeLines, taken, LinesIs}
+use Rattle.engine.specs.Lines.{decimalBy, decimal, refusalLine, most, holds, needed, lineOf, lineFor, linesFrom, wholeLines, andTaken, takeLines, taken, BlockNumbers, blockNumbers, took, noRoom, numbersBy, blockBy, LinesIs}
+use Rattle.engine.specs.Fitting.{lineLength}
 use Rattle.engine.specs.declared.call.Settings.{Settings}
 use Rattle.engine.specs.declared.call.Start.{Start}
 use Rattle.engine.specs.declared.lines.Lines.{Lines}
-use Rattle.engine.proofs.LinesLaws.{lines-more, take-fits, answer-long, Below, call-below, line-answer, line-long, line-other}
+use Rattle.engine.specs.declared.lines.Lines.the-variants.{NoRoom}
+use Rattle.engine.proofs.LinesLaws.{lines-more, take-fits, answer-long, Below, call-below, line-answer, line-long, line-other, needed-answer, needed-refusal}
 
 -- ---- digits
 
@@ -157,25 +160,81 @@ call-in c start s name =
 -- ---- a line and its buffer
 
 line-fits-by : (size b : ℕ) (x : Outcome) → 32 ≤ size → b < 100000000000000000000 → Below x → PlaceIn b x → length (lineOf size x) ≤ min size most
-unfolding Below PlaceIn room
+unfolding Below PlaceIn
 line-fits-by size b (refusedBy k place) h l code there = omega (arith, refusal-short (numberOf k) place (omega arith) (omega arith), ap length (line-other size k place))
-line-fits-by size b (key t f) h l code there = elim (decLe (length t) (room size)) [
+line-fits-by size b (key t f) h l code there = elim (decLe (length t + 5) (min size most)) [
   | yes m ↦ omega (arith, ap length (line-answer size t f m), answer-long (length t) f t)
-  | no m ↦ omega (arith, ap length (line-long size t f (omega arith)), refusal-short 9 (min (length t) most) (omega arith) (omega arith))
+  | no m ↦ omega (arith, ap length (line-long size t f (omega arith)), refusal-short 9 (lineLength (length t)) (omega arith) (omega arith))
 ]
 
-line-fits : (c : Settings) (start : Start) (s : List ℕ) (size : ℕ) (name : Text) → 32 ≤ size → length s < cap → length (lineFor c start s size name) ≤ min size most
+line-fits : (c : Settings) (start : Start) (s : List ℕ) (size : ℕ) (name : Text) → 32 ≤ size → length s < cap → length (lineFor (callOf c start s) size name) ≤ min size most
 unfolding lineFor
 line-fits c start s size name h l = line-fits-by size (length s + 96) (callOf c start s name) h (omega arith) (call-below c start s name) (call-in c start s name)
 
-taken-some : (f : Text → Text) (size n : ℕ) (block : List ℕ) → placeOf 10 block < length block → ((name : Text) → length (f name) ≤ size) → 0 < takeLines f size (linesFrom (suc n) block) .read
-unfolding andTaken
-taken-some f size n block h l = rw (lines-more n block h, take-fits f size _ (linesFrom n (drop (suc (placeOf 10 block)) block)) (l _)) (omega arith)
+-- in a buffer of the length needed a name's line is the whole one
+needed-fits : (size : ℕ) (x : Outcome) → needed x < most → needed x ≤ size → length (lineOf size x) ≤ min size most
+needed-fits size (refusedBy k place) few h = omega (arith, ap length (line-other size k place), needed-refusal k place)
+needed-fits size (key t f) few h =
+    let room : length t + 5 ≤ min size most = omega (arith, needed-answer t f) in
+    omega (arith, ap length (line-answer size t f room), answer-long (length t) f t)
 
--- with a buffer of 32 bytes or more, a block that holds a whole line is read on: no name and no pack can stop it
-pub lines-progress : (c : Settings) (start : Start) (s block out o : List ℕ) (r : Lines) → LinesIs (lineFor c start s (length out)) block out r o
-    → 32 ≤ length out → length s < cap → placeOf 10 block < length block → 0 < r .read
-unfolding taken wholeLines
-lines-progress c start s block out o r x h l there =
-    let n : length block ≡ suc (length block - 1) = omega arith in
-    rw (x .result, n) (taken-some (lineFor c start s (length out)) (min (length out) most) (length block - 1) block there (λ name. line-fits c start s (length out) name h l))
+-- ---- the first name of a block
+
+module _ (call : Text → Outcome) (block : List ℕ) (there : placeOf 10 block < length block) where
+  -- the first line of a block that holds a whole one
+  abbrev first-name : Text
+  first-name = take (placeOf 10 block) block
+
+  names-are : wholeLines block ≡ first-name ∷ linesFrom (length block - 1) (drop (suc (placeOf 10 block)) block)
+  unfolding wholeLines
+  names-are =
+      let n : length block ≡ suc (length block - 1) = omega arith in
+      ap (λ (k : ℕ). linesFrom k block) n ∙ lines-more (length block - 1) block there
+
+  numbers-are : (size : ℕ) → blockBy call block size ≡ pick (holds size (lineFor call size first-name)) (took (taken call block size)) (noRoom (needed (call first-name)))
+  unfolding blockBy numbersBy
+  numbers-are size = ap (λ (ns : List Text). numbersBy call size ns (taken call block size)) names-are
+
+  -- where its line fits, it is read
+  first-read : (size : ℕ) → length (lineFor call size first-name) ≤ min size most → 0 < taken call block size .read
+  unfolding taken andTaken
+  first-read size h = rw (names-are, take-fits (lineFor call size) (min size most) first-name (linesFrom (length block - 1) (drop (suc (placeOf 10 block)) block)) h) (omega arith)
+
+  block-read : (size : ℕ) → length (lineFor call size first-name) ≤ min size most → (blockBy call block size .code ≡ 0) × (0 < blockBy call block size .first)
+  unfolding holds
+  block-read size h = rw (numbers-are size ∙ pick-true _ _ _ (le-leb _ _ h)) (refl, first-read size h)
+
+  block-nine : (size : ℕ) → min size most < length (lineFor call size first-name) → blockBy call block size ≡ noRoom (needed (call first-name))
+  unfolding holds
+  block-nine size h = numbers-are size ∙ pick-false _ _ _ (lt-leb _ _ h)
+
+  block-either : (size : ℕ) → ((blockBy call block size .code ≡ 0) × (0 < blockBy call block size .first)) ⊎ (blockBy call block size ≡ noRoom (needed (call first-name)))
+  block-either size = elim (decLe (length (lineFor call size first-name)) (min size most)) [
+    | yes h ↦ inl (block-read size h)
+    | no h ↦ inr (block-nine size (omega arith))
+  ]
+
+  -- a buffer of the length that 9 tells is enough
+  block-needed : (size size₂ n : ℕ) → blockBy call block size ≡ noRoom n → n < most → n ≤ size₂ → (blockBy call block size₂ .code ≡ 0) × (0 < blockBy call block size₂ .first)
+  unfolding lineFor
+  block-needed size size₂ n e few h = needed-by (block-either size) where
+    needed-by : ((blockBy call block size .code ≡ 0) × (0 < blockBy call block size .first)) ⊎ (blockBy call block size ≡ noRoom (needed (call first-name))) → (blockBy call block size₂ .code ≡ 0) × (0 < blockBy call block size₂ .first)
+    needed-by (inl x) = clash (omega (arith, x .0, ap (λ (b : BlockNumbers). b .code) e))
+    needed-by (inr x) =
+        let is : needed (call first-name) ≡ n = ap (λ (b : BlockNumbers). b .first) (sym x ∙ e) in
+        block-read size₂ (needed-fits size₂ (call first-name) (omega (arith, is)) (omega (arith, is)))
+
+  module _ {out o : List ℕ} {r : Lines} (x : LinesIs call block out r o) where
+    -- with any buffer, a block that holds a whole line is read on, or answered by 9
+    pub lines-progress : ((blockNumbers r .code ≡ 0) × (0 < blockNumbers r .first)) ⊎ (blockNumbers r .code ≡ 9)
+    lines-progress = ⊎-elim (λ h. inl (rw (x .result) h)) (λ h. inr (ap (λ (b : BlockNumbers). b .code) (x .result ∙ h))) (block-either (length out))
+
+    -- and where it is, a buffer of the length needed is enough to read on
+    pub lines-needed : {out₂ o₂ : List ℕ} {r₂ : Lines} (n : ℕ) → r ≡ NoRoom n → n < most → n ≤ length out₂ → LinesIs call block out₂ r₂ o₂ → (blockNumbers r₂ .code ≡ 0) × (0 < blockNumbers r₂ .first)
+    unfolding blockNumbers
+    lines-needed {out₂} n e few h y = rw (y .result) (block-needed (length out) (length out₂) n (sym (x .result) ∙ ap blockNumbers e) few h)
+
+-- with a buffer of 32 bytes or more it is read on always: no name and no pack can stop it
+pub lines-enough : (c : Settings) (start : Start) (s block out o : List ℕ) (r : Lines) → LinesIs (callOf c start s) block out r o
+    → 32 ≤ length out → length s < cap → placeOf 10 block < length block → (blockNumbers r .code ≡ 0) × (0 < blockNumbers r .first)
+lines-enough c start s block out o r x h l there = rw (x .result) (block-read (callOf c start s) block there (length out) (line-fits c start s (length out) _ h l))

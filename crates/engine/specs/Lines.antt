@@ -1,19 +1,18 @@
 -- The lines that are printed for a block of names (01, example 14: "one name a line; code, flag, answer, or code and place").
 use mathlib.Core.Path.{_≡_}
-use Prim.Native.Nat.{ℕ, zero, suc, _+_, _-_, _/_, _%_, _≤_, _<_, min}
+use Prim.Native.Nat.{ℕ, zero, suc, _+_, _-_, _/_, _%_, min}
 use mathlib.Core.Bool.{Bool, true, false}
 use mathlib.Core.List.{List, [], _∷_, _++_}
-use lib.Dec.{eqb, leb, ltb}
+use lib.Dec.{leb, ltb}
 use lib.ListN.{length, take, drop}
 use lib.Seq.{sets}
-use Rattle.base.specs.Pick.{pick, and}
+use Rattle.base.specs.Pick.{pick}
 use Rattle.texts.specs.Parts.{placeOf, has}
 use Rattle.choices.specs.Texts.{Text}
-use Rattle.engine.specs.Calls.{Outcome, refusedBy, key, callOf, toldOf, Numbers, refusedAs, numbersOf}
-use Rattle.engine.specs.declared.call.Settings.{Settings}
-use Rattle.engine.specs.declared.call.Start.{Start}
+use Rattle.refusals.specs.declared.Refusal.the-variants.{NoRoom}
+use Rattle.engine.specs.Calls.{Outcome, refusedBy, key, Numbers, numbersOf}
 use Rattle.engine.specs.declared.lines.Lines.{Lines}
-use Rattle.engine.specs.declared.spelling.Spelled.{Spelled}
+use Rattle.engine.specs.declared.lines.Lines.the-variants as lines
 use Rattle.engine.specs.declared.spelling.Spelled.the-variants.{Done, Refused}
 
 -- ---- a line
@@ -39,10 +38,10 @@ answerLine n t = decimal (n .code) ++ ((32 ∷ flagDigit (n .flag) ∷ 32 ∷ []
 unfoldable pub refusalLine : Numbers → Text
 refusalLine n = decimal (n .code) ++ ((32 ∷ []) ++ (decimal (n .place) ++ 10 ∷ []))
 
--- "one name a line", t being the answer's text
-unfoldable pub lineBy : Spelled → Text → Text
-lineBy (Done written flag) t = answerLine (numbersOf (Done written flag)) t
-lineBy (Refused why place) t = refusalLine (numbersOf (Refused why place))
+-- a name's line where there is room enough: its answer's, or its refusal's
+unfoldable pub wholeLine : Outcome → Text
+wholeLine (refusedBy why place) = refusalLine (numbersOf (Refused why place))
+wholeLine (key t f) = answerLine (numbersOf (Done (length t) f)) t
 
 -- ---- its room
 
@@ -50,22 +49,22 @@ lineBy (Refused why place) t = refusalLine (numbersOf (Refused why place))
 abbrev pub most : ℕ
 most = 4294967295
 
--- bytes of an answer that a buffer of so many bytes holds in a line: four stand before the answer, and LF behind it
-unfoldable pub room : ℕ → ℕ
-room size = min size most - 5
+-- a buffer of so many bytes holds a line
+unfoldable pub holds : ℕ → Text → Bool
+holds size line = leb (length line) (min size most)
 
--- "answer"
-unfoldable pub textOf : Outcome → Text
-textOf (refusedBy why place) = []
-textOf (key t f) = t
+-- "length needed": that of the whole line, not of the answer alone
+unfoldable pub needed : Outcome → ℕ
+needed x = min (length (wholeLine x)) most
 
--- "answer .. longer than the output buffer": 9 where a line with it has no room in the whole buffer
+-- "answer .. longer than the output buffer": the line of 9 where the buffer does not hold the line with the answer
 unfoldable pub lineOf : ℕ → Outcome → Text
-lineOf size x = lineBy (toldOf x (room size)) (textOf x)
+lineOf size (refusedBy why place) = wholeLine (refusedBy why place)
+lineOf size (key t f) = pick (holds size (wholeLine (key t f))) (wholeLine (key t f)) (refusalLine (numbersOf (Refused NoRoom (needed (key t f)))))
 
--- the line of a name
-unfoldable pub lineFor : Settings → Start → List ℕ → ℕ → Text → Text
-lineFor settings start pack size name = lineOf size (callOf settings start pack name)
+-- the line of a name, by the calls for names
+unfoldable pub lineFor : (Text → Outcome) → ℕ → Text → Text
+lineFor call size name = lineOf size (call name)
 
 -- ---- the lines of a block
 
@@ -95,36 +94,37 @@ takeLines f size [] = noneTaken
 takeLines f size (name ∷ names) =
     pick (leb (length (f name)) size) (andTaken (suc (length name)) (f name) (takeLines f (size - length (f name)) names)) noneTaken
 
--- what is printed for a block, into a buffer
-unfoldable pub taken : (Text → Text) → List ℕ → List ℕ → Taken
-taken f block out = takeLines f (min (length out) most) (wholeLines block)
+-- what is printed for a block, into a buffer of so many bytes
+unfoldable pub taken : (Text → Outcome) → List ℕ → ℕ → Taken
+taken call block size = takeLines (lineFor call size) (min size most) (wholeLines block)
+
+-- ---- the answer for a block, in the paper's numbers
+
+-- code 0 with the bytes read and the "bytes written", or code 9 with the "length needed" and 0
+pub record BlockNumbers : Type 0 where
+  pub code : ℕ
+  pub first : ℕ
+  pub second : ℕ
+
+unfoldable pub blockNumbers : Lines → BlockNumbers
+blockNumbers (lines.Done read written) = record { code = 0; first = read; second = written }
+blockNumbers (lines.NoRoom n) = record { code = 9; first = n; second = 0 }
+
+abbrev pub took : Taken → BlockNumbers
+took t = record { code = 0; first = t .read; second = length (t .text) }
+
+abbrev pub noRoom : ℕ → BlockNumbers
+noRoom n = record { code = 9; first = n; second = 0 }
+
+-- 9 where there is a name and the buffer does not hold its line, which is that of 9 if the answer has no room
+unfoldable pub numbersBy : (Text → Outcome) → ℕ → List Text → Taken → BlockNumbers
+numbersBy call size [] t = took t
+numbersBy call size (name ∷ names) t = pick (holds size (lineFor call size name)) (took t) (noRoom (needed (call name)))
+
+unfoldable pub blockBy : (Text → Outcome) → List ℕ → ℕ → BlockNumbers
+blockBy call block size = numbersBy call size (wholeLines block) (taken call block size)
 
 -- the promise for a block: one result, and one content of the lent buffer
-pub record LinesIs (f : Text → Text) (block out : List ℕ) (r : Lines) (out′ : List ℕ) : Type 0 where
-  pub result : r ≡ record { read = taken f block out .read; written = length (taken f block out .text) }
-  pub buffer : out′ ≡ sets out 0 (taken f block out .text)
-
--- ---- what the functions of a line tell
-
--- a line stands from a place on where it fits, else nothing is written; next is the place behind it
-pub record LineAt (line : Text) (size : ℕ) (o o′ : List ℕ) (at next : ℕ) : Type 0 where
-  pub fits : length line ≤ size - at → (next ≡ at + length line) × (o′ ≡ sets o at line)
-  pub stops : size - at < length line → (next ≡ at) × (o′ ≡ o)
-
--- what stands before an answer
-unfoldable pub headOf : Bool → Text
-headOf flag = 48 ∷ 32 ∷ flagDigit flag ∷ 32 ∷ []
-
--- it and LF around an answer that stands, where they have room
-pub record DoneIs (written : ℕ) (flag : Bool) (size : ℕ) (o o′ : List ℕ) (at next : ℕ) : Type 0 where
-  pub fits : written + 5 ≤ size - at → (next ≡ at + 4 + written + 1) × (o′ ≡ sets (sets o at (headOf flag)) (at + 4 + written) (10 ∷ []))
-  pub stops : size - at < written + 5 → (next ≡ at) × (o′ ≡ o)
-
--- an answer that has no room here, but has in the whole buffer
-unfoldable pub waitsFor : ℕ → ℕ → ℕ → Bool
-waitsFor code place size = and (eqb code 9) (leb (place + 5) size)
-
--- nothing for an answer that waits, else the line of a refusal where it fits
-pub record RefusedIs (code place size : ℕ) (o o′ : List ℕ) (at next : ℕ) : Type 0 where
-  pub waits : waitsFor code place size ≡ true → (next ≡ at) × (o′ ≡ o)
-  pub line : waitsFor code place size ≡ false → LineAt (refusalLine (refusedAs code place)) size o o′ at next
+pub record LinesIs (call : Text → Outcome) (block out : List ℕ) (r : Lines) (out′ : List ℕ) : Type 0 where
+  pub result : blockNumbers r ≡ blockBy call block (length out)
+  pub buffer : out′ ≡ sets out 0 (taken call block (length out) .text)

@@ -1,11 +1,13 @@
 // Names, a line each: the pack is checked once, and what is written is what the program prints.
 ghost use mathlib.Core.Path.{_≡_};
 ghost use Prim.Native.Nat.{_+_, _-_, _≤_, min, max};
+ghost use lib.Dec.{leb};
 ghost use lib.ListN.{length};
 ghost use Rattle.name_parts.specs.Writing.{Put};
-ghost use Rattle.engine.specs.Calls.{refusedAs};
+ghost use Rattle.engine.specs.Calls.{callOf, refusedAs};
 ghost use Rattle.engine.specs.Walks.{DeskIs, Scratch};
-ghost use Rattle.engine.specs.Lines.{most, decimal, refusalLine, lineFor, LinesIs, LineAt, headOf, DoneIs, waitsFor, RefusedIs};
+ghost use Rattle.engine.specs.Lines.{most, decimal, refusalLine, needed, lineFor, LinesIs};
+ghost use Rattle.engine.specs.Fitting.{LineAt, headOf, lineLength, DoneIs, placeTold, lengthTold, waitsFor, RefusedIs, stoppedAt};
 use crate::call::Desk;
 use crate::call::Settings;
 use crate::call::Start;
@@ -13,10 +15,34 @@ use crate::call::open;
 use crate::spelling::Spelled;
 use crate::spelling::spell_at;
 
-// How many bytes of the block were read, and how many written.
-pub struct Lines {
-    pub read: usize,
-    pub written: usize,
+// How many bytes of the block were read, and how many written; or that the first line has no room in the whole buffer, and how many
+// bytes it needs (9).
+pub enum Lines {
+    Done { read: usize, written: usize },
+    NoRoom { needed: usize },
+}
+
+// The place behind a line; or that it has no room there, and how many bytes the name's line needs.
+pub enum Fit {
+    Behind { next: usize },
+    Over { needed: usize },
+}
+
+// The largest number of bytes that is told, and the most of a buffer that is used.
+const MOST: usize = 4294967295;
+
+// A number of bytes, as far as it is told.
+fn most_of(n: usize) -> usize
+    ensures { λ r. ⌜ r ≡ min n most ⌝ }
+{
+    if n < MOST { n } else { MOST }
+}
+
+// The length of the line with an answer of so many bytes.
+fn line_length(n: usize) -> usize
+    ensures { λ r. ⌜ r ≡ lineLength n ⌝ }
+{
+    if n < MOST - 5 { n + 5 } else { MOST }
 }
 
 // A number in decimal, from a place on. Returns the place behind it.
@@ -41,32 +67,55 @@ fn put_refusal(code: u8, place: usize, out: &mut [u8], at: usize) -> usize
     name_parts::push(out, e, b'\n')
 }
 
+// Whether a line with an answer of so many bytes has room.
+fn has_room(n: usize, room: usize) -> bool
+    ensures { λ r. ⌜ r ≡ leb (n + 5) room ⌝ }
+{
+    if 5 <= room { n <= room - 5 } else { false }
+}
+
 // Whether an answer has no room here, but has in the whole buffer.
 fn waits(code: u8, place: usize, size: usize) -> bool
     ensures { λ r. ⌜ r ≡ waitsFor code place size ⌝ }
 {
     if code == 9 {
-        if 5 <= size {
-            return place <= size - 5;
-        }
+        has_room(place, size)
+    } else {
+        false
     }
-    false
 }
 
-// That line where it fits, and where the answer does not wait: the place behind it, or the place itself.
-fn refused_line(code: u8, place: usize, out: &mut [u8], at: usize, size: usize) -> usize
+// What the line of a refusal tells as its place: for 9 the length of the line with the answer.
+fn place_told(code: u8, place: usize) -> usize
+    ensures { λ r. ⌜ r ≡ placeTold code place ⌝ }
+{
+    if code == 9 { line_length(place) } else { place }
+}
+
+// How many bytes the name's line needs: for 9 the line with the answer, else the line of the refusal, which has n.
+fn length_told(code: u8, place: usize, n: usize) -> usize
+    ensures { λ r. ⌜ r ≡ lengthTold code place n ⌝ }
+{
+    if code == 9 { line_length(place) } else { n }
+}
+
+// The line of a refusal from `at` on where it fits, unless the answer waits.
+fn refused_line(code: u8, place: usize, out: &mut [u8], at: usize, size: usize) -> Fit
     requires { ⌜ (at ≤ size) × (size ≤ length (now out)) ⌝ }
     ensures { λ r. ⌜ RefusedIs code place size (now (out .entry)) (now (out .exit)) at r ⌝ }
 {
-    if waits(code, place, size) {
-        return at;
-    }
+    let told = place_told(code, place);
     let mut none = [0u8; 1];
-    let n = put_refusal(code, place, &mut none, 0);
+    let n = put_refusal(code, told, &mut none, 0);
+    let needed = length_told(code, place, most_of(n));
+    if waits(code, place, size) {
+        return Fit::Over { needed };
+    }
     if n <= size - at {
-        put_refusal(code, place, out, at)
+        let next = put_refusal(code, told, out, at);
+        Fit::Behind { next }
     } else {
-        at
+        Fit::Over { needed }
     }
 }
 
@@ -78,19 +127,18 @@ fn put_head(flag: bool, out: &mut [u8], at: usize) -> usize
     name_parts::copy(&head, out, at)
 }
 
-// What stands before and behind an answer in its place, 4 bytes behind `at`: the place behind it, or the place itself.
-fn done_line(written: usize, flag: bool, out: &mut [u8], at: usize, size: usize) -> usize
+// What stands before and behind an answer in its place, 4 bytes behind `at`, where they fit; else the answer is too long.
+fn done_line(written: usize, flag: bool, out: &mut [u8], at: usize, size: usize) -> Fit
     requires { ⌜ (at ≤ size) × (size ≤ length (now out)) ⌝ }
     ensures { λ r. ⌜ DoneIs written flag size (now (out .entry)) (now (out .exit)) at r ⌝ }
 {
-    let left = size - at;
-    if 5 <= left {
-        if written <= left - 5 {
-            put_head(flag, out, at);
-            return name_parts::push(out, at + 4 + written, b'\n');
-        }
+    if has_room(written, size - at) {
+        put_head(flag, out, at);
+        let next = name_parts::push(out, at + 4 + written, b'\n');
+        Fit::Behind { next }
+    } else {
+        refused_line(9, written, out, at, size)
     }
-    at
 }
 
 // Where an answer begins, four bytes behind `at`.
@@ -109,7 +157,7 @@ fn end_of(a: usize, size: usize) -> usize
     if a < size { size - 1 } else { a }
 }
 
-// The line of one name, where it fits: the place behind it, or the place itself.
+// The line of one name, where it fits.
 fn put_line(
     store: &mut [u8],
     marks: &mut [u64],
@@ -122,11 +170,11 @@ fn put_line(
     out: &mut [u8],
     at: usize,
     size: usize,
-) -> usize
+) -> Fit
     requires { ⌜ Scratch (length (now store)) (length (now marks)) ⌝ }
     requires { ⌜ DeskIs (now pack) (now places) desk ⌝ }
     requires { ⌜ (at ≤ size) × (size ≡ min (length (now out)) most) ⌝ }
-    ensures { λ r. ⌜ LineAt (lineFor settings start (now (pack .entry)) (length (now (out .entry))) (now (name .entry))) size (now (out .entry)) (now (out .exit)) at r ⌝ }
+    ensures { λ r. ⌜ LineAt (lineFor (callOf settings start (now (pack .entry))) (length (now (out .entry))) (now (name .entry))) (needed (callOf settings start (now (pack .entry)) (now (name .entry)))) size (now (out .entry)) (now (out .exit)) at r ⌝ }
 {
     let a = front_of(at, size);
     let e = end_of(a, size);
@@ -148,11 +196,15 @@ fn put_line(
     }
 }
 
-// What of a buffer is used: no place number is larger.
-fn size_of(n: usize) -> usize
-    ensures { λ r. ⌜ r ≡ min n most ⌝ }
+// What is answered where a line has no room: that, if it is the first, else what was read and written.
+fn stopped(read: usize, written: usize, needed: usize) -> Lines
+    ensures { λ r. ⌜ r ≡ stoppedAt read written needed ⌝ }
 {
-    if n < 4294967295 { n } else { 4294967295 }
+    if written == 0 {
+        Lines::NoRoom { needed }
+    } else {
+        Lines::Done { read, written }
+    }
 }
 
 // The lines of whole names, as many as fit, at a desk.
@@ -169,18 +221,18 @@ fn put_lines(
 ) -> Lines
     requires { ⌜ Scratch (length (now store)) (length (now marks)) ⌝ }
     requires { ⌜ DeskIs (now pack) (now places) desk ⌝ }
-    ensures { λ r. ⌜ LinesIs (lineFor settings start (now (pack .entry)) (length (now (out .entry)))) (now (block .entry)) (now (out .entry)) r (now (out .exit)) ⌝ }
+    ensures { λ r. ⌜ LinesIs (callOf settings start (now (pack .entry))) (now (block .entry)) (now (out .entry)) r (now (out .exit)) ⌝ }
 {
-    let size = size_of(out.len());
+    let size = most_of(out.len());
     let mut read: usize = 0;
     let mut written: usize = 0;
     loop {
         let rest = &block[read..];
         let n = texts::find_byte(rest, b'\n');
         if rest.len() <= n {
-            return Lines { read, written };
+            return Lines::Done { read, written };
         }
-        let next = put_line(
+        match put_line(
             store,
             marks,
             pack,
@@ -192,16 +244,17 @@ fn put_lines(
             out,
             written,
             size,
-        );
-        if next == written {
-            return Lines { read, written };
+        ) {
+            Fit::Behind { next } => {
+                written = next;
+                read = read + n + 1;
+            }
+            Fit::Over { needed } => return stopped(read, written, needed),
         }
-        written = next;
-        read = read + n + 1;
     }
 }
 
-// The lines of whole names at the front of `out`, as many as fit.
+// The lines of whole names at the front of `out`, as many as fit; or 9, where the first does not.
 pub fn spell_lines(
     settings: Settings,
     start: Start,
@@ -209,7 +262,7 @@ pub fn spell_lines(
     block: &[u8],
     out: &mut [u8],
 ) -> Lines
-    ensures { λ r. ⌜ LinesIs (lineFor settings start (now (pack .entry)) (length (now (out .entry)))) (now (block .entry)) (now (out .entry)) r (now (out .exit)) ⌝ }
+    ensures { λ r. ⌜ LinesIs (callOf settings start (now (pack .entry))) (now (block .entry)) (now (out .entry)) r (now (out .exit)) ⌝ }
 {
     let mut places = [0usize; 12642];
     let desk = open(pack, &mut places);

@@ -6,6 +6,12 @@ pub fn unreadable(path: &[u8]) {
     program_io::failed(path);
 }
 
+// Says that a line is longer than the buffer for lines.
+pub fn no_room() {
+    io::write_all(libc::STDERR_FILENO, b"keys: no room for a line\n");
+    program_io::mark();
+}
+
 // Says how the program is called.
 pub fn usage() {
     io::write_all(

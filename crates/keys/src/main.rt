@@ -7,7 +7,7 @@ mod input;
 ghost use mathlib.Core.Path.{_≡_};
 ghost use Prim.Native.Nat.{_≤_, _-_};
 ghost use lib.ListN.{length};
-ghost use Rattle.keys.specs.Waiting.{Waits};
+ghost use Rattle.keys.specs.Waiting.{Waits, Within};
 use beider_morse::Lines;
 use beider_morse::Settings;
 use beider_morse::Start;
@@ -22,9 +22,9 @@ fn room() -> [u8; 1048576]
     [0; 1048576]
 }
 
-// The lines of the whole names of a block, as many as fit. All that this program uses of the face are these two bounds.
+// The lines of the whole names of a block, as many as fit. All that this program uses of the face are two bounds.
 fn spell_block(settings: Settings, start: Start, pack: &[u8], block: &[u8], out: &mut [u8]) -> Lines
-    ensures { λ r. ⌜ (r .read ≤ length (now (block .entry))) × (r .written ≤ length (now (out .exit))) ⌝ }
+    ensures { λ r. ⌜ Within r (length (now (block .entry))) (length (now (out .exit))) ⌝ }
 {
     beider_morse::spell_lines(settings, start, pack, block, out)
 }
@@ -53,6 +53,20 @@ fn answered(lines: &[u8], read: usize, s: Input) -> Input
     input::ended()
 }
 
+// Goes on behind the names of a block that are answered. A line that has no room ends the work; none is longer than the buffer.
+fn passed(lines: Lines, out: &[u8], s: Input) -> Input
+    requires { ⌜ (s .from ≤ s .have) × Within lines (s .have - s .from) (length (now out)) ⌝ }
+    ensures { λ r. ⌜ Waits r (s .have) ⌝ }
+{
+    match lines {
+        Lines::Done { read, written } => answered(&out[0..written], read, s),
+        Lines::NoRoom { needed: _ } => {
+            failure::no_room();
+            input::ended()
+        }
+    }
+}
+
 // Answers the whole lines that wait, or reads on where none does.
 fn turn(
     settings: Settings,
@@ -69,8 +83,7 @@ fn turn(
     let have = s.have;
     if bytes::scan::find(buf, from, have, b'\n') < have {
         let lines = spell_block(settings, start, pack, &buf[from..have], out);
-        let written = lines.written;
-        return answered(&out[0..written], lines.read, s);
+        return passed(lines, out, s);
     }
     input::read_on(buf, s)
 }

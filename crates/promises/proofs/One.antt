@@ -53,7 +53,7 @@ use Rattle.phoneme_builder.specs.Tables.{matcher}
 use Rattle.phoneme_builder.specs.Walks.{WordIs}
 use Rattle.phoneme_builder.proofs.WordLaws.{word-one}
 use Rattle.engine.specs.Calls.{callOf, SpellIs}
-use Rattle.engine.specs.Lines.{lineFor, LinesIs}
+use Rattle.engine.specs.Lines.{LinesIs}
 use Rattle.engine.specs.declared.call.Settings.{Settings}
 use Rattle.engine.specs.declared.call.Start.{Start}
 use Rattle.engine.specs.declared.call.Start.the-variants.{Guessed, Given}
@@ -313,7 +313,7 @@ pub «phoneme_builder-word» : (fit : Bool) (pack names table : List ℕ) (main 
 pub engine-spell : (settings : Settings) (start : Start) (pack name out : List ℕ) → OneAnswer (SpellIs (callOf settings start pack name) out)
 engine-spell settings start pack name out x y o p = spell-one
 
-pub engine-spell-lines : (settings : Settings) (start : Start) (pack block out : List ℕ) → OneAnswer (LinesIs (lineFor settings start pack (length out)) block out)
+pub engine-spell-lines : (settings : Settings) (start : Start) (pack block out : List ℕ) → OneAnswer (LinesIs (callOf settings start pack) block out)
 engine-spell-lines settings start pack block out x y o p = lines-one
 
 -- ---- beider_morse, the face
@@ -330,7 +330,7 @@ pub «beider_morse-spell» : (settings : Settings) (pack name out : List ℕ) �
 pub «beider_morse-spell-given» : (settings : Settings) (kind bits : ℕ) (pack name out : List ℕ) → OneAnswer (SpellIs (callOf settings (Given kind bits) pack name) out)
 «beider_morse-spell-given» settings kind bits pack name out x y o p = spell-one
 
-pub «beider_morse-spell-lines» : (settings : Settings) (start : Start) (pack block out : List ℕ) → OneAnswer (LinesIs (lineFor settings start pack (length out)) block out)
+pub «beider_morse-spell-lines» : (settings : Settings) (start : Start) (pack block out : List ℕ) → OneAnswer (LinesIs (callOf settings start pack) block out)
 «beider_morse-spell-lines» settings start pack block out x y o p = lines-one
 
 -- ---- bm, the face for C: the code, the content of `out` and that of `tail`
@@ -347,5 +347,5 @@ bm-bm-spell name-type rule-type concat limit pack name out tail x y o p t u = sp
 pub bm-bm-spell-given : (name-type rule-type concat limit kind bits : ℕ) (pack name out tail : List ℕ) → OneFlat (λ r o t. SpellFlat (callOf (settingsOf name-type rule-type concat limit) (Given kind bits) pack name) out o tail t r)
 bm-bm-spell-given name-type rule-type concat limit kind bits pack name out tail x y o p t u = spell-flat-one
 
-pub bm-bm-spell-lines : (name-type rule-type concat limit given kind bits : ℕ) (pack block out tail : List ℕ) → OneFlat (λ r o t. LinesFlat (lineFor (settingsOf name-type rule-type concat limit) (startOf given kind bits) pack (length out)) block out o tail t r)
+pub bm-bm-spell-lines : (name-type rule-type concat limit given kind bits : ℕ) (pack block out tail : List ℕ) → OneFlat (λ r o t. LinesFlat (callOf (settingsOf name-type rule-type concat limit) (startOf given kind bits) pack) block out o tail t r)
 bm-bm-spell-lines name-type rule-type concat limit given kind bits pack block out tail x y o p t u = lines-flat-one

@@ -1,11 +1,25 @@
-use Rattle.engine.proofs.LinesLaws.{lines-read, lines-written}
+use mathlib.Core.Path.{_≡_}
+use mathlib.Core.List.{List}
+use Prim.Native.Nat.{ℕ}
 use native.Mathlib.Omega.{arith}
+use lib.ListN.{length}
+use Rattle.engine.specs.Calls.{Outcome}
+use Rattle.engine.specs.Lines.{LinesIs}
+use Rattle.engine.specs.declared.lines.Lines.{Lines}
+use Rattle.engine.specs.declared.lines.Lines.the-variants.{Done, NoRoom}
+use Rattle.engine.proofs.LinesLaws.{lines-read, lines-written}
+use Rattle.keys.specs.Waiting.{Within}
 use borrow.Author.Needs.{needs}
 use Rattle.keys.proofs.spell_block.Statement.{statement}
 use Rattle.keys.proofs.spell_block.Tie as tie
 use Rattle.keys.proofs.spell_block.Reads as reads
 use Rattle.keys.proofs.spell_block.Lts as lts
 use Rattle.beider_morse.proofs.spell_lines.Reads as spell-lines-reads
+
+within : {call : List ℕ → Outcome} {block out o : List ℕ} (r : Lines) → LinesIs call block out r o → length o ≡ length out → Within r (length block) (length o)
+unfolding Within
+within (Done read written) x e = (lines-read x, omega (arith, lines-written x))
+within (NoRoom needed) x e = tt
 
 spell-lines-requires : tie.Need-spell-lines-requires
 spell-lines-requires c κs = search needs
@@ -14,7 +28,7 @@ same-length : tie.Need-same-length
 same-length c = search needs
 
 returns : tie.Need-returns
-returns c = (lines-read (c .before .before .spell-lines .ensures), omega (arith, lines-written (c .before .before .spell-lines .ensures), c .before .out .given))
+returns c = within _ (c .before .before .spell-lines .ensures) (c .before .out .given)
 
 pub spell-block-spec : {M : Type 1} → statement M
 spell-block-spec = tie.close (tie.spec spell-lines-requires same-length returns)

@@ -1,6 +1,7 @@
 use mathlib.Core.Path.{_∙_}
 use native.Mathlib.Omega.{arith}
-use Rattle.engine.proofs.LinesLaws.{lent-order, lent-within, lent-long, put-done, put-refused}
+use Rattle.engine.specs.Calls.{callOf}
+use Rattle.engine.proofs.LinesLaws.{call-below, lent-order, lent-within, lent-long, put-done, put-refused}
 use borrow.Author.Needs.{needs}
 use Rattle.engine.proofs.lines.put_line.Statement.{statement}
 use Rattle.engine.proofs.lines.put_line.Tie as tie
@@ -56,7 +57,7 @@ same-length-3 : tie.Need-same-length-3
 same-length-3 c = c .before .out2 .given ∙ lent-long (c .before .before .before .before .before .before .before .before .before .before .before .before .before .before .before .before .before .before .before .before .before .before .before .before .before .args .out .now) _ _ _ _ (c .before .before .before .before .before .before .before .before .before .before .before .before .before .before .before .before .before .before .before .before .before .before .before .before .before .pre .1 .1) (c .before .before .before .before .before .before .before .before .before .before .before .before .before .before .before .before .before .before .front-of .ensures) (c .before .before .before .before .before .before .before .before .before .before .before .before .before .before .before .before .before .end-of .ensures) (c .before .before .before .before .before .before .before .before .before .before .before .before .before .spell-at .ensures)
 
 returns : tie.Need-returns
-returns c = put-done _ _ _ _ _ (c .before .before .before .before .before .before .before .before .before .before .before .before .before .before .before .before .before .before .before .before .before .before .before .before .before .pre .1 .1) (c .before .before .before .before .before .before .before .before .before .before .before .before .before .before .before .before .before .before .front-of .ensures) (c .before .before .before .before .before .before .before .before .before .before .before .before .before .before .before .before .before .end-of .ensures) _ _ _ _ _ _ _ _ (c .before .before .before .before .before .before .before .before .before .before .before .before .before .spell-at .ensures) _ _ (c .before .before .before .before .before .written .given .1) (c .before .before .done-line .ensures)
+returns c = put-done _ _ _ _ _ (c .before .before .before .before .before .before .before .before .before .before .before .before .before .before .before .before .before .before .before .before .before .before .before .before .before .pre .1 .1) (c .before .before .before .before .before .before .before .before .before .before .before .before .before .before .before .before .before .before .front-of .ensures) (c .before .before .before .before .before .before .before .before .before .before .before .before .before .before .before .before .before .end-of .ensures) (callOf _ _ _) _ _ _ _ _ (call-below _ _ _ _) (c .before .before .before .before .before .before .before .before .before .before .before .before .before .spell-at .ensures) _ _ (c .before .before .before .before .before .written .given .1) (c .before .before .done-line .ensures)
 
 same-length-4 : tie.Need-same-length-4
 same-length-4 c = c .before .before .before .before .before .before .before .before .before .before .before .before .before .store .given
@@ -68,7 +69,7 @@ same-length-6 : tie.Need-same-length-6
 same-length-6 c = c .before .out3 .given ∙ lent-long (c .before .before .before .before .before .before .before .before .before .before .before .before .before .before .before .before .before .before .before .before .before .before .before .before .before .before .args .out .now) _ _ _ _ (c .before .before .before .before .before .before .before .before .before .before .before .before .before .before .before .before .before .before .before .before .before .before .before .before .before .before .pre .1 .1) (c .before .before .before .before .before .before .before .before .before .before .before .before .before .before .before .before .before .before .before .front-of .ensures) (c .before .before .before .before .before .before .before .before .before .before .before .before .before .before .before .before .before .before .end-of .ensures) (c .before .before .before .before .before .before .before .before .before .before .before .before .before .before .spell-at .ensures)
 
 returns-2 : tie.Need-returns-2
-returns-2 c = put-refused _ _ _ _ _ (c .before .before .before .before .before .before .before .before .before .before .before .before .before .before .before .before .before .before .before .before .before .before .before .before .before .before .pre .1 .1) (c .before .before .before .before .before .before .before .before .before .before .before .before .before .before .before .before .before .before .before .front-of .ensures) (c .before .before .before .before .before .before .before .before .before .before .before .before .before .before .before .before .before .before .end-of .ensures) _ _ _ _ _ _ _ _ (c .before .before .before .before .before .before .before .before .before .before .before .before .before .before .spell-at .ensures) _ _ _ (c .before .before .before .before .before .before .why .given .1) (c .before .before .before .before .number-of .ensures) (c .before .before .refused-line .ensures)
+returns-2 c = put-refused _ _ _ _ _ (c .before .before .before .before .before .before .before .before .before .before .before .before .before .before .before .before .before .before .before .before .before .before .before .before .before .before .pre .1 .1) (c .before .before .before .before .before .before .before .before .before .before .before .before .before .before .before .before .before .before .before .front-of .ensures) (c .before .before .before .before .before .before .before .before .before .before .before .before .before .before .before .before .before .before .end-of .ensures) (callOf _ _ _) _ _ _ _ _ (call-below _ _ _ _) (c .before .before .before .before .before .before .before .before .before .before .before .before .before .before .spell-at .ensures) _ _ _ (c .before .before .before .before .before .before .why .given .1) (c .before .before .before .before .number-of .ensures) (c .before .before .refused-line .ensures)
 
 pub put-line-spec : {M : Type 1} → statement M
 put-line-spec =

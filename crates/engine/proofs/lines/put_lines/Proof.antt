@@ -3,6 +3,7 @@ use mathlib.Core.Path.{sym, _∙_}
 use native.Mathlib.Omega.{arith}
 use lib.ListN.{length}
 use borrow.Author.Needs.{needs}
+use Rattle.engine.specs.Calls.{callOf}
 use Rattle.engine.specs.Walks.{Scratch}
 use Rattle.engine.proofs.NameLaws.{scratch-kept}
 use Rattle.engine.proofs.LinesLaws.{Going, going-in, going-start, going-long, going-room, going-end, going-most, going-less, going-stop, going-next}
@@ -10,23 +11,24 @@ use Rattle.engine.proofs.lines.put_lines.Statement.{statement}
 use Rattle.engine.proofs.lines.put_lines.Tie as tie
 use Rattle.engine.proofs.lines.put_lines.Reads as reads
 use Rattle.engine.proofs.lines.put_lines.Lts as lts
+use Rattle.engine.proofs.lines.most_of.Reads as most-of-reads
 use Rattle.engine.proofs.lines.put_line.Reads as put-line-reads
-use Rattle.engine.proofs.lines.size_of.Reads as size-of-reads
+use Rattle.engine.proofs.lines.stopped.Reads as stopped-reads
 use Rattle.texts.proofs.find_byte.Reads as find-byte-reads
 
 abbrev Inv-loop : tie.InvT-loop
 Inv-loop store₀ marks₀ pack places desk settings start block out₀ size read₀ written₀ store marks out read written =
-    Going settings start pack block out₀ out size read written × Scratch (length store) (length marks)
+    Going (callOf settings start pack) block out₀ out size read written × Scratch (length store) (length marks)
 
 abbrev μ-loop : tie.MeasureT-loop
 μ-loop store₀ marks₀ pack places desk settings start block out₀ size read₀ written₀ store marks out read written =
     length block - read
 
-size-of-requires : tie.Need-size-of-requires Inv-loop μ-loop
-size-of-requires c κs = search (going-in, needs)
+most-of-requires : tie.Need-most-of-requires Inv-loop μ-loop
+most-of-requires c κs = search (going-in, needs)
 
 loop-holds : tie.Need-loop-holds Inv-loop μ-loop
-loop-holds c = (going-start _ _ _ _ _ _ (c .size-of .ensures), c .before .before .before .before .before .before .before .pre .0)
+loop-holds c = (going-start _ _ _ _ (c .most-of .ensures), c .before .before .before .before .before .before .before .pre .0)
 
 sub-rest : tie.Need-sub-rest Inv-loop μ-loop
 sub-rest c = search (going-in, needs)
@@ -64,29 +66,38 @@ part-put-line-end c = search (going-in, needs)
 put-line-requires : tie.Need-put-line-requires Inv-loop μ-loop
 put-line-requires c κs = (c .before .before .before .before .before .before .before .loop .inv .1, (c .before .before .before .before .before .before .before .before .before .before .before .before .before .before .before .pre .1, going-room (c .before .before .before .before .before .before .before .loop .inv .0)))
 
-same-length-4 : tie.Need-same-length-4 Inv-loop μ-loop
-same-length-4 c = c .before .before .before .before .before .before .store .given ∙ c .before .before .before .before .before .before .before .before .before .before .before .before .before .before .before .loop .inv .1 .store-is ∙ sym (c .before .before .before .before .before .before .before .before .before .before .before .before .before .before .before .before .before .before .before .before .before .before .before .pre .0 .store-is)
-
-same-length-5 : tie.Need-same-length-5 Inv-loop μ-loop
-same-length-5 c = c .before .before .before .before .marks .given ∙ c .before .before .before .before .before .before .before .before .before .before .before .before .before .before .before .loop .inv .1 .marks-is ∙ sym (c .before .before .before .before .before .before .before .before .before .before .before .before .before .before .before .before .before .before .before .before .before .before .before .pre .0 .marks-is)
-
-same-length-6 : tie.Need-same-length-6 Inv-loop μ-loop
-same-length-6 c = c .before .before .out .given ∙ going-long (c .before .before .before .before .before .before .before .before .before .before .before .before .before .before .before .loop .inv .0)
-
-returns-2 : tie.Need-returns-2 Inv-loop μ-loop
-returns-2 c = going-stop (c .before .before .before .before .before .before .before .before .before .before .before .before .before .before .before .loop .inv .0) _ (c .before .before .before .before .before .before .before .before .before .before .before .before .before .find-byte .ensures) (c .before .before .before .before .before .before .before .before .before .before .before .before .if1 .left) _ _ (c .before .before .before .before .before .before .before .put-line .ensures) (c .if2 .taken)
+enum-known-next : tie.Need-enum-known-next Inv-loop μ-loop
+enum-known-next c = search needs
 
 add-read : tie.Need-add-read Inv-loop μ-loop
-add-read c = let m = going-most (c .before .before .before .before .before .before .before .before .before .before .before .before .before .before .before .loop .inv .0) _ (c .before .before .before .before .before .before .before .before .before .before .before .before .if1 .left) in omega (arith, m, c .before .before .before .before .before .before .before .before .before .before .before .before .before .before .before .before .before .before .before .before .before .before .before .good .1 .1 .1 .1 .1 .1 .1 .0 .0)
+add-read c = let m = going-most (c .before .before .before .before .before .before .before .before .before .before .before .before .before .before .before .before .before .loop .inv .0) _ (c .before .before .before .before .before .before .before .before .before .before .before .before .before .before .if1 .left) in omega (arith, m, c .before .before .before .before .before .before .before .before .before .before .before .before .before .before .before .before .before .before .before .before .before .before .before .before .before .good .1 .1 .1 .1 .1 .1 .1 .0 .0)
 
 add-read-2 : tie.Need-add-read-2 Inv-loop μ-loop
-add-read-2 c = let m = going-most (c .before .before .before .before .before .before .before .before .before .before .before .before .before .before .before .loop .inv .0) _ (c .before .before .before .before .before .before .before .before .before .before .before .before .if1 .left) in omega (arith, m, c .before .before .before .before .before .before .before .before .before .before .before .before .before .before .before .before .before .before .before .before .before .before .before .good .1 .1 .1 .1 .1 .1 .1 .0 .0)
+add-read-2 c = let m = going-most (c .before .before .before .before .before .before .before .before .before .before .before .before .before .before .before .before .before .loop .inv .0) _ (c .before .before .before .before .before .before .before .before .before .before .before .before .before .before .if1 .left) in omega (arith, m, c .before .before .before .before .before .before .before .before .before .before .before .before .before .before .before .before .before .before .before .before .before .before .before .before .before .good .1 .1 .1 .1 .1 .1 .1 .0 .0)
 
 loop-less : tie.Need-loop-less Inv-loop μ-loop
-loop-less c = going-less (c .before .before .before .before .before .before .before .before .before .before .before .before .before .before .before .loop .inv .0) _ (c .before .before .before .before .before .before .before .before .before .before .before .before .if1 .left)
+loop-less c = going-less (c .before .before .before .before .before .before .before .before .before .before .before .before .before .before .before .before .before .loop .inv .0) _ (c .before .before .before .before .before .before .before .before .before .before .before .before .before .before .if1 .left)
 
 loop-again : tie.Need-loop-again Inv-loop μ-loop
-loop-again c = (going-next (c .before .before .before .before .before .before .before .before .before .before .before .before .before .before .before .loop .inv .0) _ (c .before .before .before .before .before .before .before .before .before .before .before .before .before .find-byte .ensures) (c .before .before .before .before .before .before .before .before .before .before .before .before .if1 .left) _ _ (c .before .before .before .before .before .before .before .put-line .ensures) (c .if2 .left), scratch-kept (c .before .before .before .before .before .before .before .before .before .before .before .before .before .before .before .loop .inv .1) (c .before .before .before .before .before .before .store .given) (c .before .before .before .before .marks .given))
+loop-again c = (going-next (c .before .before .before .before .before .before .before .before .before .before .before .before .before .before .before .before .before .loop .inv .0) _ (c .before .before .before .before .before .before .before .before .before .before .before .before .before .before .before .find-byte .ensures) (c .before .before .before .before .before .before .before .before .before .before .before .before .before .before .if1 .left) _ _ (c .before .before .before .before .before .before .before .before .before .put-line .ensures) _ (c .before .next .given .1), scratch-kept (c .before .before .before .before .before .before .before .before .before .before .before .before .before .before .before .before .before .loop .inv .1) (c .before .before .before .before .before .before .before .before .store .given) (c .before .before .before .before .before .before .marks .given))
+
+enum-known-needed : tie.Need-enum-known-needed Inv-loop μ-loop
+enum-known-needed c = search needs
+
+stopped-requires : tie.Need-stopped-requires Inv-loop μ-loop
+stopped-requires c κs = search needs
+
+same-length-4 : tie.Need-same-length-4 Inv-loop μ-loop
+same-length-4 c = c .before .before .before .before .before .before .before .before .before .store .given ∙ c .before .before .before .before .before .before .before .before .before .before .before .before .before .before .before .before .before .before .loop .inv .1 .store-is ∙ sym (c .before .before .before .before .before .before .before .before .before .before .before .before .before .before .before .before .before .before .before .before .before .before .before .before .before .before .pre .0 .store-is)
+
+same-length-5 : tie.Need-same-length-5 Inv-loop μ-loop
+same-length-5 c = c .before .before .before .before .before .before .before .marks .given ∙ c .before .before .before .before .before .before .before .before .before .before .before .before .before .before .before .before .before .before .loop .inv .1 .marks-is ∙ sym (c .before .before .before .before .before .before .before .before .before .before .before .before .before .before .before .before .before .before .before .before .before .before .before .before .before .before .pre .0 .marks-is)
+
+same-length-6 : tie.Need-same-length-6 Inv-loop μ-loop
+same-length-6 c = c .before .before .before .before .before .out .given ∙ going-long (c .before .before .before .before .before .before .before .before .before .before .before .before .before .before .before .before .before .before .loop .inv .0)
+
+returns-2 : tie.Need-returns-2 Inv-loop μ-loop
+returns-2 c = going-stop (c .before .before .before .before .before .before .before .before .before .before .before .before .before .before .before .before .before .before .loop .inv .0) _ (c .before .before .before .before .before .before .before .before .before .before .before .before .before .before .before .before .find-byte .ensures) (c .before .before .before .before .before .before .before .before .before .before .before .before .before .before .before .if1 .left) _ _ (c .before .before .before .before .before .before .before .before .before .before .put-line .ensures) _ _ (c .before .before .needed .given .1) (c .stopped .ensures)
 
 pub put-lines-spec : {M : Type 1} → statement M
 put-lines-spec =
@@ -94,7 +105,7 @@ put-lines-spec =
     (tie.spec
     Inv-loop
     μ-loop
-    size-of-requires
+    most-of-requires
     loop-holds
     sub-rest
     part-rest-start
@@ -108,11 +119,14 @@ put-lines-spec =
     part-put-line-start
     part-put-line-end
     put-line-requires
-    same-length-4
-    same-length-5
-    same-length-6
-    returns-2
+    enum-known-next
     add-read
     add-read-2
     loop-less
-    loop-again)
+    loop-again
+    enum-known-needed
+    stopped-requires
+    same-length-4
+    same-length-5
+    same-length-6
+    returns-2)
