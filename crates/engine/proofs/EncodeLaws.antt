@@ -22,7 +22,7 @@ use Rattle.prefixes.specs.declared.prefixes.NameType.{NameType}
 use Rattle.prefixes.specs.declared.prefixes.NameType.the-variants.{Ashkenazi, Generic, Sephardic}
 use Rattle.prefixes.specs.declared.prefixes.Prefix.{Prefix}
 use Rattle.prefixes.specs.declared.prefixes.Prefix.the-variants.{Parted, Whole}
-use Rattle.name_parts.proofs.Laws.{clash, split-within, rest-shorter, joined-shorter, joined-short, word-part, put-fits, put-long, slice-room}
+use Rattle.name_parts.proofs.Laws.{clash, split-within, rest-shorter, joined-shorter, joined-short, put-fits, put-long, slice-room}
 use Rattle.pack.specs.Packs.{listCount}
 use Rattle.pack.specs.Places.{textBytes}
 use Rattle.pack.specs.Guessing.{guessed, guessedAt}
@@ -321,14 +321,6 @@ module _ {o o′ t : List ℕ} {n : ℕ} (x : Put o o′ 0 n t) (h : length t �
       let k : n - 0 ≡ n = omega arith in
       ap (λ (m : ℕ). take m o′) k ∙ put-fits x (omega (arith, room)) .1
 
-pub word-short : (concat : Bool) (kind : NameType) (name : Text) → length name ≤ 96 → length (pick concat (joinedWords kind name) (wordAt name 0)) ≤ 96
-word-short concat kind name h =
-    pick-all (λ (l : List ℕ). length l ≤ 96) concat (joinedWords kind name) (wordAt name 0) (omega (arith, joined-short kind name)) (omega (arith, word-part name 0))
-
--- the word that a name is spelled as
-module _ {o o′ : List ℕ} {n : ℕ} (concat : Bool) (kind : NameType) (name : Text) where
-  pub word-joined : concat ≡ true → Put o o′ 0 n (joinedWords kind name) → Put o o′ 0 n (pick concat (joinedWords kind name) (wordAt name 0))
-  word-joined t w = rw (pick-true concat (joinedWords kind name) (wordAt name 0) t) w
-
-  pub word-only : {w : Text} → concat ≡ false → w ≡ wordAt name 0 → Put o o′ 0 n w → Put o o′ 0 n (pick concat (joinedWords kind name) (wordAt name 0))
-  word-only t e w = rw (pick-false concat (joinedWords kind name) (wordAt name 0) t, ← e) w
+-- the words of a name that is short enough for it
+pub joined-few : (kind : NameType) (name : Text) → length name ≤ 96 → length (joinedWords kind name) ≤ 96
+joined-few kind name h = omega (arith, joined-short kind name)

@@ -5,9 +5,8 @@ ghost use mathlib.Core.List.{_∷_};
 ghost use Prim.Native.Nat.{_+_, _≤_, _<_, min};
 ghost use lib.ListN.{length};
 ghost use Rattle.base.specs.Pick.{pick};
-ghost use Rattle.languages.specs.Sets.{singleOf};
-ghost use Rattle.name_parts.specs.Words.{oneWord, wordsOf, wordAt};
-ghost use Rattle.name_parts.specs.Joining.{joinedWords};
+ghost use Rattle.languages.specs.Sets.{singleOf, BitsBelow};
+ghost use Rattle.name_parts.specs.Words.{oneWord, wordsOf};
 ghost use Rattle.name_parts.specs.Writing.{cap, Put};
 ghost use Rattle.pack.specs.Guessing.{guessedAt};
 ghost use Rattle.engine.specs.Spelling.{partedAs, or, spelledName, onePart, eachWord, afreshBy};
@@ -129,19 +128,46 @@ pub(crate) fn is_plain(call: Call, name: &[u8]) -> bool
     }
 }
 
-// That word, the words joined or the only one, at the front of `word`. Returns its length.
-fn put_word(call: Call, name: &[u8], word: &mut [u8]) -> usize
-    ensures { λ r. ⌜ Put (now (word .entry)) (now (word .exit)) 0 r (pick (call .concat) (joinedWords (call .kind) (now (name .entry))) (wordAt (now (name .entry)) 0)) ⌝ }
+// A word spelled with a set, into `out` from `at` on where it fits as a whole.
+fn spell_word(
+    store: &mut [u8],
+    marks: &mut [u64],
+    pack: &[u8],
+    places: &[usize],
+    call: Call,
+    set: LanguageSet,
+    word: &[u8],
+    out: &mut [u8],
+    at: usize,
+) -> Ends
+    requires { ⌜ Scratch (length (now store)) (length (now marks)) ⌝ }
+    requires { ⌜ Ready (now pack) (now places) call ⌝ }
+    requires { ⌜ BitsBelow (call .languages) set ⌝ }
+    ensures { λ r. ⌜ ToldWhole (stepsAt (now (pack .entry)) call .word set (now (word .entry))) (now (out .entry)) (now (out .exit)) at r ⌝ }
 {
-    if call.concat {
-        let kind = call.kind;
-        name_parts::join_words(kind, name, word)
-    } else {
-        name_parts::copy(name_parts::next_word(name, 0), word, 0)
-    }
+    let guesses = call.guesses;
+    let lists = lists_of(call, language_of(set, call.any));
+    let mut alts = [0u64; 256];
+    let answer = phoneme_builder::word(
+        store,
+        marks,
+        &mut alts,
+        pack,
+        &pack[1..guesses],
+        places,
+        lists.main,
+        lists.common,
+        lists.own,
+        set,
+        word,
+        call.limit,
+        out,
+        at,
+    );
+    ended(answer, at)
 }
 
-// That word spelled, into `out` from `at` on where it fits as a whole.
+// A name spelled as one word: its words joined, or the part of it where its only word stands.
 pub(crate) fn spell_plain(
     store: &mut [u8],
     marks: &mut [u64],
@@ -157,29 +183,26 @@ pub(crate) fn spell_plain(
     requires { ⌜ length (now name) ≤ 96 ⌝ }
     ensures { λ r. ⌜ ToldWhole (onePart (stepsAt (now (pack .entry)) call) (startAt (now (pack .entry)) call (now (name .entry))) (now (name .entry))) (now (out .entry)) (now (out .exit)) at r ⌝ }
 {
-    let guesses = call.guesses;
     let set = start_of(pack, call, name);
-    let lists = lists_of(call, language_of(set, call.any));
-    let mut word = [0u8; 96];
-    let n = put_word(call, name, &mut word);
-    let mut alts = [0u64; 256];
-    let answer = phoneme_builder::word(
-        store,
-        marks,
-        &mut alts,
-        pack,
-        &pack[1..guesses],
-        places,
-        lists.main,
-        lists.common,
-        lists.own,
-        set,
-        &word[0..n],
-        call.limit,
-        out,
-        at,
-    );
-    ended(answer, at)
+    if call.concat {
+        let kind = call.kind;
+        let mut joined = [0u8; 96];
+        let n = name_parts::join_words(kind, name, &mut joined);
+        spell_word(
+            store,
+            marks,
+            pack,
+            places,
+            call,
+            set,
+            &joined[0..n],
+            out,
+            at,
+        )
+    } else {
+        let word = name_parts::next_word(name, 0);
+        spell_word(store, marks, pack, places, call, set, word, out, at)
+    }
 }
 
 // Where a name is parted: only Generic ones are.

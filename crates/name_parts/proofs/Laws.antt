@@ -3,7 +3,7 @@ use mathlib.Core.Path.{_≡_, refl, sym, ap, ap₂, _∙_}
 use mathlib.Core.Bool.{Bool, true, false, not}
 use mathlib.Core.List.{List, [], _∷_, _++_}
 use Prim.Native.Nat.{ℕ, zero, suc, _+_, _-_, _*_, _≤_, _<_, min, zero-le, suc-le-suc}
-use native.Mathlib.Nat.{le-trans}
+use native.Mathlib.Nat.{add-sub-cancel-left, le-trans}
 use native.Mathlib.Decide.{decLe}
 use native.Mathlib.Omega.{arith}
 use lib.Dec.{eqb}
@@ -15,7 +15,7 @@ use Rattle.base.proofs.Stores.{sets-then}
 use Rattle.texts.specs.Parts.{has, prefixOf}
 use Rattle.texts.proofs.Laws.{prefix-short, first-some-by}
 use Rattle.name_parts.specs.Writing.{Put, cap}
-use Rattle.name_parts.specs.Words.{goesOn, led, wordsOf, firstOf, wordAt, spaces, letters, wordStart, wordEnd, pastWord, oneWord}
+use Rattle.name_parts.specs.Words.{goesOn, led, wordsOf, spaces, letters, wordStart, wordEnd, pastWord, stretch, wordAt, oneWord}
 use Rattle.prefixes.specs.Prefixes.{generic, prefixesOf, fits, firstFit, splitOf}
 use Rattle.name_parts.specs.Joining.{spaced, joinedName, afterApostrophe, keptOf, dropsOut, remaining, joinedBySpace, joinedWords}
 use Rattle.prefixes.specs.declared.prefixes.NameType.{NameType}
@@ -166,6 +166,11 @@ unfolding pick wordsOf
 words-by l true e = words-skip l ∙ words-go (body l) e
 words-by l false e = words-skip l ∙ ap wordsOf (body-end l e)
 
+-- the first of some words, or the empty text
+unfoldable pub firstOf : List (List ℕ) → List ℕ
+firstOf [] = []
+firstOf (w ∷ ws) = w
+
 first-by : (l : List ℕ) (t : Bool) → goesOn (body l) ≡ t → firstOf (wordsOf l) ≡ take (letters (body l)) (body l)
 unfolding pick firstOf
 first-by l true e = ap firstOf (words-by l true e)
@@ -177,8 +182,15 @@ module _ (s : List ℕ) (p : ℕ) where
   from = body (drop p s)
 
   pub word-is : wordAt s p ≡ take (letters from) from
-  unfolding wordAt
-  word-is = first-by (drop p s) _ refl
+  unfolding wordAt stretch pastWord wordEnd wordStart
+  word-is =
+      let start : drop (p + spaces (drop p s)) s ≡ from = sym (drop-drop (spaces (drop p s)) p s) in
+      ap (λ (n : ℕ). take n (drop (p + spaces (drop p s)) s)) (add-sub-cancel-left (p + spaces (drop p s)) (letters (drop (p + spaces (drop p s)) s)))
+      ∙ ap (λ (l : List ℕ). take (letters l) l) start
+
+  -- the bytes that stand there are the first of the words that are left
+  pub word-first : wordAt s p ≡ firstOf (wordsOf (drop p s))
+  word-first = word-is ∙ sym (first-by (drop p s) _ refl)
 
   word-long : length (wordAt s p) ≡ letters from
   word-long = ap length word-is ∙ length-take-le _ _ (letters-within from)
@@ -226,9 +238,9 @@ module _ (s : List ℕ) (p : ℕ) where
     unfolding oneWord
     one-again = ap (λ (ws : List (List ℕ)). eqb (length ws) 1) words-again
 
-    pub word-again : wordAt (wordAt s p) 0 ≡ wordAt s p
-    unfolding wordAt firstOf
-    word-again = ap firstOf words-again
+pub word-again : (s : List ℕ) (p : ℕ) → (length (wordAt s p) ≡ 0 → ⊥) → wordAt (wordAt s p) 0 ≡ wordAt s p
+unfolding firstOf
+word-again s p h = word-first (wordAt s p) 0 ∙ ap firstOf (words-again s p h)
 
 only : (ws : List (List ℕ)) → length ws ≡ 1 → ws ≡ firstOf ws ∷ []
 unfolding firstOf
@@ -237,8 +249,8 @@ only (w ∷ []) e = refl
 only (w ∷ v ∷ ws) e = absurd (omega arith)
 
 pub one-is : (s : List ℕ) → oneWord s ≡ true → wordsOf s ≡ wordAt s 0 ∷ []
-unfolding oneWord wordAt
-one-is s e = only (wordsOf s) (eqb-true _ _ e)
+unfolding oneWord
+one-is s e = only (wordsOf s) (eqb-true _ _ e) ∙ ap (λ (w : List ℕ). w ∷ []) (sym (word-first s 0))
 
 -- a name that is its own first word
 one-whole : (s : List ℕ) → spaces s ≡ 0 → letters (body s) ≡ length s → goesOn (body s) ≡ true → oneWord s ≡ true

@@ -31,7 +31,7 @@ fn word_end(s: &[u8], p: usize) -> usize
     i
 }
 
-// The next word at or after p, as a part of s; empty where there is none.
+// The next word at or after p: the part of s from its start up to the place behind it; empty where there is none.
 pub fn next_word(s: &[u8], p: usize) -> &[u8]
     ensures { λ r. ⌜ now r ≡ wordAt (now (s .entry)) p ⌝ }
 {

@@ -1,90 +1,85 @@
 use mathlib.Core.Path.{refl}
-use Rattle.engine.proofs.EncodeLaws.{start-told, start-below, names-within, lists-ready, one-told, plain-told, front-in, front-is, word-short}
+use Rattle.base.specs.Pick.{pick-yes, pick-no}
+use Rattle.engine.proofs.EncodeLaws.{start-told, start-below, plain-told, front-in, front-is, joined-few}
 use borrow.Author.Needs.{needs}
 use Rattle.engine.proofs.encode.spell_plain.Statement.{statement}
 use Rattle.engine.proofs.encode.spell_plain.Tie as tie
 use Rattle.engine.proofs.encode.spell_plain.Reads as reads
 use Rattle.engine.proofs.encode.spell_plain.Lts as lts
-use Rattle.engine.proofs.encode.ended.Reads as ended-reads
-use Rattle.engine.proofs.encode.language_of.Reads as language-of-reads
-use Rattle.engine.proofs.encode.lists_of.Reads as lists-of-reads
-use Rattle.engine.proofs.encode.put_word.Reads as put-word-reads
+use Rattle.engine.proofs.encode.spell_word.Reads as spell-word-reads
 use Rattle.engine.proofs.encode.start_of.Reads as start-of-reads
-use Rattle.phoneme_builder.proofs.word.Reads as word-reads
+use Rattle.name_parts.proofs.join_words.Reads as join-words-reads
+use Rattle.name_parts.proofs.next_word.Reads as next-word-reads
 
 start-of-requires : tie.Need-start-of-requires
 start-of-requires c κs = search needs
 
-language-of-requires : tie.Need-language-of-requires
-language-of-requires c κs = search needs
+slice-aggregate-join-words : tie.Need-slice-aggregate-join-words
+slice-aggregate-join-words c = search needs
 
-lists-of-requires : tie.Need-lists-of-requires
-lists-of-requires c κs = lists-ready _ _ _ (c .before .before .before .before .before .before .before .before .pre .1 .0) _ (start-below _ _ _ (c .before .before .before .before .before .before .before .before .pre .1 .0) _ _ (start-told _ _ _ (c .before .before .before .before .before .before .before .before .pre .1 .0) _ _ (c .before .start-of .ensures))) _ (c .language-of .ensures)
+join-words-requires : tie.Need-join-words-requires
+join-words-requires c κs = search needs
 
-slice-aggregate-put-word : tie.Need-slice-aggregate-put-word
-slice-aggregate-put-word c = search needs
+sub-spell-word : tie.Need-sub-spell-word
+sub-spell-word c = search needs
 
-put-word-requires : tie.Need-put-word-requires
-put-word-requires c κs = search needs
+part-spell-word-start : tie.Need-part-spell-word-start
+part-spell-word-start c = search needs
 
-slice-aggregate-word : tie.Need-slice-aggregate-word
-slice-aggregate-word c = search needs
+part-spell-word-end : tie.Need-part-spell-word-end
+part-spell-word-end c = front-in (c .before .before .before .before .join-words .ensures) (joined-few _ _ (c .before .before .before .before .before .before .before .before .before .before .before .before .before .before .pre .1 .1)) refl
 
-sub-word : tie.Need-sub-word
-sub-word c = search needs
+spell-word-requires : tie.Need-spell-word-requires
+spell-word-requires c κs = (c .before .before .before .before .before .before .before .before .before .before .before .before .before .before .before .before .pre .0, (c .before .before .before .before .before .before .before .before .before .before .before .before .before .before .before .before .pre .1 .0, start-below _ _ _ (c .before .before .before .before .before .before .before .before .before .before .before .before .before .before .before .before .pre .1 .0) _ _ (start-told _ _ _ (c .before .before .before .before .before .before .before .before .before .before .before .before .before .before .before .before .pre .1 .0) _ _ (c .before .before .before .before .before .before .before .before .before .start-of .ensures))))
 
-part-word-start : tie.Need-part-word-start
-part-word-start c = search needs
+next-word-requires : tie.Need-next-word-requires
+next-word-requires c κs = search needs
 
-part-word-end : tie.Need-part-word-end
-part-word-end c = names-within _ _ _ (c .before .before .before .before .before .before .before .before .before .before .before .before .before .before .before .pre .1 .0)
-
-sub-word-2 : tie.Need-sub-word-2
-sub-word-2 c = search needs
-
-part-word-start-2 : tie.Need-part-word-start-2
-part-word-start-2 c = search needs
-
-part-word-end-2 : tie.Need-part-word-end-2
-part-word-end-2 c = front-in (c .before .before .before .before .before .before .put-word .ensures) (word-short _ _ _ (c .before .before .before .before .before .before .before .before .before .before .before .before .before .before .before .before .before .pre .1 .1)) refl
-
-word-requires : tie.Need-word-requires
-word-requires c κs = search needs
-
-ended-requires : tie.Need-ended-requires
-ended-requires c κs = search needs
+spell-word-requires-2 : tie.Need-spell-word-requires-2
+spell-word-requires-2 c κs = (c .before .before .before .before .before .before .before .before .before .before .before .before .pre .0, (c .before .before .before .before .before .before .before .before .before .before .before .before .pre .1 .0, start-below _ _ _ (c .before .before .before .before .before .before .before .before .before .before .before .before .pre .1 .0) _ _ (start-told _ _ _ (c .before .before .before .before .before .before .before .before .before .before .before .before .pre .1 .0) _ _ (c .before .before .before .before .before .start-of .ensures))))
 
 same-length : tie.Need-same-length
-same-length c = c .before .before .before .before .before .before .before .store .given
+same-length c = c .before .before .before .before .before .store .given
 
 same-length-2 : tie.Need-same-length-2
-same-length-2 c = c .before .before .before .before .before .marks .given
+same-length-2 c = c .before .before .before .marks .given
 
 same-length-3 : tie.Need-same-length-3
-same-length-3 c = c .before .before .out .given
+same-length-3 c = c .before .out .given
 
 returns : tie.Need-returns
-returns c = plain-told _ _ _ _ _ (start-told _ _ _ (c .before .before .before .before .before .before .before .before .before .before .before .before .before .before .before .before .before .before .before .before .before .before .before .before .before .before .before .before .pre .1 .0) _ _ (c .before .before .before .before .before .before .before .before .before .before .before .before .before .before .before .before .before .before .before .before .before .start-of .ensures)) (front-is (c .before .before .before .before .before .before .before .before .before .before .before .before .before .before .before .before .before .put-word .ensures) (word-short _ _ _ (c .before .before .before .before .before .before .before .before .before .before .before .before .before .before .before .before .before .before .before .before .before .before .before .before .before .before .before .before .pre .1 .1)) refl) (one-told _ _ _ (c .before .before .before .before .before .before .before .before .before .before .before .before .before .before .before .before .before .before .before .before .before .before .before .before .before .before .before .before .pre .1 .0) _ (start-below _ _ _ (c .before .before .before .before .before .before .before .before .before .before .before .before .before .before .before .before .before .before .before .before .before .before .before .before .before .before .before .before .pre .1 .0) _ _ (start-told _ _ _ (c .before .before .before .before .before .before .before .before .before .before .before .before .before .before .before .before .before .before .before .before .before .before .before .before .before .before .before .before .pre .1 .0) _ _ (c .before .before .before .before .before .before .before .before .before .before .before .before .before .before .before .before .before .before .before .before .before .start-of .ensures))) _ (c .before .before .before .before .before .before .before .before .before .before .before .before .before .before .before .before .before .before .before .before .language-of .ensures) _ _ _ _ (c .before .before .before .before .before .before .before .before .before .before .before .before .before .before .before .before .before .before .before .lists-of .ensures) (c .before .before .before .before .before .before .before .before .before .before .before .before .before .before .before .before .before .before .before .before .before .before .before .before .before .before .before .before .pre .0) (c .before .before .before .before .before .before .before .before .before .before .before .before .before .before .before .before .before .before .before .before .before .before .before .before .before .before .before .before .good .1 .1 .1 .1 .1 .1 .0 .1) (c .before .before .before .before .before .before .before .before .word4 .ensures) (c .ended .ensures))
+returns c = plain-told _ _ _ _ _ (start-told _ _ _ (c .before .before .before .before .before .before .before .before .before .before .before .before .before .before .before .before .before .before .before .before .before .before .before .pre .1 .0) _ _ (c .before .before .before .before .before .before .before .before .before .before .before .before .before .before .before .before .start-of .ensures)) (pick-yes _ _ _ _ (c .before .before .before .before .before .before .before .before .before .before .before .before .before .before .before .if1 .taken) (front-is (c .before .before .before .before .before .before .before .before .before .before .before .before .before .join-words .ensures) (joined-few _ _ (c .before .before .before .before .before .before .before .before .before .before .before .before .before .before .before .before .before .before .before .before .before .before .before .pre .1 .1)) refl)) (c .before .before .before .before .before .before .spell-word .ensures)
+
+same-length-4 : tie.Need-same-length-4
+same-length-4 c = c .before .before .before .before .before .store2 .given
+
+same-length-5 : tie.Need-same-length-5
+same-length-5 c = c .before .before .before .marks2 .given
+
+same-length-6 : tie.Need-same-length-6
+same-length-6 c = c .before .out2 .given
+
+returns-2 : tie.Need-returns-2
+returns-2 c = plain-told _ _ _ _ _ (start-told _ _ _ (c .before .before .before .before .before .before .before .before .before .before .before .before .before .before .before .before .before .before .before .pre .1 .0) _ _ (c .before .before .before .before .before .before .before .before .before .before .before .before .start-of .ensures)) (pick-no _ _ _ _ (c .before .before .before .before .before .before .before .before .before .before .before .if1 .left) (c .before .before .before .before .before .before .before .before .before .before .next-word .ensures)) (c .before .before .before .before .before .before .spell-word2 .ensures)
 
 pub spell-plain-spec : {M : Type 1} → statement M
 spell-plain-spec =
     tie.close
     (tie.spec
     start-of-requires
-    language-of-requires
-    lists-of-requires
-    slice-aggregate-put-word
-    put-word-requires
-    slice-aggregate-word
-    sub-word
-    part-word-start
-    part-word-end
-    sub-word-2
-    part-word-start-2
-    part-word-end-2
-    word-requires
-    ended-requires
+    slice-aggregate-join-words
+    join-words-requires
+    sub-spell-word
+    part-spell-word-start
+    part-spell-word-end
+    spell-word-requires
+    next-word-requires
+    spell-word-requires-2
     same-length
     same-length-2
     same-length-3
-    returns)
+    returns
+    same-length-4
+    same-length-5
+    same-length-6
+    returns-2)
