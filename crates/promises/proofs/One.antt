@@ -18,6 +18,11 @@ use Rattle.rule_lists.specs.declared.writing.Written.{Written}
 use Rattle.rule_lists.specs.declared.writing.Written.the-variants.{Done, Refused}
 use Rattle.phoneme_builder.specs.declared.words.Worded.{Worded}
 use Rattle.lower_case.proofs.LowerLaws.{lowered-one}
+use Rattle.languages.proofs.NumberLaws.{set-one, listed-one}
+use Rattle.regex_optim.proofs.NumberLaws.{form-one}
+use Rattle.phonemes.proofs.NumberLaws.{expression-one}
+use Rattle.rules_parser.proofs.NumberLaws.{item-one}
+use Rattle.pack.proofs.NumberLaws.{checked-one}
 use Rattle.pack.proofs.Laws.{survey-one}
 use Rattle.loader.proofs.Accepted.{load-one}
 use Rattle.phoneme_builder.proofs.WordLaws.{word-one}
@@ -110,10 +115,10 @@ texts-ends-with κs a = (tt, λ x y v w p q. (one p q, refl))
 -- ---- languages
 
 pub languages-restrict-to : Settled languages.sets.LanguageSet.restrict_to.ended languages.sets.LanguageSet.restrict_to.Reads.Asked languages.sets.LanguageSet.restrict_to.Reads.Learnt
-languages-restrict-to κs a = (tt, λ x y v w p q. (one p q, refl))
+languages-restrict-to κs a = (tt, λ x y v w p q. (set-one x y (one p q), refl))
 
 pub languages-merge : Settled languages.sets.LanguageSet.merge.ended languages.sets.LanguageSet.merge.Reads.Asked languages.sets.LanguageSet.merge.Reads.Learnt
-languages-merge κs a = (tt, λ x y v w p q. (one p q, refl))
+languages-merge κs a = (tt, λ x y v w p q. (set-one x y (one p q), refl))
 
 pub languages-is-empty : Settled languages.sets.LanguageSet.is_empty.ended languages.sets.LanguageSet.is_empty.Reads.Asked languages.sets.LanguageSet.is_empty.Reads.Learnt
 languages-is-empty κs a = (tt, λ x y v w p q. (one p q, refl))
@@ -137,7 +142,7 @@ pub languages-string-at : Settled languages.string_at.ended languages.string_at.
 languages-string-at κs a = (tt, λ x y v w p q. (one p q, refl))
 
 pub languages-find-language : Settled languages.find_language.ended languages.find_language.Reads.Asked languages.find_language.Reads.Learnt
-languages-find-language κs a = (tt, λ x y v w p q. (one p q, refl))
+languages-find-language κs a = (tt, λ x y v w p q. (listed-one x y (one p q), refl))
 
 -- ---- name_parts
 
@@ -178,10 +183,10 @@ pub «name_parts-join-words» : Settled name_parts.join_words.ended name_parts.j
 -- ---- regex_optim
 
 pub «regex_optim-left-form» : Settled regex_optim.left_form.ended regex_optim.left_form.Reads.Asked regex_optim.left_form.Reads.Learnt
-«regex_optim-left-form» κs a = (tt, λ x y v w p q. (one p q, refl))
+«regex_optim-left-form» κs a = (tt, λ x y v w p q. (form-one x y (one p q), refl))
 
 pub «regex_optim-right-form» : Settled regex_optim.right_form.ended regex_optim.right_form.Reads.Asked regex_optim.right_form.Reads.Learnt
-«regex_optim-right-form» κs a = (tt, λ x y v w p q. (one p q, refl))
+«regex_optim-right-form» κs a = (tt, λ x y v w p q. (form-one x y (one p q), refl))
 
 pub «regex_optim-left-fits» : Settled regex_optim.left_fits.ended regex_optim.left_fits.Reads.Asked regex_optim.left_fits.Reads.Learnt
 «regex_optim-left-fits» κs a = (tt, λ x y v w p q. (one p q, refl))
@@ -217,10 +222,10 @@ rule-rule-matches κs a = (tt, λ x y v w p q. (one p q, refl))
 -- ---- phonemes
 
 pub phonemes-names-mask : Settled phonemes.names_mask.ended phonemes.names_mask.Reads.Asked phonemes.names_mask.Reads.Learnt
-phonemes-names-mask κs a = (tt, λ x y v w p q. (one p q, refl))
+phonemes-names-mask κs a = (tt, λ x y v w p q. (listed-one x y (one p q), refl))
 
 pub phonemes-check-expression : Settled phonemes.check_expression.ended phonemes.check_expression.Reads.Asked phonemes.check_expression.Reads.Learnt
-phonemes-check-expression κs a = (tt, λ x y v w p q. (one p q, refl))
+phonemes-check-expression κs a = (tt, λ x y v w p q. (expression-one x y (one p q), refl))
 
 pub phonemes-alternative : Settled phonemes.alternative.ended phonemes.alternative.Reads.Asked phonemes.alternative.Reads.Learnt
 phonemes-alternative κs a = (tt, λ x y v w p q. (one p q, refl))
@@ -245,13 +250,13 @@ pub pack-rule-count : Settled pack.rule_count.ended pack.rule_count.Reads.Asked 
 pack-rule-count κs a = (tt, λ x y v w p q. (one p q, refl))
 
 pub pack-guess-languages : Settled pack.guess_languages.ended pack.guess_languages.Reads.Asked pack.guess_languages.Reads.Learnt
-pack-guess-languages κs a = (tt, λ x y v w p q. (one p q, refl))
+pack-guess-languages κs a = (tt, λ x y v w p q. (set-one x y (one p q), refl))
 
 pub pack-survey : Settled pack.survey.ended pack.survey.Reads.Asked pack.survey.Reads.Learnt
 pack-survey κs a = (tt, λ x y v w p q. content (λ o. (tt, (o, tt))) (survey-one p q))
 
 pub pack-check-pack : Settled pack.check_pack.ended pack.check_pack.Reads.Asked pack.check_pack.Reads.Learnt
-pack-check-pack κs a = (tt, λ x y v w p q. (one p q, refl))
+pack-check-pack κs a = (tt, λ x y v w p q. (checked-one x y (one p q), refl))
 
 -- ---- rules_parser
 
@@ -259,7 +264,7 @@ pub «rules_parser-part» : SettledBy rules_parser.part.ended (λ κs a x v. now
 «rules_parser-part» κs a = (tt, λ x y v w. one)
 
 pub «rules_parser-read-item» : Settled rules_parser.read_item.ended rules_parser.read_item.Reads.Asked rules_parser.read_item.Reads.Learnt
-«rules_parser-read-item» κs a = (tt, λ x y v w p q. (one p q, refl))
+«rules_parser-read-item» κs a = (tt, λ x y v w p q. (item-one x y (one p q), refl))
 
 -- ---- pack_bytes
 
@@ -329,7 +334,7 @@ pub «beider_morse-load» : Settled beider_morse.load.ended beider_morse.load.Re
 «beider_morse-load» κs a = (tt, λ x y v w p q. content (λ o. (tt, (tt, (o, tt)))) (load-one _ _ p q))
 
 pub «beider_morse-check» : Settled beider_morse.check.ended beider_morse.check.Reads.Asked beider_morse.check.Reads.Learnt
-«beider_morse-check» κs a = (tt, λ x y v w p q. (one p q, refl))
+«beider_morse-check» κs a = (tt, λ x y v w p q. (checked-one x y (one p q), refl))
 
 pub «beider_morse-spell» : Settled beider_morse.spell.ended beider_morse.spell.Reads.Asked beider_morse.spell.Reads.Learnt
 «beider_morse-spell» κs a = (tt, λ x y v w p q. content (λ o. (tt, (tt, (tt, (o, tt))))) (spell-one p q))

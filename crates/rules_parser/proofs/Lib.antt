@@ -4,3 +4,4 @@ pub mod FileLaws
 pub mod Ahead
 pub mod Sound
 pub mod Laws
+pub mod NumberLaws

@@ -1,3 +1,4 @@
 pub mod Fields
 pub mod Lines
 pub mod Files
+pub mod Numbers
