@@ -1,6 +1,7 @@
 // The face: rule files loaded, a pack checked, a name spelled, names a line each. What is refused, and with which number, is the paper's
 // table. Crate bm is the same for C.
 ghost use mathlib.Core.Path.{_≡_};
+ghost use Rattle.pack.specs.Numbers.{checkedNumbers};
 ghost use Rattle.pack.specs.Packs.{packOf, verdictOf};
 ghost use Rattle.loader.specs.Loading.{LoadIs};
 ghost use Rattle.engine.specs.Calls.{callOf, SpellIs};
@@ -23,7 +24,7 @@ pub fn load(name_type: u32, bundle: &[u8], out: &mut [u8]) -> Loaded
 
 // Whether bytes are a pack, or the place of the section at fault (5).
 pub fn check(pack: &[u8]) -> Checked
-    ensures { λ r. ⌜ r ≡ verdictOf (packOf (now (pack .entry))) ⌝ }
+    ensures { λ r. ⌜ checkedNumbers r ≡ checkedNumbers (verdictOf (packOf (now (pack .entry)))) ⌝ }
 {
     pack::check_pack(pack)
 }

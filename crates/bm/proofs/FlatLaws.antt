@@ -3,12 +3,14 @@ use mathlib.Core.Path.{_≡_, refl, sym, ap, _∙_}
 use mathlib.Core.Bool.{Bool, true, false}
 use mathlib.Core.List.{List}
 use Prim.Native.Nat.{ℕ, _≤_, _<_}
-use lib.ListN.{length, set}
+use lib.ListN.{length, getD, set}
 use borrow.Author.Tests.{lt-ltb, le-ltb}
 use mir.Val.{boolByte}
 use Rattle.base.specs.Pick.{pick-yes, pick-no}
 use Rattle.base.proofs.One.{one}
 use Rattle.choices.specs.Texts.{Text}
+use Rattle.refusals.specs.Numbers.{numberOf}
+use Rattle.pack.specs.Numbers.{checkedNumbers}
 use Rattle.pack.specs.Packs.{packOf, verdictOf}
 use Rattle.pack.specs.declared.sections.Checked.{Checked}
 use Rattle.pack.specs.declared.sections.Checked.the-variants as checked
@@ -30,7 +32,7 @@ use Rattle.engine.specs.declared.lines.Lines.{Lines}
 use Rattle.engine.specs.declared.lines.Lines.the-variants as lines
 use Rattle.engine.specs.declared.spelling.Spelled.{Spelled}
 use Rattle.engine.specs.declared.spelling.Spelled.the-variants.{Done, Refused}
-use Rattle.bm.specs.Flat.{flagBit, numbered, TailIs, SpellFlat, checkNumbers, CheckFlat, blocked, LinesFlat, placed, LoadFlat}
+use Rattle.bm.specs.Flat.{flagBit, numbered, TailIs, SpellFlat, CheckFlat, blocked, LinesFlat, placed, LoadFlat}
 
 bit-is : (f : Bool) → boolByte f ≡ flagBit f
 unfolding flagBit
@@ -68,25 +70,25 @@ spell-flat x out out′ tail tail′ s r h w q =
 pub check-short : (s tail : List ℕ) → length tail < 1 → CheckFlat s tail tail 255
 check-short s tail h = let t = lt-ltb (length tail) 1 h in record { code = pick-yes _ _ _ _ t refl; numbers = pick-yes _ _ _ _ t refl }
 
-module _ (s tail : List ℕ) (a : Checked) (h : 1 ≤ length tail) (e : a ≡ verdictOf (packOf s)) where
+module _ (s tail : List ℕ) (a : Checked) (h : 1 ≤ length tail) (e : checkedNumbers a ≡ checkedNumbers (verdictOf (packOf s))) where
   pub check-accepted : a ≡ checked.Accepted → CheckFlat s tail (set tail 0 0) 0
-  unfolding checkNumbers
+  unfolding checkedNumbers numberOf
   check-accepted q =
       let t = le-ltb (length tail) 1 h in
-      let v : checked.Accepted ≡ verdictOf (packOf s) = sym q ∙ e in
+      let v = sym (ap checkedNumbers q) ∙ e in
       record {
-        code = pick-no _ _ _ _ t (ap (λ (x : Checked). checkNumbers x .code) v);
-        numbers = pick-no _ _ _ _ t (ap (λ (x : Checked). set tail 0 (checkNumbers x .place)) v);
+        code = pick-no _ _ _ _ t (ap (λ (l : List ℕ). getD l 0 0) v);
+        numbers = pick-no _ _ _ _ t (ap (λ (l : List ℕ). set tail 0 (getD l 1 0)) v);
       }
 
   pub check-refused : (p : ℕ) → a ≡ checked.Refused p → CheckFlat s tail (set tail 0 p) 5
-  unfolding checkNumbers
+  unfolding checkedNumbers numberOf
   check-refused p q =
       let t = le-ltb (length tail) 1 h in
-      let v : checked.Refused p ≡ verdictOf (packOf s) = sym q ∙ e in
+      let v = sym (ap checkedNumbers q) ∙ e in
       record {
-        code = pick-no _ _ _ _ t (ap (λ (x : Checked). checkNumbers x .code) v);
-        numbers = pick-no _ _ _ _ t (ap (λ (x : Checked). set tail 0 (checkNumbers x .place)) v);
+        code = pick-no _ _ _ _ t (ap (λ (l : List ℕ). getD l 0 0) v);
+        numbers = pick-no _ _ _ _ t (ap (λ (l : List ℕ). set tail 0 (getD l 1 0)) v);
       }
 
 -- ---- a block of names

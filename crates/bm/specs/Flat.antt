@@ -4,13 +4,12 @@ use Prim.Native.Nat.{ℕ}
 use mathlib.Core.Bool.{Bool, true, false}
 use mathlib.Core.List.{List}
 use lib.Dec.{eqb, ltb}
-use lib.ListN.{length, set}
+use lib.ListN.{length, getD, set}
 use lib.Seq.{sets}
 use Rattle.base.specs.Pick.{pick}
 use Rattle.choices.specs.Texts.{Text}
 use Rattle.pack.specs.Packs.{packOf, verdictOf}
-use Rattle.pack.specs.declared.sections.Checked.{Checked}
-use Rattle.pack.specs.declared.sections.Checked.the-variants as checked
+use Rattle.pack.specs.Numbers.{checkedNumbers}
 use Rattle.rule_lists.specs.Outcomes as loading
 use Rattle.loader.specs.Loading as load
 use Rattle.engine.specs.Calls.{Outcome, Numbers, numbersIn, numbersOf, filledBy}
@@ -44,14 +43,10 @@ pub record SpellFlat (x : Outcome) (out out′ tail tail′ : List ℕ) (r : ℕ
   pub buffer : out′ ≡ pick (ltb (length tail) 2) out (filledBy x out)
   pub numbers : tail′ ≡ pick (ltb (length tail) 2) tail (numbered (numbersIn x (length out)) tail)
 
--- 0 where a pack is accepted, 5 and the place of the section at fault where it is not
-unfoldable pub checkNumbers : Checked → Numbers
-checkNumbers checked.Accepted = record { code = 0; place = 0; flag = false }
-checkNumbers (checked.Refused place) = record { code = 5; place = place; flag = false }
-
+-- the verdict on a pack: its number, and the place behind it, 0 where there is none
 pub record CheckFlat (s tail tail′ : List ℕ) (r : ℕ) : Type 0 where
-  pub code : r ≡ pick (ltb (length tail) 1) 255 (checkNumbers (verdictOf (packOf s)) .code)
-  pub numbers : tail′ ≡ pick (ltb (length tail) 1) tail (set tail 0 (checkNumbers (verdictOf (packOf s)) .place))
+  pub code : r ≡ pick (ltb (length tail) 1) 255 (getD (checkedNumbers (verdictOf (packOf s))) 0 0)
+  pub numbers : tail′ ≡ pick (ltb (length tail) 1) tail (set tail 0 (getD (checkedNumbers (verdictOf (packOf s))) 1 0))
 
 -- how much was read and how much written, or 9 and the length needed: the two numbers of a block's answer in a tail
 unfoldable pub blocked : BlockNumbers → List ℕ → List ℕ

@@ -27,6 +27,7 @@ use Rattle.languages.specs.declared.names.Listed.the-variants.{Bit, Unlisted}
 use Rattle.languages.specs.declared.sets.LanguageSet.{LanguageSet}
 use Rattle.languages.specs.declared.sets.LanguageSet.the-variants.{Any, NoLanguages, SomeLanguages}
 use Rattle.pack.specs.Packs.{Pack, Verdict, accepted, refused, any, holds, namesGood, listCount, packOf}
+use Rattle.pack.proofs.NumberLaws.{surveyed-one}
 use Rattle.pack.specs.Places.{textBytes, placesOf, surveyedOf, SurveyIs}
 use Rattle.pack.specs.declared.sections.Surveyed.{Surveyed}
 use Rattle.pack.specs.declared.sections.Surveyed.the-variants as surveyed
@@ -157,11 +158,11 @@ shut-by s t place (refused k) e q = let is : k ≡ place = cc in e ∙ ap refuse
 
 module _ (s t t′ : List ℕ) (r : Surveyed) (w : SurveyIs s t r t′) where
   pub desk-shut : (place : ℕ) → r ≡ surveyed.Refused place → DeskIs s t′ (Shut place)
-  desk-shut place q = shut-by s t′ place _ refl (sym (w .result) ∙ q)
+  desk-shut place q = shut-by s t′ place _ refl (sym (surveyed-one _ _ (w .result)) ∙ q)
 
   module _ (n g : ℕ) (q : r ≡ surveyed.Accepted n g) where
     found : SurveyedPack s n g
-    found = surveyed-pack s n g r (w .result) q
+    found = surveyed-pack s n g r (surveyed-one _ _ (w .result)) q
 
     strings : stringsOf (take (g - 1) (drop 1 s)) ≡ found .pack .names
     strings = names-strings s (found .pack) g (found .is) (found .guesses)

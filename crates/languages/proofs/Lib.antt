@@ -2,3 +2,4 @@ pub mod Arms
 pub mod NameLaws
 pub mod Laws
 pub mod CodedLaws
+pub mod NumberLaws

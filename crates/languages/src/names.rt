@@ -1,6 +1,7 @@
 // Language names, and the bit of a name by its place in a list.
 ghost use mathlib.Core.Path.{_≡_};
 ghost use Rattle.languages.specs.Names.{isLetter, allLetters, languageName, stringAt, languageBit};
+ghost use Rattle.languages.specs.Numbers.{listedNumbers};
 
 // The bit of a name that a list holds.
 pub enum Listed {
@@ -70,7 +71,7 @@ pub fn string_at(names: &[u8], at: usize) -> Next
 
 // The bit of `name`: 2 to the place of the first string that is `name`, among the first 32 that `names` holds.
 pub fn find_language(names: &[u8], name: &[u8]) -> Listed
-    ensures { λ r. ⌜ r ≡ languageBit (now (names .entry)) (now (name .entry)) ⌝ }
+    ensures { λ r. ⌜ listedNumbers r ≡ listedNumbers (languageBit (now (names .entry)) (now (name .entry))) ⌝ }
 {
     let mut at: usize = 0;
     let mut place: u32 = 0;

@@ -1,6 +1,7 @@
 // Sets of languages, a bit for each listed one: narrowing is `&`, merging is `|`, subtracting is `&` with the complement.
 ghost use Rattle.languages.specs.Coded.{coded};
 ghost use mathlib.Core.Path.{_≡_};
+ghost use Rattle.languages.specs.Numbers.{setNumbers};
 ghost use Rattle.languages.specs.Sets.{narrowed, merged, isEmpty, isSingle, singleOf, without};
 
 pub enum LanguageSet {
@@ -18,7 +19,7 @@ pub enum Single {
 impl LanguageSet {
     // This set narrowed by `other`.
     pub fn restrict_to(self, other: LanguageSet) -> LanguageSet
-        ensures { λ r. ⌜ r ≡ narrowed self other ⌝ }
+        ensures { λ r. ⌜ setNumbers r ≡ setNumbers (narrowed self other) ⌝ }
     {
         match other {
             LanguageSet::Any => self,
@@ -33,7 +34,7 @@ impl LanguageSet {
 
     // This set merged with `other`.
     pub fn merge(self, other: LanguageSet) -> LanguageSet
-        ensures { λ r. ⌜ r ≡ merged self other ⌝ }
+        ensures { λ r. ⌜ setNumbers r ≡ setNumbers (merged self other) ⌝ }
     {
         match other {
             LanguageSet::Any => LanguageSet::Any,

@@ -28,6 +28,7 @@ use Rattle.pack.specs.Packs.{Guess, guess, guessGood, guessesGood}
 use Rattle.pack_bytes.specs.Bytes.{textBytes, textPut, maskBytes, guessBytes, none, more}
 use Rattle.held.specs.Tables.{bytesOf}
 use Rattle.rules_parser.specs.Fields.{partOf}
+use Rattle.rules_parser.proofs.NumberLaws.{item-one}
 use Rattle.rules_parser.specs.Files.{itemAt}
 use Rattle.rules_parser.proofs.Laws.{passed-goes, passed-in, passed-lines, tells-goes, guess-pattern}
 use Rattle.rules_parser.specs.declared.fields.Text.{Text}
@@ -255,7 +256,7 @@ module _ {names s : List ℕ} {f : ℕ} {o₀ : List ℕ} {at₀ : ℕ} {o : Lis
                 is = λ u o′ x. w .is u o′ (rw (told-kept (guessOf names s) f Guesses s l p t i _ here-tells (judged-here _ (kept .1))) (from-next n _ _ o o₁ at r u o′ bytes x));
               }
 
-pub ruleset writing-laws = (writing-start, writing-long, writing-done, writing-count, writing-line, writing-wrong, writing-lines, passed-less, writing-passed, tells-less, writing-rule, writing-include, writing-name, writing-fault, writing-kept)
+pub ruleset writing-laws = (item-one, writing-start, writing-long, writing-done, writing-count, writing-line, writing-wrong, writing-lines, passed-less, writing-passed, tells-less, writing-rule, writing-include, writing-name, writing-fault, writing-kept)
 
 -- ---- what is kept is good in a pack
 

@@ -37,6 +37,7 @@ use Rattle.pack.specs.declared.rules.RuleAt.{RuleAt}
 use Rattle.pack.specs.declared.rules.RuleAt.the-variants as rules
 use Rattle.pack.specs.declared.sections.Surveyed.{Surveyed}
 use Rattle.pack.specs.declared.sections.Surveyed.the-variants as surveyed
+use Rattle.pack.proofs.NumberLaws.{surveyed-one}
 use Rattle.pack.proofs.Readers.{clash, EndOf, Ends, end-here, end-then, end-is, end-within, place-drop, then-inv, many-length, byte-ends, names-ends, guesses-ends, list-ends, byte-some, byte-none, count-of}
 use Rattle.pack.proofs.Walks.{Judged, fine, faulty, judged, judge-fine, Ending}
 use Rattle.pack.proofs.RuleLaws.{RuleIs, rule-read, rule-is}
@@ -44,7 +45,7 @@ use Rattle.pack.proofs.SectionLaws.{section-is, found-one, names-end, n
 
 -- the promise of a survey allows one answer and one table
 pub survey-one : {s t o o′ : List ℕ} {r r′ : Surveyed} → SurveyIs s t r o → SurveyIs s t r′ o′ → (r ≡ r′) × (o ≡ o′)
-survey-one a b = (one (a .result) (b .result), one (a .buffer) (b .buffer))
+survey-one a b = (surveyed-one _ _ (one (a .result) (b .result)), one (a .buffer) (b .buffer))
 
 -- ---- the sections of an accepted pack
 

@@ -4,3 +4,4 @@ pub mod RuleLaws
 pub mod GuessLaws
 pub mod SectionLaws
 pub mod Laws
+pub mod NumberLaws

@@ -31,6 +31,7 @@ use Rattle.pack.specs.declared.sections.Checked.{Checked}
 use Rattle.pack.specs.declared.sections.Checked.the-variants as checked
 use Rattle.pack.specs.declared.sections.Surveyed.{Surveyed}
 use Rattle.pack.specs.declared.sections.Surveyed.the-variants as surveyed
+use Rattle.pack.proofs.NumberLaws.{surveyed-one, surveyed-told}
 use Rattle.pack.proofs.Readers.{clash, EndOf, end-here, end-then, end-length, place-drop, then-inv, many-length, byte-ends, names-ends, guesses-ends, list-ends, byte-some, byte-none, text-is, text-cut, text-read, text-rest}
 use Rattle.pack.proofs.Walks.{Faulty, runs-out, fails, Ending, section-ends, section-faulty, judge-fine, judge-faulty, judge-same, walk-on, walk-off, walk-end}
 
@@ -450,7 +451,7 @@ module _ (s table : List ℕ) (x₁ : Section) (e₁ : x₁ ≡ endIn s namesGoo
   survey-names q =
       let f = section-faulty s namesGood readNames s x₁ e₁ q in
       record {
-        result = sym (ap surveyedOf (section-is _ _ _ _ ∙ judge-faulty _ _ _ _ f));
+        result = surveyed-told _ _ (sym (ap surveyedOf (section-is _ _ _ _ ∙ judge-faulty _ _ _ _ f)));
         buffer = sym (ap (sets table 0) (after-is _ _ _ ∙ judge-faulty _ _ _ _ f));
       }
 
@@ -480,8 +481,8 @@ module _ (s table : List ℕ) (x₁ : Section) (e₁ : x₁ ≡ endIn s namesGoo
         survey-guesses q =
             let f = section-faulty s _ readGuesses (drop g s) x₂ e₂′ q in
             record {
-              result = sym (ap surveyedOf (section-is _ _ _ _ ∙ judge-fine _ _ _ _ (front .value) _ (front .reads) (front .passes) ∙ section-is _ _ _ _ ∙ judge-faulty _ _ _ _ f)
-                  ∙ ap surveyed.Refused (place-drop s g (front .fits)));
+              result = surveyed-told _ _ (sym (ap surveyedOf (section-is _ _ _ _ ∙ judge-fine _ _ _ _ (front .value) _ (front .reads) (front .passes) ∙ section-is _ _ _ _ ∙ judge-faulty _ _ _ _ f)
+                  ∙ ap surveyed.Refused (place-drop s g (front .fits))));
               buffer = sym (ap (sets table 0) (after-is _ _ _ ∙ judge-fine _ _ _ _ (front .value) _ (front .reads) (front .passes) ∙ after-is _ _ _ ∙ judge-faulty _ _ _ _ f));
             }
 
@@ -495,7 +496,7 @@ module _ (s table : List ℕ) (x₁ : Section) (e₁ : x₁ ≡ endIn s namesGoo
           module _ (x₃ : Checked) (table′ : List ℕ) (r : RestIs s (take (g - 1) (drop 1 s)) n c table x₃ table′) where
             survey-by : (y : Surveyed) → y ≡ told (front .value) x₃ → SurveyIs s table y table′
             survey-by y f = record {
-              result = f ∙ sym (rest-told s g front c middle ∙ ap (told (front .value)) (ap (λ (k : ℕ). restOf s (take (g - 1) (drop 1 s)) k (drop c s)) count ∙ sym (r .result)));
+              result = surveyed-told _ _ (f ∙ sym (rest-told s g front c middle ∙ ap (told (front .value)) (ap (λ (k : ℕ). restOf s (take (g - 1) (drop 1 s)) k (drop c s)) count ∙ sym (r .result))));
               buffer = r .buffer ∙ ap (sets table 0) (sym (rest-places s g front c middle ∙ ap (λ (k : ℕ). restPlaces s (take (g - 1) (drop 1 s)) k (drop c s)) count));
             }
 
@@ -523,9 +524,9 @@ refused-by (refused k) p e = cc
 
 module _ (s table : List ℕ) (x : Surveyed) (table′ : List ℕ) (w : SurveyIs s table x table′) where
   pub check-accepted : (n g : ℕ) → x ≡ surveyed.Accepted n g → checked.Accepted ≡ verdictOf (packOf s)
-  check-accepted n g q = accepted-by (packOf s) n g (sym (w .result) ∙ q)
+  check-accepted n g q = accepted-by (packOf s) n g (sym (surveyed-one _ _ (w .result)) ∙ q)
 
   pub check-refused : (p : ℕ) → x ≡ surveyed.Refused p → checked.Refused p ≡ verdictOf (packOf s)
-  check-refused p q = refused-by (packOf s) p (sym (w .result) ∙ q)
+  check-refused p q = refused-by (packOf s) p (sym (surveyed-one _ _ (w .result)) ∙ q)
 
 pub ruleset check-laws = (check-accepted, check-refused)

@@ -3,3 +3,4 @@ pub mod Packs
 pub mod Places
 pub mod Guessing
 pub mod Walks
+pub mod Numbers

@@ -9,6 +9,7 @@ use lib.Seq.{sets}
 use Rattle.base.specs.Pick.{pick}
 use Rattle.pack.specs.Reading.{Read, cut, got, readByte, readNumber}
 use Rattle.pack.specs.Packs.{Rule, Verdict, accepted, refused, readNames, readGuesses, readRule, readList, namesGood, guessesGood, listGood, placeIn, namesIn, listCount, packOf}
+use Rattle.pack.specs.Numbers.{surveyedNumbers}
 use Rattle.pack.specs.Guessing.{readSome}
 use Rattle.pack.specs.declared.sections.Surveyed.{Surveyed}
 use Rattle.pack.specs.declared.sections.Surveyed.the-variants as surveyed
@@ -48,7 +49,7 @@ placesOf s =
 
 -- the promise of a survey: the verdict, and the places stored from the table's front on, as far as it goes
 pub record SurveyIs (s table : List ℕ) (r : Surveyed) (table′ : List ℕ) : Type 0 where
-  pub result : r ≡ surveyedOf (packOf s)
+  pub result : surveyedNumbers r ≡ surveyedNumbers (surveyedOf (packOf s))
   pub buffer : table′ ≡ sets table 0 (placesOf s)
 
 -- ---- a rule by its places

@@ -4,6 +4,7 @@ ghost use Prim.Native.Nat.{_≤_, min};
 ghost use lib.ListN.{length, drop};
 ghost use Rattle.lang.specs.Patterns.{matchesOf};
 ghost use Rattle.lang.specs.Shortcuts.{signatureOf};
+ghost use Rattle.languages.specs.Numbers.{setNumbers};
 ghost use Rattle.pack.specs.Reading.{readMany};
 ghost use Rattle.pack.specs.Packs.{guess, readGuess, readGuesses, guessGood, guessesGood};
 ghost use Rattle.pack.specs.Guessing.{allListed, narrowedBy, narrowedByAll, leftOver, readSome, guessedAt};
@@ -207,7 +208,7 @@ fn left_over(left: u32) -> LanguageSet
 
 // The languages that a lower-cased name is guessed to have, by the guessing section at the place `guesses` of `pack`.
 pub fn guess_languages(pack: &[u8], guesses: usize, languages: usize, name: &[u8]) -> LanguageSet
-    ensures { λ r. ⌜ r ≡ guessedAt (now (pack .entry)) guesses languages (now (name .entry)) ⌝ }
+    ensures { λ r. ⌜ setNumbers r ≡ setNumbers (guessedAt (now (pack .entry)) guesses languages (now (name .entry))) ⌝ }
 {
     let all = listed_mask(languages);
     match crate::reading::count_at(pack, guesses) {

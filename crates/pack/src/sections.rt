@@ -3,6 +3,7 @@ ghost use mathlib.Core.Path.{_≡_};
 ghost use Prim.Native.Nat.{_≤_};
 ghost use lib.ListN.{length, set};
 ghost use Rattle.pack.specs.Packs.{readNames, namesGood, packOf, verdictOf};
+ghost use Rattle.pack.specs.Numbers.{checkedNumbers};
 ghost use Rattle.pack.specs.Places.{SurveyIs};
 ghost use Rattle.pack.specs.Walks.{endIn, follows, metBy, ListsAre, RestIs};
 use crate::reading::Section;
@@ -172,7 +173,7 @@ pub fn survey(pack: &[u8], places: &mut [usize]) -> Surveyed
 
 // Whether any bytes are a pack, or the first byte of the section at fault (5).
 pub fn check_pack(pack: &[u8]) -> Checked
-    ensures { λ r. ⌜ r ≡ verdictOf (packOf (now (pack .entry))) ⌝ }
+    ensures { λ r. ⌜ checkedNumbers r ≡ checkedNumbers (verdictOf (packOf (now (pack .entry)))) ⌝ }
 {
     let mut places = [0usize; 1];
     match survey(pack, &mut places) {

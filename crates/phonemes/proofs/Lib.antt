@@ -3,3 +3,4 @@ pub mod CutLaws
 pub mod ExprLaws
 pub mod AltLaws
 pub mod Laws
+pub mod NumberLaws

@@ -4,6 +4,8 @@ ghost use mathlib.Core.Bool.{true};
 ghost use mathlib.Core.List.{[], _∷_};
 ghost use Prim.Native.Nat.{_+_, _^_, _≤_, _<_};
 ghost use lib.ListN.{length};
+ghost use Rattle.languages.specs.Numbers.{listedNumbers};
+ghost use Rattle.phonemes.specs.Numbers.{expressionNumbers};
 ghost use Rattle.phonemes.specs.Expressions.{bar, opening, plus, cutAt, inside, formedPiece, boxOf, namesMask, pieceMask, setOf, checkedOf, alternativeOf};
 ghost use Rattle.base.specs.Pick.{and};
 ghost use Rattle.texts.specs.Parts.{placeOf};
@@ -61,7 +63,7 @@ fn names_part(a: &[u8], p: usize) -> &[u8]
 
 // The bits of names joined by `+`, or that one of them is not listed.
 pub fn names_mask(names: &[u8], joined: &[u8]) -> Listed
-    ensures { λ r. ⌜ r ≡ namesMask (now (names .entry)) (cutAt plus (now (joined .entry))) ⌝ }
+    ensures { λ r. ⌜ listedNumbers r ≡ listedNumbers (namesMask (now (names .entry)) (cutAt plus (now (joined .entry)))) ⌝ }
 {
     let n = joined.len();
     let mut from: usize = 0;
@@ -181,7 +183,7 @@ fn check_single(names: &[u8], e: &[u8]) -> Expression
 
 // Whether e is a well-formed expression whose names are all in `names`, strings behind their length bytes.
 pub fn check_expression(e: &[u8], names: &[u8]) -> Expression
-    ensures { λ r. ⌜ r ≡ checkedOf (now (names .entry)) (now (e .entry)) ⌝ }
+    ensures { λ r. ⌜ expressionNumbers r ≡ expressionNumbers (checkedOf (now (names .entry)) (now (e .entry))) ⌝ }
 {
     if texts::first_is(e, b'(') {
         if texts::last_is(e, b')') {

@@ -1,351 +1,350 @@
--- What each public function promises (its `ensures`) allows one result, and one content of each buffer lent to it, for any input
--- (01, What the statements have to settle). A law for each function, named CRATE-FUNCTION. Two promises leave something open, as said there:
+-- What each public function promises settles its answer (01, What the statements have to settle): a law for each, named CRATE-FUNCTION, of the contract that
+-- the code itself has (`Asked` and `Learnt` of its `Reads`). Two promises leave something open, as said there:
 -- `write_lists` (the buffer after a refusal), `word` (its work buffers). Assumes nothing.
-use mathlib.Core.Path.{_≡_, sym, ap, _∙_}
-use mathlib.Core.Bool.{Bool}
-use mathlib.Core.List.{List, [], _∷_}
+use mathlib.Core.Path.{_≡_, refl, sym, ap, ap₂, _∙_}
+use mathlib.Core.List.{List, []}
 use Prim.Native.Nat.{ℕ, _-_}
-use lib.ListN.{length, take, drop}
+use lib.ListN.{take, drop}
+use denote.Ref.{now}
 use Rattle.base.proofs.One.{one}
-use Rattle.lower_case.specs.Lower.{lowerOf, LoweredInto}
-use Rattle.letters.specs.Order.{orderOf, sameText}
-use Rattle.letters.specs.Reading.{inRange, firstOutside, firstIll}
-use Rattle.letters.specs.Utf8.{decodeAt}
-use Rattle.lower_case.proofs.LowerLaws.{lowered-one}
-use Rattle.texts.specs.Parts.{firstIs, lastIs, placeOf, prefixOf, suffixOf}
-use Rattle.languages.specs.Sets.{narrowed, merged, isEmpty, isSingle, singleOf, without}
-use Rattle.languages.specs.Names.{languageName, stringAt, languageBit, stringsOf}
-use Rattle.languages.specs.Coded.{coded}
-use Rattle.languages.specs.declared.sets.LanguageSet.{LanguageSet}
+use Rattle.promises.specs.Settled.{Settled, SettledBy}
 use Rattle.name_parts.specs.Writing.{Put}
-use Rattle.name_parts.specs.Words.{wordAt, pastWord, oneWord}
-use Rattle.prefixes.specs.Prefixes.{splitOf, isPrefix}
-use Rattle.name_parts.specs.Joining.{spaced, joinedName, joinedWords}
-use Rattle.prefixes.specs.declared.prefixes.NameType.{NameType}
-use Rattle.name_parts.proofs.Laws.{clash}
-use Rattle.regex_optim.specs.Contexts.{leftForm, rightForm, kindOf, fits}
-use Rattle.lang.specs.Patterns.{inForms, matchesOf}
-use Rattle.lang.specs.Shortcuts.{signatureOf, mayMatch}
-use Rattle.rule.specs.Matching.{ruleText, firstCode, bare, ruleMatches}
-use Rattle.phonemes.specs.Expressions.{plus, cutAt, namesMask, checkedOf, alternativeOf}
-use Rattle.pack.specs.Packs.{packOf, verdictOf}
-use Rattle.pack.specs.Places.{SurveyIs, ruleAt, ruleCount}
-use Rattle.pack.specs.Guessing.{guessedAt}
-use Rattle.pack.specs.Walks.{numberAt}
-use Rattle.pack.proofs.Laws.{survey-one}
-use Rattle.rules_parser.specs.Fields.{partOf}
-use Rattle.rules_parser.specs.Files.{itemAt}
-use Rattle.rules_parser.specs.declared.fields.Text as field
-use Rattle.rules_parser.specs.declared.lines.FileKind.{FileKind}
-use Rattle.pack_bytes.specs.Bytes.{textPut, countBytes, maskBytes, listBytes}
-use Rattle.bundles.specs.Bundles.{readBundle, wellFormed, filesOf}
-use Rattle.bundles.specs.Places.{numbersOf, fileAt}
 use Rattle.bundles.proofs.Laws.{numbers-one}
-use Rattle.held.specs.Tables.{bytesOf}
 use Rattle.rule_lists.specs.Outcomes.{Outcome, fine, refused, Told}
-use Rattle.rule_lists.specs.Lists as lists
 use Rattle.rule_lists.specs.declared.writing.Written.{Written}
-use Rattle.rule_lists.specs.declared.writing.Written.the-variants.{Done}
-use Rattle.loader.specs.Loading.{LoadIs, loadOf, written}
+use Rattle.rule_lists.specs.declared.writing.Written.the-variants.{Done, Refused}
+use Rattle.phoneme_builder.specs.declared.words.Worded.{Worded}
+use Rattle.lower_case.proofs.LowerLaws.{lowered-one}
+use Rattle.languages.proofs.NumberLaws.{set-one, listed-one}
+use Rattle.regex_optim.proofs.NumberLaws.{form-one}
+use Rattle.phonemes.proofs.NumberLaws.{expression-one}
+use Rattle.rules_parser.proofs.NumberLaws.{item-one}
+use Rattle.pack.proofs.NumberLaws.{checked-one}
+use Rattle.pack.proofs.Laws.{survey-one}
 use Rattle.loader.proofs.Accepted.{load-one}
-use Rattle.phoneme_builder.specs.Passes.{wordOf}
-use Rattle.phoneme_builder.specs.Tables.{matcher}
-use Rattle.phoneme_builder.specs.Walks.{WordIs}
 use Rattle.phoneme_builder.proofs.WordLaws.{word-one}
-use Rattle.engine.specs.Calls.{callOf, SpellIs}
-use Rattle.engine.specs.Lines.{LinesIs}
-use Rattle.engine.specs.declared.call.Settings.{Settings}
-use Rattle.engine.specs.declared.call.Start.{Start}
-use Rattle.engine.specs.declared.call.Start.the-variants.{Guessed, Given}
 use Rattle.engine.proofs.AnswerLaws.{spell-one}
 use Rattle.engine.proofs.LinesLaws.{lines-one}
-use Rattle.bm.specs.Flat.{settingsOf, startOf, LoadFlat, CheckFlat, SpellFlat, LinesFlat}
 use Rattle.bm.proofs.FlatLaws.{load-flat-one, check-flat-one, spell-flat-one, lines-flat-one}
+use Rattle.refusals.proofs as refusals
+use Rattle.letters.proofs as letters
+use Rattle.lower_case.proofs as lower_case
+use Rattle.texts.proofs as texts
+use Rattle.languages.proofs as languages
+use Rattle.name_parts.proofs as name_parts
+use Rattle.prefixes.proofs as prefixes
+use Rattle.regex_optim.proofs as regex_optim
+use Rattle.lang.proofs as lang
+use Rattle.rule.proofs as rule
+use Rattle.phonemes.proofs as phonemes
+use Rattle.pack.proofs as pack
+use Rattle.rules_parser.proofs as rules_parser
+use Rattle.pack_bytes.proofs as pack_bytes
+use Rattle.bundles.proofs as bundles
+use Rattle.rule_lists.proofs as rule_lists
+use Rattle.loader.proofs as loader
+use Rattle.phoneme_builder.proofs as phoneme_builder
+use Rattle.engine.proofs as engine
+use Rattle.beider_morse.proofs as beider_morse
+use Rattle.bm.proofs as bm
 
--- ---- what is said: of a promise about a result (or a content), about a result and a content, about a result and two contents
+-- one result, and one content at its place among the parameters; of two buffers; of what was put into one
 
-abbrev pub One : {A : Type 0} → (A → Type 0) → Type 0
-One {A} P = (x y : A) → P x → P y → x ≡ y
+content : {A B C : Type 0} {x y : A} {o p : B} (f : B → C) → (x ≡ y) × (o ≡ p) → (x ≡ y) × (f o ≡ f p)
+content f e = (e .0, ap f (e .1))
 
-abbrev pub OneAnswer : {A B : Type 0} → (A → B → Type 0) → Type 0
-OneAnswer {A} {B} P = (x y : A) (o p : B) → P x o → P y p → (x ≡ y) × (o ≡ p)
-
-abbrev pub OneFlat : {A B C : Type 0} → (A → B → C → Type 0) → Type 0
-OneFlat {A} {B} {C} P = (x y : A) (o p : B) (t u : C) → P x o t → P y p u → (x ≡ y) × (o ≡ p) × (t ≡ u)
-
--- ---- letters
-
-pub letters-decode : (s : List ℕ) (p : ℕ) → One (λ r. r ≡ decodeAt s p)
-letters-decode s p x y = one
-
-pub letters-first-ill : (s : List ℕ) → One (λ r. r ≡ firstIll s)
-letters-first-ill s x y = one
-
-pub letters-in-range : (code : ℕ) → One (λ r. r ≡ inRange code)
-letters-in-range code x y = one
-
-pub letters-first-outside : (s : List ℕ) → One (λ r. r ≡ firstOutside s)
-letters-first-outside s x y = one
-
-pub letters-compare : (a b : List ℕ) → One (λ r. r ≡ orderOf a b)
-letters-compare a b x y = one
-
-pub letters-same : (a b : List ℕ) → One (λ r. r ≡ sameText a b)
-letters-same a b x y = one
-
-pub «lower_case-lower» : (code : ℕ) → One (λ r. r ≡ lowerOf code)
-«lower_case-lower» code x y = one
-
-pub «lower_case-lower-into» : (s out : List ℕ) → OneAnswer (LoweredInto s out)
-«lower_case-lower-into» s out x y o p = lowered-one
-
--- ---- texts
-
-pub texts-first-is : (s : List ℕ) (b : ℕ) → One (λ r. r ≡ firstIs b s)
-texts-first-is s b x y = one
-
-pub texts-last-is : (s : List ℕ) (b : ℕ) → One (λ r. r ≡ lastIs b s)
-texts-last-is s b x y = one
-
-pub texts-find-byte : (s : List ℕ) (b : ℕ) → One (λ r. r ≡ placeOf b s)
-texts-find-byte s b x y = one
-
-pub texts-starts-with : (s t : List ℕ) → One (λ r. r ≡ prefixOf t s)
-texts-starts-with s t x y = one
-
-pub texts-ends-with : (s t : List ℕ) → One (λ r. r ≡ suffixOf t s)
-texts-ends-with s t x y = one
-
--- ---- languages; the first five are methods of LanguageSet
-
-pub languages-restrict-to : (self other : LanguageSet) → One (λ r. r ≡ narrowed self other)
-languages-restrict-to self other x y = one
-
-pub languages-merge : (self other : LanguageSet) → One (λ r. r ≡ merged self other)
-languages-merge self other x y = one
-
-pub languages-is-empty : (self : LanguageSet) → One (λ r. r ≡ isEmpty self)
-languages-is-empty self x y = one
-
-pub languages-is-singleton : (self : LanguageSet) → One (λ r. r ≡ isSingle self)
-languages-is-singleton self x y = one
-
-pub languages-single : (self : LanguageSet) → One (λ r. r ≡ singleOf self)
-languages-single self x y = one
-
-pub languages-subtract : (mask less : ℕ) → One (λ r. r ≡ without mask less)
-languages-subtract mask less x y = one
-
-pub languages-coded : (set : LanguageSet) → One (λ r. r ≡ coded set)
-languages-coded set x y = one
-
-pub languages-is-language-name : (s : List ℕ) → One (λ r. r ≡ languageName s)
-languages-is-language-name s x y = one
-
-pub languages-string-at : (names : List ℕ) (at : ℕ) → One (λ r. r ≡ stringAt names at)
-languages-string-at names at x y = one
-
-pub languages-find-language : (names name : List ℕ) → One (λ r. r ≡ languageBit names name)
-languages-find-language names name x y = one
-
--- ---- name_parts; `part_hyphens` answers nothing, and what is one is the content of its buffer
+contents : {A B C D : Type 0} {x y : A} {o p : B} {t u : C} (f : B → C → D) → (x ≡ y) × (o ≡ p) × (t ≡ u) → (x ≡ y) × (f o t ≡ f p u)
+contents f (e, b, c) = (e, ap₂ f b c)
 
 put-one : {out o p t : List ℕ} {at x y : ℕ} → Put out o at x t → Put out p at y t → (x ≡ y) × (o ≡ p)
 put-one a b = (one (a .ends) (b .ends), one (a .wrote) (b .wrote))
 
-pub «name_parts-push» : (out : List ℕ) (at b : ℕ) → OneAnswer (λ r o. Put out o at r (b ∷ []))
-«name_parts-push» out at b x y o p = put-one
+-- ---- refusals
 
-pub «name_parts-copy» : (s out : List ℕ) (at : ℕ) → OneAnswer (λ r o. Put out o at r s)
-«name_parts-copy» s out at x y o p = put-one
+pub refusals-number-of : Settled refusals.number_of.ended refusals.number_of.Reads.Asked refusals.number_of.Reads.Learnt
+refusals-number-of κs a = (tt, λ x y v w p q. (one p q, refl))
 
-pub «name_parts-next-word» : (s : List ℕ) (p : ℕ) → One (λ r. r ≡ wordAt s p)
-«name_parts-next-word» s p x y = one
+-- ---- letters
 
-pub «name_parts-past-word» : (s : List ℕ) (p : ℕ) → One (λ r. r ≡ pastWord s p)
-«name_parts-past-word» s p x y = one
+pub letters-decode : Settled letters.decode.ended letters.decode.Reads.Asked letters.decode.Reads.Learnt
+letters-decode κs a = (tt, λ x y v w p q. (one p q, refl))
 
-pub «name_parts-one-word» : (s : List ℕ) → One (λ r. r ≡ oneWord s)
-«name_parts-one-word» s x y = one
+pub letters-first-ill : Settled letters.first_ill.ended letters.first_ill.Reads.Asked letters.first_ill.Reads.Learnt
+letters-first-ill κs a = (tt, λ x y v w p q. (one p q, refl))
 
-pub prefixes-prefix-of : (s : List ℕ) → One (λ r. r ≡ splitOf s)
-prefixes-prefix-of s x y = one
+pub letters-in-range : Settled letters.in_range.ended letters.in_range.Reads.Asked letters.in_range.Reads.Learnt
+letters-in-range κs a = (tt, λ x y v w p q. (one p q, refl))
 
-pub prefixes-is-prefix : (kind : NameType) (w : List ℕ) → One (λ r. r ≡ isPrefix kind w)
-prefixes-is-prefix kind w x y = one
+pub letters-first-outside : Settled letters.first_outside.ended letters.first_outside.Reads.Asked letters.first_outside.Reads.Learnt
+letters-first-outside κs a = (tt, λ x y v w p q. (one p q, refl))
 
-pub «name_parts-part-hyphens» : (name : List ℕ) → One (λ r. r ≡ spaced name)
-«name_parts-part-hyphens» name x y = one
+pub letters-compare : Settled letters.compare.ended letters.compare.Reads.Asked letters.compare.Reads.Learnt
+letters-compare κs a = (tt, λ x y v w p q. (one p q, refl))
 
-pub «name_parts-join-prefix» : (s : List ℕ) (keep skip : ℕ) (to : List ℕ) → OneAnswer (λ r o. Put to o 0 r (joinedName keep skip s))
-«name_parts-join-prefix» s keep skip to x y o p = put-one
+pub letters-same : Settled letters.same.ended letters.same.Reads.Asked letters.same.Reads.Learnt
+letters-same κs a = (tt, λ x y v w p q. (one p q, refl))
 
-pub «name_parts-join-words» : (kind : NameType) (s to : List ℕ) → OneAnswer (λ r o. Put to o 0 r (joinedWords kind s))
-«name_parts-join-words» kind s to x y o p = put-one
+-- ---- lower_case
+
+pub «lower_case-lower» : Settled lower_case.lower.ended lower_case.lower.Reads.Asked lower_case.lower.Reads.Learnt
+«lower_case-lower» κs a = (tt, λ x y v w p q. (one p q, refl))
+
+pub «lower_case-lower-into» : Settled lower_case.lower_into.ended lower_case.lower_into.Reads.Asked lower_case.lower_into.Reads.Learnt
+«lower_case-lower-into» κs a = (tt, λ x y v w p q. content (λ o. (tt, (o, tt))) (lowered-one p q))
+
+-- ---- texts
+
+pub texts-first-is : Settled texts.first_is.ended texts.first_is.Reads.Asked texts.first_is.Reads.Learnt
+texts-first-is κs a = (tt, λ x y v w p q. (one p q, refl))
+
+pub texts-last-is : Settled texts.last_is.ended texts.last_is.Reads.Asked texts.last_is.Reads.Learnt
+texts-last-is κs a = (tt, λ x y v w p q. (one p q, refl))
+
+pub texts-find-byte : Settled texts.find_byte.ended texts.find_byte.Reads.Asked texts.find_byte.Reads.Learnt
+texts-find-byte κs a = (tt, λ x y v w p q. (one p q, refl))
+
+pub texts-starts-with : Settled texts.starts_with.ended texts.starts_with.Reads.Asked texts.starts_with.Reads.Learnt
+texts-starts-with κs a = (tt, λ x y v w p q. (one p q, refl))
+
+pub texts-ends-with : Settled texts.ends_with.ended texts.ends_with.Reads.Asked texts.ends_with.Reads.Learnt
+texts-ends-with κs a = (tt, λ x y v w p q. (one p q, refl))
+
+-- ---- languages
+
+pub languages-restrict-to : Settled languages.sets.LanguageSet.restrict_to.ended languages.sets.LanguageSet.restrict_to.Reads.Asked languages.sets.LanguageSet.restrict_to.Reads.Learnt
+languages-restrict-to κs a = (tt, λ x y v w p q. (set-one x y (one p q), refl))
+
+pub languages-merge : Settled languages.sets.LanguageSet.merge.ended languages.sets.LanguageSet.merge.Reads.Asked languages.sets.LanguageSet.merge.Reads.Learnt
+languages-merge κs a = (tt, λ x y v w p q. (set-one x y (one p q), refl))
+
+pub languages-is-empty : Settled languages.sets.LanguageSet.is_empty.ended languages.sets.LanguageSet.is_empty.Reads.Asked languages.sets.LanguageSet.is_empty.Reads.Learnt
+languages-is-empty κs a = (tt, λ x y v w p q. (one p q, refl))
+
+pub languages-is-singleton : Settled languages.sets.LanguageSet.is_singleton.ended languages.sets.LanguageSet.is_singleton.Reads.Asked languages.sets.LanguageSet.is_singleton.Reads.Learnt
+languages-is-singleton κs a = (tt, λ x y v w p q. (one p q, refl))
+
+pub languages-single : Settled languages.sets.LanguageSet.single.ended languages.sets.LanguageSet.single.Reads.Asked languages.sets.LanguageSet.single.Reads.Learnt
+languages-single κs a = (tt, λ x y v w p q. (one p q, refl))
+
+pub languages-subtract : Settled languages.subtract.ended languages.subtract.Reads.Asked languages.subtract.Reads.Learnt
+languages-subtract κs a = (tt, λ x y v w p q. (one p q, refl))
+
+pub languages-coded : Settled languages.coded.ended languages.coded.Reads.Asked languages.coded.Reads.Learnt
+languages-coded κs a = (tt, λ x y v w p q. (one p q, refl))
+
+pub languages-is-language-name : Settled languages.is_language_name.ended languages.is_language_name.Reads.Asked languages.is_language_name.Reads.Learnt
+languages-is-language-name κs a = (tt, λ x y v w p q. (one p q, refl))
+
+pub languages-string-at : Settled languages.string_at.ended languages.string_at.Reads.Asked languages.string_at.Reads.Learnt
+languages-string-at κs a = (tt, λ x y v w p q. (one p q, refl))
+
+pub languages-find-language : Settled languages.find_language.ended languages.find_language.Reads.Asked languages.find_language.Reads.Learnt
+languages-find-language κs a = (tt, λ x y v w p q. (listed-one x y (one p q), refl))
+
+-- ---- name_parts
+
+pub «name_parts-push» : Settled name_parts.push.ended name_parts.push.Reads.Asked name_parts.push.Reads.Learnt
+«name_parts-push» κs a = (tt, λ x y v w p q. content (λ o. (o, (tt, (tt, tt)))) (put-one p q))
+
+pub «name_parts-copy» : Settled name_parts.copy.ended name_parts.copy.Reads.Asked name_parts.copy.Reads.Learnt
+«name_parts-copy» κs a = (tt, λ x y v w p q. content (λ o. (tt, (o, (tt, tt)))) (put-one p q))
+
+pub «name_parts-next-word» : SettledBy name_parts.next_word.ended (λ κs a x v. now x) name_parts.next_word.Reads.Asked name_parts.next_word.Reads.Learnt
+«name_parts-next-word» κs a = (tt, λ x y v w. one)
+
+pub «name_parts-past-word» : Settled name_parts.past_word.ended name_parts.past_word.Reads.Asked name_parts.past_word.Reads.Learnt
+«name_parts-past-word» κs a = (tt, λ x y v w p q. (one p q, refl))
+
+pub «name_parts-one-word» : Settled name_parts.one_word.ended name_parts.one_word.Reads.Asked name_parts.one_word.Reads.Learnt
+«name_parts-one-word» κs a = (tt, λ x y v w p q. (one p q, refl))
+
+-- ---- prefixes
+
+pub prefixes-prefix-of : Settled prefixes.prefix_of.ended prefixes.prefix_of.Reads.Asked prefixes.prefix_of.Reads.Learnt
+prefixes-prefix-of κs a = (tt, λ x y v w p q. (one p q, refl))
+
+pub prefixes-is-prefix : Settled prefixes.is_prefix.ended prefixes.is_prefix.Reads.Asked prefixes.is_prefix.Reads.Learnt
+prefixes-is-prefix κs a = (tt, λ x y v w p q. (one p q, refl))
+
+-- ---- name_parts
+
+pub «name_parts-part-hyphens» : Settled name_parts.part_hyphens.ended name_parts.part_hyphens.Reads.Asked name_parts.part_hyphens.Reads.Learnt
+«name_parts-part-hyphens» κs a = (tt, λ x y v w p q. (refl, ap (λ o. (o, tt)) (one p q)))
+
+pub «name_parts-join-prefix» : Settled name_parts.join_prefix.ended name_parts.join_prefix.Reads.Asked name_parts.join_prefix.Reads.Learnt
+«name_parts-join-prefix» κs a = (tt, λ x y v w p q. content (λ o. (tt, (tt, (tt, (o, tt))))) (put-one p q))
+
+pub «name_parts-join-words» : Settled name_parts.join_words.ended name_parts.join_words.Reads.Asked name_parts.join_words.Reads.Learnt
+«name_parts-join-words» κs a = (tt, λ x y v w p q. content (λ o. (tt, (tt, (o, tt)))) (put-one p q))
 
 -- ---- regex_optim
 
-pub «regex_optim-left-form» : (context : List ℕ) → One (λ r. r ≡ kindOf (leftForm context))
-«regex_optim-left-form» context x y = one
+pub «regex_optim-left-form» : Settled regex_optim.left_form.ended regex_optim.left_form.Reads.Asked regex_optim.left_form.Reads.Learnt
+«regex_optim-left-form» κs a = (tt, λ x y v w p q. (form-one x y (one p q), refl))
 
-pub «regex_optim-right-form» : (context : List ℕ) → One (λ r. r ≡ kindOf (rightForm context))
-«regex_optim-right-form» context x y = one
+pub «regex_optim-right-form» : Settled regex_optim.right_form.ended regex_optim.right_form.Reads.Asked regex_optim.right_form.Reads.Learnt
+«regex_optim-right-form» κs a = (tt, λ x y v w p q. (form-one x y (one p q), refl))
 
-pub «regex_optim-left-fits» : (context before : List ℕ) → One (λ r. r ≡ fits (leftForm context) before)
-«regex_optim-left-fits» context before x y = one
+pub «regex_optim-left-fits» : Settled regex_optim.left_fits.ended regex_optim.left_fits.Reads.Asked regex_optim.left_fits.Reads.Learnt
+«regex_optim-left-fits» κs a = (tt, λ x y v w p q. (one p q, refl))
 
-pub «regex_optim-right-fits» : (context after : List ℕ) → One (λ r. r ≡ fits (rightForm context) after)
-«regex_optim-right-fits» context after x y = one
+pub «regex_optim-right-fits» : Settled regex_optim.right_fits.ended regex_optim.right_fits.Reads.Asked regex_optim.right_fits.Reads.Learnt
+«regex_optim-right-fits» κs a = (tt, λ x y v w p q. (one p q, refl))
 
 -- ---- lang
 
-pub lang-check-pattern : (p : List ℕ) → One (λ r. r ≡ inForms p)
-lang-check-pattern p x y = one
+pub lang-check-pattern : Settled lang.check_pattern.ended lang.check_pattern.Reads.Asked lang.check_pattern.Reads.Learnt
+lang-check-pattern κs a = (tt, λ x y v w p q. (one p q, refl))
 
-pub lang-matches : (p name : List ℕ) → One (λ r. r ≡ matchesOf p name)
-lang-matches p name x y = one
+pub lang-matches : Settled lang.matches.ended lang.matches.Reads.Asked lang.matches.Reads.Learnt
+lang-matches κs a = (tt, λ x y v w p q. (one p q, refl))
 
-pub lang-signature : (s : List ℕ) → One (λ r. r ≡ signatureOf s)
-lang-signature s x y = one
+pub lang-signature : Settled lang.signature.ended lang.signature.Reads.Asked lang.signature.Reads.Learnt
+lang-signature κs a = (tt, λ x y v w p q. (one p q, refl))
 
-pub lang-may-match : (p : List ℕ) (bits : ℕ) → One (λ r. r ≡ mayMatch p bits)
-lang-may-match p bits x y = one
+pub lang-may-match : Settled lang.may_match.ended lang.may_match.Reads.Asked lang.may_match.Reads.Learnt
+lang-may-match κs a = (tt, λ x y v w p q. (one p q, refl))
 
 -- ---- rule
 
-pub rule-is-rule-text : (s : List ℕ) → One (λ r. r ≡ ruleText s)
-rule-is-rule-text s x y = one
+pub rule-is-rule-text : Settled rule.is_rule_text.ended rule.is_rule_text.Reads.Asked rule.is_rule_text.Reads.Learnt
+rule-is-rule-text κs a = (tt, λ x y v w p q. (one p q, refl))
 
-pub rule-first-code : (s : List ℕ) → One (λ r. r ≡ firstCode s)
-rule-first-code s x y = one
+pub rule-first-code : Settled rule.first_code.ended rule.first_code.Reads.Asked rule.first_code.Reads.Learnt
+rule-first-code κs a = (tt, λ x y v w p q. (one p q, refl))
 
-pub rule-rule-matches : (pattern left right text : List ℕ) (at : ℕ) → One (λ r. r ≡ ruleMatches pattern left right text at)
-rule-rule-matches pattern left right text at x y = one
+pub rule-rule-matches : Settled rule.rule_matches.ended rule.rule_matches.Reads.Asked rule.rule_matches.Reads.Learnt
+rule-rule-matches κs a = (tt, λ x y v w p q. (one p q, refl))
 
-pub phonemes-names-mask : (names joined : List ℕ) → One (λ r. r ≡ namesMask names (cutAt plus joined))
-phonemes-names-mask names joined x y = one
+-- ---- phonemes
 
-pub phonemes-check-expression : (e names : List ℕ) → One (λ r. r ≡ checkedOf names e)
-phonemes-check-expression e names x y = one
+pub phonemes-names-mask : Settled phonemes.names_mask.ended phonemes.names_mask.Reads.Asked phonemes.names_mask.Reads.Learnt
+phonemes-names-mask κs a = (tt, λ x y v w p q. (listed-one x y (one p q), refl))
 
-pub phonemes-alternative : (e names : List ℕ) (i : ℕ) → One (λ r. r ≡ alternativeOf names e i)
-phonemes-alternative e names i x y = one
+pub phonemes-check-expression : Settled phonemes.check_expression.ended phonemes.check_expression.Reads.Asked phonemes.check_expression.Reads.Learnt
+phonemes-check-expression κs a = (tt, λ x y v w p q. (expression-one x y (one p q), refl))
 
-pub rule-is-bare : (s : List ℕ) → One (λ r. r ≡ bare s)
-rule-is-bare s x y = one
+pub phonemes-alternative : Settled phonemes.alternative.ended phonemes.alternative.Reads.Asked phonemes.alternative.Reads.Learnt
+phonemes-alternative κs a = (tt, λ x y v w p q. (one p q, refl))
+
+-- ---- rule
+
+pub rule-is-bare : Settled rule.is_bare.ended rule.is_bare.Reads.Asked rule.is_bare.Reads.Learnt
+rule-is-bare κs a = (tt, λ x y v w p q. (one p q, refl))
 
 -- ---- pack
 
-pub pack-count-at : (s : List ℕ) (at : ℕ) → One (λ r. r ≡ numberAt 2 s at)
-pack-count-at s at x y = one
+pub pack-count-at : Settled pack.count_at.ended pack.count_at.Reads.Asked pack.count_at.Reads.Learnt
+pack-count-at κs a = (tt, λ x y v w p q. (one p q, refl))
 
-pub pack-mask-at : (s : List ℕ) (at : ℕ) → One (λ r. r ≡ numberAt 4 s at)
-pack-mask-at s at x y = one
+pub pack-mask-at : Settled pack.mask_at.ended pack.mask_at.Reads.Asked pack.mask_at.Reads.Learnt
+pack-mask-at κs a = (tt, λ x y v w p q. (one p q, refl))
 
-pub pack-rule-at : (pack : List ℕ) (place : ℕ) → One (λ r. r ≡ ruleAt pack place)
-pack-rule-at pack place x y = one
+pub pack-rule-at : Settled pack.rule_at.ended pack.rule_at.Reads.Asked pack.rule_at.Reads.Learnt
+pack-rule-at κs a = (tt, λ x y v w p q. (one p q, refl))
 
-pub pack-rule-count : (pack : List ℕ) (place : ℕ) → One (λ r. r ≡ ruleCount pack place)
-pack-rule-count pack place x y = one
+pub pack-rule-count : Settled pack.rule_count.ended pack.rule_count.Reads.Asked pack.rule_count.Reads.Learnt
+pack-rule-count κs a = (tt, λ x y v w p q. (one p q, refl))
 
-pub pack-guess-languages : (pack : List ℕ) (guesses languages : ℕ) (name : List ℕ) → One (λ r. r ≡ guessedAt pack guesses languages name)
-pack-guess-languages pack guesses languages name x y = one
+pub pack-guess-languages : Settled pack.guess_languages.ended pack.guess_languages.Reads.Asked pack.guess_languages.Reads.Learnt
+pack-guess-languages κs a = (tt, λ x y v w p q. (set-one x y (one p q), refl))
 
-pub pack-survey : (pack places : List ℕ) → OneAnswer (SurveyIs pack places)
-pack-survey pack places x y o p = survey-one
+pub pack-survey : Settled pack.survey.ended pack.survey.Reads.Asked pack.survey.Reads.Learnt
+pack-survey κs a = (tt, λ x y v w p q. content (λ o. (tt, (o, tt))) (survey-one p q))
 
-pub pack-check-pack : (pack : List ℕ) → One (λ r. r ≡ verdictOf (packOf pack))
-pack-check-pack pack x y = one
+pub pack-check-pack : Settled pack.check_pack.ended pack.check_pack.Reads.Asked pack.check_pack.Reads.Learnt
+pack-check-pack κs a = (tt, λ x y v w p q. (checked-one x y (one p q), refl))
 
 -- ---- rules_parser
 
-pub «rules_parser-part» : (s : List ℕ) (text : field.Text) → One (λ r. r ≡ partOf s text)
-«rules_parser-part» s text x y = one
+pub «rules_parser-part» : SettledBy rules_parser.part.ended (λ κs a x v. now x) rules_parser.part.Reads.Asked rules_parser.part.Reads.Learnt
+«rules_parser-part» κs a = (tt, λ x y v w. one)
 
-pub «rules_parser-read-item» : (kind : FileKind) (s : List ℕ) (p : ℕ) → One (λ r. r ≡ itemAt kind s p)
-«rules_parser-read-item» kind s p x y = one
+pub «rules_parser-read-item» : Settled rules_parser.read_item.ended rules_parser.read_item.Reads.Asked rules_parser.read_item.Reads.Learnt
+«rules_parser-read-item» κs a = (tt, λ x y v w p q. (item-one x y (one p q), refl))
 
 -- ---- pack_bytes
 
-pub «pack_bytes-put-text» : (s out : List ℕ) (at : ℕ) → OneAnswer (λ r o. Put out o at r (textPut s))
-«pack_bytes-put-text» s out at x y o p = put-one
+pub «pack_bytes-put-text» : Settled pack_bytes.put_text.ended pack_bytes.put_text.Reads.Asked pack_bytes.put_text.Reads.Learnt
+«pack_bytes-put-text» κs a = (tt, λ x y v w p q. content (λ o. (tt, (o, (tt, tt)))) (put-one p q))
 
-pub «pack_bytes-put-count» : (n : ℕ) (out : List ℕ) (at : ℕ) → OneAnswer (λ r o. Put out o at r (countBytes n))
-«pack_bytes-put-count» n out at x y o p = put-one
+pub «pack_bytes-put-count» : Settled pack_bytes.put_count.ended pack_bytes.put_count.Reads.Asked pack_bytes.put_count.Reads.Learnt
+«pack_bytes-put-count» κs a = (tt, λ x y v w p q. content (λ o. (tt, (o, (tt, tt)))) (put-one p q))
 
-pub «pack_bytes-put-mask» : (mask : ℕ) (out : List ℕ) (at : ℕ) → OneAnswer (λ r o. Put out o at r (maskBytes mask))
-«pack_bytes-put-mask» mask out at x y o p = put-one
+pub «pack_bytes-put-mask» : Settled pack_bytes.put_mask.ended pack_bytes.put_mask.Reads.Asked pack_bytes.put_mask.Reads.Learnt
+«pack_bytes-put-mask» κs a = (tt, λ x y v w p q. content (λ o. (tt, (o, (tt, tt)))) (put-one p q))
 
 -- ---- bundles
 
-pub bundles-check-bundle : (bundle : List ℕ) → One (λ r. r ≡ wellFormed (readBundle bundle))
-bundles-check-bundle bundle x y = one
+pub bundles-check-bundle : Settled bundles.check_bundle.ended bundles.check_bundle.Reads.Asked bundles.check_bundle.Reads.Learnt
+bundles-check-bundle κs a = (tt, λ x y v w p q. (one p q, refl))
 
-pub bundles-find-file : (bundle wanted : List ℕ) → One (λ r. numbersOf r ≡ fileAt bundle wanted)
-bundles-find-file bundle wanted x y a b = numbers-one x y (one a b)
+pub bundles-find-file : Settled bundles.find_file.ended bundles.find_file.Reads.Asked bundles.find_file.Reads.Learnt
+bundles-find-file κs a = (tt, λ x y v w p q. (numbers-one x y (one p q), refl))
 
 -- ---- rule_lists
 
--- one answer, and one content where it is not a refusal: of the buffer after a refusal the promise says nothing
-abbrev pub OneWhereDone : (Written → List ℕ → Type 0) → Type 0
-OneWhereDone P = (x y : Written) (o p : List ℕ) → P x o → P y p → (x ≡ y) × ((n : ℕ) → x ≡ Done n → o ≡ p)
+-- the content where the answer is no refusal: of the buffer after a refusal the promise says nothing
+unfoldable pub kept : Written → List ℕ → List ℕ
+kept (Done n) o = o
+kept (Refused c l f) o = []
 
-told-one : {A : Type 0} (bytes : A → List ℕ) (w : Outcome A) (out : List ℕ) (at : ℕ) → OneWhereDone (λ r o. Told bytes w out o at r)
-unfolding Told
-told-one bytes (fine v) out at x y o p (m, d, a) (n, e, b) = (d ∙ ap Done (one (a .ends) (b .ends)) ∙ sym e, λ k f. one (a .wrote) (b .wrote))
-told-one bytes (refused c l f) out at x y o p a b = (one a b, λ k e. clash (cc))
+told-one : {A : Type 0} (bytes : A → List ℕ) (t : Outcome A) (out : List ℕ) (at : ℕ) (x y : Written) (o p : List ℕ) → Told bytes t out o at x → Told bytes t out p at y → _≡_ {A = Written × List ℕ} (x, kept x o) (y, kept y p)
+unfolding Told kept
+told-one bytes (fine v) out at x y o p (m, d, a) (n, e, b) = ap₂ (λ (r : Written) (c : List ℕ). (r, kept r c)) (d ∙ ap Done (one (a .ends) (b .ends)) ∙ sym e) (one (a .wrote) (b .wrote))
+told-one bytes (refused c l f) out at x y o p a b = ap (λ (r : Written). (r, kept r o)) a ∙ sym (ap (λ (r : Written). (r, kept r p)) b)
 
-pub «rule_lists-write-lists» : (kind : NameType) (bundle names out : List ℕ) (at : ℕ) → OneWhereDone (λ r o. Told (bytesOf listBytes) (lists.listsOf names (filesOf bundle) (lists.listFiles (lists.prefixOf kind) (stringsOf names))) out o at r)
-«rule_lists-write-lists» kind bundle names out at = told-one _ _ out at
+pub «rule_lists-write-lists» : SettledBy rule_lists.write_lists.ended {B = Written × List ℕ} (λ κs a x v. (x, kept x (v .1 .1 .1 .0))) rule_lists.write_lists.Reads.Asked rule_lists.write_lists.Reads.Learnt
+«rule_lists-write-lists» κs a = (tt, λ x y v w. told-one _ _ _ _ x y _ _)
 
 -- ---- loader
 
-pub loader-load : (name-type : ℕ) (bundle out : List ℕ) → OneAnswer (LoadIs name-type bundle out)
-loader-load name-type bundle out x y o p = load-one name-type bundle
+pub loader-load : Settled loader.load.ended loader.load.Reads.Asked loader.load.Reads.Learnt
+loader-load κs a = (tt, λ x y v w p q. content (λ o. (tt, (tt, (o, tt)))) (load-one _ _ p q))
 
--- ---- phoneme_builder: of its work buffers `word` promises nothing; that they, the limit, the table and the lists are `fit` is a test of its input
+-- ---- phoneme_builder: of its three work buffers `word` promises nothing; the fourth, `out`, is its thirteenth parameter
 
-pub «phoneme_builder-word» : (fit : Bool) (pack names table : List ℕ) (main common last : ℕ) (set : LanguageSet) (word : List ℕ) (limit : ℕ) (out : List ℕ) (at : ℕ) → OneAnswer (λ r o. WordIs fit (wordOf limit names (matcher pack table main) (matcher pack table common) (matcher pack table last) set word) out o at r)
-«phoneme_builder-word» fit pack names table main common last set word limit out at x y o p = word-one
+pub «phoneme_builder-word» : SettledBy phoneme_builder.word.ended {B = Worded × List ℕ} (λ κs a x v. (x, v .1 .1 .1 .1 .1 .1 .1 .1 .1 .1 .1 .1 .0)) phoneme_builder.word.Reads.Asked phoneme_builder.word.Reads.Learnt
+«phoneme_builder-word» κs a = (tt, λ x y v w p q. let e = word-one p q in ap₂ (λ r o. (r, o)) (e .0) (e .1))
 
 -- ---- engine
 
-pub engine-spell : (settings : Settings) (start : Start) (pack name out : List ℕ) → OneAnswer (SpellIs (callOf settings start pack name) out)
-engine-spell settings start pack name out x y o p = spell-one
+pub engine-spell : Settled engine.spell.ended engine.spell.Reads.Asked engine.spell.Reads.Learnt
+engine-spell κs a = (tt, λ x y v w p q. content (λ o. (tt, (tt, (tt, (tt, (o, tt)))))) (spell-one p q))
 
-pub engine-spell-lines : (settings : Settings) (start : Start) (pack block out : List ℕ) → OneAnswer (LinesIs (callOf settings start pack) block out)
-engine-spell-lines settings start pack block out x y o p = lines-one
+pub engine-spell-lines : Settled engine.spell_lines.ended engine.spell_lines.Reads.Asked engine.spell_lines.Reads.Learnt
+engine-spell-lines κs a = (tt, λ x y v w p q. content (λ o. (tt, (tt, (tt, (tt, (o, tt)))))) (lines-one p q))
 
--- ---- beider_morse, the face
+-- ---- beider_morse
 
-pub «beider_morse-load» : (name-type : ℕ) (bundle out : List ℕ) → OneAnswer (LoadIs name-type bundle out)
-«beider_morse-load» name-type bundle out x y o p = load-one name-type bundle
+pub «beider_morse-load» : Settled beider_morse.load.ended beider_morse.load.Reads.Asked beider_morse.load.Reads.Learnt
+«beider_morse-load» κs a = (tt, λ x y v w p q. content (λ o. (tt, (tt, (o, tt)))) (load-one _ _ p q))
 
-pub «beider_morse-check» : (pack : List ℕ) → One (λ r. r ≡ verdictOf (packOf pack))
-«beider_morse-check» pack x y = one
+pub «beider_morse-check» : Settled beider_morse.check.ended beider_morse.check.Reads.Asked beider_morse.check.Reads.Learnt
+«beider_morse-check» κs a = (tt, λ x y v w p q. (checked-one x y (one p q), refl))
 
-pub «beider_morse-spell» : (settings : Settings) (pack name out : List ℕ) → OneAnswer (SpellIs (callOf settings Guessed pack name) out)
-«beider_morse-spell» settings pack name out x y o p = spell-one
+pub «beider_morse-spell» : Settled beider_morse.spell.ended beider_morse.spell.Reads.Asked beider_morse.spell.Reads.Learnt
+«beider_morse-spell» κs a = (tt, λ x y v w p q. content (λ o. (tt, (tt, (tt, (o, tt))))) (spell-one p q))
 
-pub «beider_morse-spell-given» : (settings : Settings) (kind bits : ℕ) (pack name out : List ℕ) → OneAnswer (SpellIs (callOf settings (Given kind bits) pack name) out)
-«beider_morse-spell-given» settings kind bits pack name out x y o p = spell-one
+pub «beider_morse-spell-given» : Settled beider_morse.spell_given.ended beider_morse.spell_given.Reads.Asked beider_morse.spell_given.Reads.Learnt
+«beider_morse-spell-given» κs a = (tt, λ x y v w p q. content (λ o. (tt, (tt, (tt, (tt, (tt, (o, tt))))))) (spell-one p q))
 
-pub «beider_morse-spell-lines» : (settings : Settings) (start : Start) (pack block out : List ℕ) → OneAnswer (LinesIs (callOf settings start pack) block out)
-«beider_morse-spell-lines» settings start pack block out x y o p = lines-one
+pub «beider_morse-spell-lines» : Settled beider_morse.spell_lines.ended beider_morse.spell_lines.Reads.Asked beider_morse.spell_lines.Reads.Learnt
+«beider_morse-spell-lines» κs a = (tt, λ x y v w p q. content (λ o. (tt, (tt, (tt, (tt, (o, tt)))))) (lines-one p q))
 
--- ---- bm, the face for C: the code, the content of `out` and that of `tail`
+-- ---- bm
 
-pub bm-bm-load : (name-type : ℕ) (bundle out tail : List ℕ) → OneFlat (λ r o t. LoadFlat (written (loadOf name-type bundle)) out o tail t r)
-bm-bm-load name-type bundle out tail x y o p t u = load-flat-one
+pub bm-bm-load : Settled bm.bm_load.ended bm.bm_load.Reads.Asked bm.bm_load.Reads.Learnt
+bm-bm-load κs a = (tt, λ x y v w p q. contents (λ o t. (tt, (tt, (o, (t, tt))))) (load-flat-one p q))
 
-pub bm-bm-check : (pack tail : List ℕ) → OneAnswer (λ r t. CheckFlat pack tail t r)
-bm-bm-check pack tail x y o p = check-flat-one
+pub bm-bm-check : Settled bm.bm_check.ended bm.bm_check.Reads.Asked bm.bm_check.Reads.Learnt
+bm-bm-check κs a = (tt, λ x y v w p q. content (λ o. (tt, (o, tt))) (check-flat-one p q))
 
-pub bm-bm-spell : (name-type rule-type concat limit : ℕ) (pack name out tail : List ℕ) → OneFlat (λ r o t. SpellFlat (callOf (settingsOf name-type rule-type concat limit) Guessed pack name) out o tail t r)
-bm-bm-spell name-type rule-type concat limit pack name out tail x y o p t u = spell-flat-one
+pub bm-bm-spell : Settled bm.bm_spell.ended bm.bm_spell.Reads.Asked bm.bm_spell.Reads.Learnt
+bm-bm-spell κs a = (tt, λ x y v w p q. contents (λ o t. (tt, (tt, (tt, (tt, (tt, (tt, (o, (t, tt))))))))) (spell-flat-one p q))
 
-pub bm-bm-spell-given : (name-type rule-type concat limit kind bits : ℕ) (pack name out tail : List ℕ) → OneFlat (λ r o t. SpellFlat (callOf (settingsOf name-type rule-type concat limit) (Given kind bits) pack name) out o tail t r)
-bm-bm-spell-given name-type rule-type concat limit kind bits pack name out tail x y o p t u = spell-flat-one
+pub bm-bm-spell-given : Settled bm.bm_spell_given.ended bm.bm_spell_given.Reads.Asked bm.bm_spell_given.Reads.Learnt
+bm-bm-spell-given κs a = (tt, λ x y v w p q. contents (λ o t. (tt, (tt, (tt, (tt, (tt, (tt, (tt, (tt, (o, (t, tt))))))))))) (spell-flat-one p q))
 
-pub bm-bm-spell-lines : (name-type rule-type concat limit given kind bits : ℕ) (pack block out tail : List ℕ) → OneFlat (λ r o t. LinesFlat (callOf (settingsOf name-type rule-type concat limit) (startOf given kind bits) pack) block out o tail t r)
-bm-bm-spell-lines name-type rule-type concat limit given kind bits pack block out tail x y o p t u = lines-flat-one
+pub bm-bm-spell-lines : Settled bm.bm_spell_lines.ended bm.bm_spell_lines.Reads.Asked bm.bm_spell_lines.Reads.Learnt
+bm-bm-spell-lines κs a = (tt, λ x y v w p q. contents (λ o t. (tt, (tt, (tt, (tt, (tt, (tt, (tt, (tt, (tt, (o, (t, tt)))))))))))) (lines-flat-one p q))

@@ -3,6 +3,7 @@ ghost use mathlib.Core.Path.{_≡_};
 ghost use Rattle.letters.specs.Reading.{codesOf};
 ghost use Rattle.texts.specs.Parts.{has};
 ghost use Rattle.regex_optim.specs.Contexts.{opening, memberOf, backChar, lastChar, wholeChar, firstChar, withoutCaret, withoutDollar, boxInner, boxed, formIn, kindOf, leftForm, rightForm, charFits, fits};
+ghost use Rattle.regex_optim.specs.Numbers.{formNumbers};
 ghost use Rattle.regex_optim.specs.Steps.{boxChar, boxKind, literalKind, literalFits, boxFits};
 use letters::Step;
 
@@ -277,7 +278,7 @@ fn form_in(t: &[u8], s: bool, e: bool) -> OptimizedRegex
 
 // The form of a left context.
 pub fn left_form(context: &[u8]) -> OptimizedRegex
-    ensures { λ r. ⌜ r ≡ kindOf (leftForm (now (context .entry))) ⌝ }
+    ensures { λ r. ⌜ formNumbers r ≡ formNumbers (kindOf (leftForm (now (context .entry)))) ⌝ }
 {
     let anchored = texts::first_is(context, b'^');
     form_in(without_caret(context), anchored, true)
@@ -285,7 +286,7 @@ pub fn left_form(context: &[u8]) -> OptimizedRegex
 
 // The form of a right context.
 pub fn right_form(context: &[u8]) -> OptimizedRegex
-    ensures { λ r. ⌜ r ≡ kindOf (rightForm (now (context .entry))) ⌝ }
+    ensures { λ r. ⌜ formNumbers r ≡ formNumbers (kindOf (rightForm (now (context .entry)))) ⌝ }
 {
     let anchored = texts::last_is(context, b'$');
     form_in(without_dollar(context), true, anchored)

@@ -15,6 +15,9 @@ use Rattle.rule.specs.Matching.{firstCode}
 use Rattle.phonemes.specs.declared.answers.Expression.{Expression}
 use Rattle.phonemes.specs.declared.answers.Expression.the-variants.{Good, Malformed, Stranger}
 use Rattle.rules_parser.specs.Fields.{partOf}
+use Rattle.regex_optim.proofs.NumberLaws.{form-one}
+use Rattle.phonemes.proofs.NumberLaws.{expression-one}
+use Rattle.rules_parser.proofs.NumberLaws.{item-one}
 use Rattle.rules_parser.specs.Files.{itemAt}
 use Rattle.rules_parser.specs.declared.fields.Text.{Text}
 use Rattle.rules_parser.specs.declared.lines.FileKind.the-variants.{Rules}
@@ -120,6 +123,8 @@ pub ruleset fault-laws = (
   fault-good,
   fault-malformed,
   fault-stranger,
+  form-one,
+  expression-one,
   fault-long,
   fault-none,
   or-first,
@@ -182,4 +187,4 @@ module _ (names s : List ℕ) (p : ℕ) (i : Item) (is : i ≡ itemAt Rules s p)
     unfolding rowIn
     row-name x g = by-told _ g
 
-pub ruleset row-laws = (row-rule, row-fault, row-passed, row-wrong, row-of-rule, row-include, row-guess, row-name)
+pub ruleset row-laws = (item-one, row-rule, row-fault, row-passed, row-wrong, row-of-rule, row-include, row-guess, row-name)

@@ -13,6 +13,7 @@ use Rattle.pack.specs.Packs.{Rule}
 use Rattle.pack_bytes.specs.Bytes.{textPut, countBytes}
 use Rattle.held.specs.Tables.{atPlace, keyBytes}
 use Rattle.rules_parser.specs.Fields.{partOf}
+use Rattle.rules_parser.proofs.NumberLaws.{item-one}
 use Rattle.rules_parser.specs.Files.{itemAt}
 use Rattle.rules_parser.specs.declared.fields.Text.{Text}
 use Rattle.rules_parser.specs.declared.lines.FileKind.the-variants.{Rules}
@@ -132,6 +133,6 @@ putting-start bundle rows keys n o o₀ at at₀ v =
 pub putting-small : (bundle rows keys : List ℕ) (n i : ℕ) (o₀ : List ℕ) (at₀ : ℕ) (o : List ℕ) (at : ℕ) → Putting bundle rows keys n i o₀ at₀ o at → at ≤ cap
 putting-small bundle rows keys n i o₀ at₀ o at w = w .small
 
-pub ruleset writing-laws = (rule-put, row-passed, row-wrong, row-rule, row-include, row-guess, row-name)
+pub ruleset writing-laws = (item-one, rule-put, row-passed, row-wrong, row-rule, row-include, row-guess, row-name)
 
 pub ruleset rows-laws = (key-fits, putting-start, putting-small, putting-next, putting-done)

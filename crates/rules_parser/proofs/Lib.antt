@@ -9,3 +9,4 @@ pub mod GrammarLaws
 pub mod GrammarEnds
 pub mod GrammarFiles
 pub mod LineExamples
+pub mod NumberLaws

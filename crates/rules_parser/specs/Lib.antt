@@ -3,3 +3,4 @@ pub mod Lines
 pub mod Files
 pub mod Grammar
 pub mod LineExamples
+pub mod Numbers

@@ -2,6 +2,7 @@
 ghost use mathlib.Core.Path.{_≡_};
 ghost use Prim.Native.Nat.{_^_, _<_};
 ghost use Rattle.rules_parser.specs.Files.{countedOf, closeAt, textEnd, nextLine, restBlank, commentAt, itemAt};
+ghost use Rattle.rules_parser.specs.Numbers.{itemNumbers};
 use crate::fields::Kind;
 use crate::lines::FileKind;
 use crate::lines::Line;
@@ -102,7 +103,7 @@ fn comment(s: &[u8], p: usize) -> Item
 
 // The line that begins at p, or the lines that a comment takes.
 pub fn read_item(kind: FileKind, s: &[u8], p: usize) -> Item
-    ensures { λ r. ⌜ r ≡ itemAt kind (now (s .entry)) p ⌝ }
+    ensures { λ r. ⌜ itemNumbers r ≡ itemNumbers (itemAt kind (now (s .entry)) p) ⌝ }
 {
     if s.len() <= p {
         return Item::Wrong;

@@ -1,4 +1,5 @@
 use borrow.Author.Needs.{needs}
+use Rattle.languages.proofs.NumberLaws.{listed-one}
 use Rattle.engine.proofs.CallLaws.{any-laws}
 use Rattle.engine.proofs.call.any_of.Statement.{statement}
 use Rattle.engine.proofs.call.any_of.Tie as tie
@@ -22,10 +23,10 @@ enum-told : tie.Need-enum-told
 enum-told c = search needs
 
 returns : tie.Need-returns
-returns c = search (any-laws, needs)
+returns c = search (listed-one, any-laws, needs)
 
 returns-2 : tie.Need-returns-2
-returns-2 c = search (any-laws, needs)
+returns-2 c = search (listed-one, any-laws, needs)
 
 pub any-of-spec : {M : Type 1} → statement M
 any-of-spec =

@@ -1,4 +1,5 @@
 use borrow.Author.Needs.{needs}
+use Rattle.languages.proofs.NumberLaws.{set-one}
 use Rattle.engine.proofs.CallLaws.{start-laws}
 use Rattle.engine.proofs.call.set_of.Statement.{statement}
 use Rattle.engine.proofs.call.set_of.Tie as tie
@@ -16,16 +17,16 @@ enum-known-start : tie.Need-enum-known-start
 enum-known-start c = search needs
 
 returns : tie.Need-returns
-returns c = search start-laws
+returns c = search (set-one, start-laws)
 
 returns-2 : tie.Need-returns-2
-returns-2 c = search start-laws
+returns-2 c = search (set-one, start-laws)
 
 returns-3 : tie.Need-returns-3
-returns-3 c = search start-laws
+returns-3 c = search (set-one, start-laws)
 
 returns-4 : tie.Need-returns-4
-returns-4 c = search start-laws
+returns-4 c = search (set-one, start-laws)
 
 pub set-of-spec : {M : Type 1} → statement M
 set-of-spec =

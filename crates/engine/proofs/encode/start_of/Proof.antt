@@ -1,3 +1,4 @@
+use Rattle.languages.proofs.NumberLaws.{set-one}
 use Rattle.base.specs.Pick.{cases}
 use borrow.Author.Needs.{needs}
 use Rattle.engine.proofs.encode.start_of.Statement.{statement}
@@ -10,10 +11,10 @@ guess-languages-requires : tie.Need-guess-languages-requires
 guess-languages-requires c κs = search needs
 
 returns : tie.Need-returns
-returns c = search (cases, needs)
+returns c = search (set-one, cases, needs)
 
 returns-2 : tie.Need-returns-2
-returns-2 c = search (cases, needs)
+returns-2 c = search (set-one, cases, needs)
 
 pub start-of-spec : {M : Type 1} → statement M
 start-of-spec = tie.close (tie.spec guess-languages-requires returns returns-2)

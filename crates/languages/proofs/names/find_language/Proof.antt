@@ -1,4 +1,5 @@
 use Prim.Native.Nat.{_-_}
+use Rattle.languages.proofs.NumberLaws.{listed-told}
 use Rattle.languages.proofs.NameLaws.{Seen, find-laws}
 use borrow.Author.Needs.{needs}
 use Rattle.languages.proofs.names.find_language.Statement.{statement}
@@ -39,7 +40,7 @@ shl-bit : tie.Need-shl-bit Inv-loop μ-loop
 shl-bit c = search (find-laws, needs)
 
 returns : tie.Need-returns Inv-loop μ-loop
-returns c = search (find-laws, needs)
+returns c = search (listed-told, find-laws, needs)
 
 add-place : tie.Need-add-place Inv-loop μ-loop
 add-place c = search (find-laws, needs)
@@ -54,10 +55,10 @@ enum-told : tie.Need-enum-told Inv-loop μ-loop
 enum-told c = search (find-laws, needs)
 
 returns-2 : tie.Need-returns-2 Inv-loop μ-loop
-returns-2 c = search (find-laws, needs)
+returns-2 c = search (listed-told, find-laws, needs)
 
 returns-3 : tie.Need-returns-3 Inv-loop μ-loop
-returns-3 c = search (find-laws, needs)
+returns-3 c = search (listed-told, find-laws, needs)
 
 pub find-language-spec : {M : Type 1} → statement M
 find-language-spec =

@@ -1,3 +1,4 @@
+use Rattle.languages.proofs.NumberLaws.{listed-one}
 use Rattle.loader.proofs.GuessLaws.{judge-laws}
 use borrow.Author.Needs.{needs}
 use Rattle.loader.proofs.guesses.judge.Statement.{statement}
@@ -23,10 +24,10 @@ enum-told : tie.Need-enum-told
 enum-told c = search needs
 
 returns-2 : tie.Need-returns-2
-returns-2 c = search (judge-laws, needs)
+returns-2 c = search (listed-one, judge-laws, needs)
 
 returns-3 : tie.Need-returns-3
-returns-3 c = search (judge-laws, needs)
+returns-3 c = search (listed-one, judge-laws, needs)
 
 returns-4 : tie.Need-returns-4
 returns-4 c = search (judge-laws, needs)

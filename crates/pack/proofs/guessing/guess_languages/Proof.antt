@@ -1,4 +1,5 @@
 use borrow.Author.Needs.{needs}
+use Rattle.languages.proofs.NumberLaws.{set-told}
 use Rattle.pack.proofs.GuessLaws.{guessed-laws}
 use Rattle.pack.proofs.guessing.guess_languages.Statement.{statement}
 use Rattle.pack.proofs.guessing.guess_languages.Tie as tie
@@ -31,10 +32,10 @@ left-over-requires-2 : tie.Need-left-over-requires-2
 left-over-requires-2 c κs = search (guessed-laws, needs)
 
 returns : tie.Need-returns
-returns c = search (guessed-laws, needs)
+returns c = search (set-told, guessed-laws, needs)
 
 returns-2 : tie.Need-returns-2
-returns-2 c = search (guessed-laws, needs)
+returns-2 c = search (set-told, guessed-laws, needs)
 
 pub guess-languages-spec : {M : Type 1} → statement M
 guess-languages-spec =

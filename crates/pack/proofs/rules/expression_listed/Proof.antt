@@ -1,4 +1,5 @@
 use borrow.Author.Needs.{needs}
+use Rattle.phonemes.proofs.NumberLaws.{expression-one}
 use Rattle.pack.proofs.RuleLaws.{rule-test-laws}
 use Rattle.pack.proofs.rules.expression_listed.Statement.{statement}
 use Rattle.pack.proofs.rules.expression_listed.Tie as tie
@@ -19,13 +20,13 @@ enum-told-3 : tie.Need-enum-told-3
 enum-told-3 c = search (rule-test-laws, needs)
 
 returns : tie.Need-returns
-returns c = search (rule-test-laws, needs)
+returns c = search (expression-one, rule-test-laws, needs)
 
 returns-2 : tie.Need-returns-2
-returns-2 c = search (rule-test-laws, needs)
+returns-2 c = search (expression-one, rule-test-laws, needs)
 
 returns-3 : tie.Need-returns-3
-returns-3 c = search (rule-test-laws, needs)
+returns-3 c = search (expression-one, rule-test-laws, needs)
 
 pub expression-listed-spec : {M : Type 1} → statement M
 expression-listed-spec =

@@ -1,4 +1,5 @@
 use borrow.Author.Needs.{needs}
+use Rattle.regex_optim.proofs.NumberLaws.{form-one}
 use Rattle.base.specs.Pick.{cases}
 use Rattle.pack.specs.Walks.{leftGood}
 use Rattle.pack.proofs.RuleLaws.{rule-test-laws}
@@ -29,7 +30,7 @@ returns c = search (cases, rule-test-laws, needs)
 
 returns-2 : tie.Need-returns-2
 unfolding leftGood
-returns-2 c = search (cases, rule-test-laws, needs)
+returns-2 c = search (form-one, cases, rule-test-laws, needs)
 
 returns-3 : tie.Need-returns-3
 unfolding leftGood

@@ -1,4 +1,5 @@
 use borrow.Author.Needs.{needs}
+use Rattle.pack.proofs.NumberLaws.{checked-told}
 use Rattle.pack.proofs.SectionLaws.{check-laws}
 use Rattle.pack.proofs.sections.check_pack.Statement.{statement}
 use Rattle.pack.proofs.sections.check_pack.Tie as tie
@@ -19,10 +20,10 @@ enum-known-place : tie.Need-enum-known-place
 enum-known-place c = search (check-laws, needs)
 
 returns : tie.Need-returns
-returns c = search (check-laws, needs)
+returns c = search (checked-told, check-laws, needs)
 
 returns-2 : tie.Need-returns-2
-returns-2 c = search (check-laws, needs)
+returns-2 c = search (checked-told, check-laws, needs)
 
 pub check-pack-spec : {M : Type 1} → statement M
 check-pack-spec =

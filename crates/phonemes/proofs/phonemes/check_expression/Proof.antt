@@ -1,4 +1,5 @@
 use borrow.Author.Needs.{needs}
+use Rattle.phonemes.proofs.NumberLaws.{expression-told}
 use Rattle.phonemes.proofs.ExprLaws.{check-laws}
 use Rattle.phonemes.proofs.phonemes.check_expression.Statement.{statement}
 use Rattle.phonemes.proofs.phonemes.check_expression.Tie as tie
@@ -33,16 +34,16 @@ check-single-requires : tie.Need-check-single-requires
 check-single-requires c κs = search (check-laws, needs)
 
 returns : tie.Need-returns
-returns c = search (check-laws, needs)
+returns c = search (expression-told, check-laws, needs)
 
 returns-2 : tie.Need-returns-2
-returns-2 c = search (check-laws, needs)
+returns-2 c = search (expression-told, check-laws, needs)
 
 returns-3 : tie.Need-returns-3
-returns-3 c = search (check-laws, needs)
+returns-3 c = search (expression-told, check-laws, needs)
 
 returns-4 : tie.Need-returns-4
-returns-4 c = search (check-laws, needs)
+returns-4 c = search (expression-told, check-laws, needs)
 
 pub check-expression-spec : {M : Type 1} → statement M
 check-expression-spec =

@@ -1,5 +1,6 @@
 use Prim.Native.Nat.{_-_}
 use lib.ListN.{length}
+use Rattle.languages.proofs.NumberLaws.{listed-one, listed-told}
 use Rattle.phonemes.proofs.CutLaws.{Naming, naming-laws}
 use borrow.Author.Needs.{needs}
 use Rattle.phonemes.proofs.phonemes.names_mask.Statement.{statement}
@@ -37,7 +38,7 @@ enum-known-b : tie.Need-enum-known-b Inv-loop μ-loop
 enum-known-b c = search (naming-laws, needs)
 
 returns : tie.Need-returns Inv-loop μ-loop
-returns c = search (naming-laws, needs)
+returns c = search (listed-told, listed-one, naming-laws, needs)
 
 add-from : tie.Need-add-from Inv-loop μ-loop
 add-from c = search (naming-laws, needs)
@@ -46,13 +47,13 @@ loop-less : tie.Need-loop-less Inv-loop μ-loop
 loop-less c = search (naming-laws, needs)
 
 loop-again : tie.Need-loop-again Inv-loop μ-loop
-loop-again c = search (naming-laws, needs)
+loop-again c = search (listed-one, naming-laws, needs)
 
 enum-told : tie.Need-enum-told Inv-loop μ-loop
 enum-told c = search (naming-laws, needs)
 
 returns-2 : tie.Need-returns-2 Inv-loop μ-loop
-returns-2 c = search (naming-laws, needs)
+returns-2 c = search (listed-told, listed-one, naming-laws, needs)
 
 pub names-mask-spec : {M : Type 1} → statement M
 names-mask-spec =

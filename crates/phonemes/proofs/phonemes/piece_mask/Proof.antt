@@ -1,4 +1,5 @@
 use borrow.Author.Needs.{needs}
+use Rattle.languages.proofs.NumberLaws.{listed-one}
 use Rattle.phonemes.proofs.ExprLaws.{piece-laws}
 use Rattle.phonemes.proofs.phonemes.piece_mask.Statement.{statement}
 use Rattle.phonemes.proofs.phonemes.piece_mask.Tie as tie
@@ -18,10 +19,10 @@ names-mask-requires : tie.Need-names-mask-requires
 names-mask-requires c κs = search (piece-laws, needs)
 
 returns : tie.Need-returns
-returns c = search (piece-laws, needs)
+returns c = search (listed-one, piece-laws, needs)
 
 returns-2 : tie.Need-returns-2
-returns-2 c = search (piece-laws, needs)
+returns-2 c = search (listed-one, piece-laws, needs)
 
 pub piece-mask-spec : {M : Type 1} → statement M
 piece-mask-spec =

@@ -1,10 +1,11 @@
+use Rattle.rules_parser.proofs.NumberLaws.{item-told}
 use Rattle.rules_parser.proofs.FileLaws.{text-in, items}
 use borrow.Author.Needs.{needs}
 use Rattle.rules_parser.proofs.files.read_item.Statement.{statement}
 use Rattle.rules_parser.proofs.files.read_item.Tie as tie
 
 returns : tie.Need-returns
-returns c = search items
+returns c = search (item-told, items)
 
 text-end-requires : tie.Need-text-end-requires
 text-end-requires c κs = search needs
@@ -49,19 +50,19 @@ enum-told-4 : tie.Need-enum-told-4
 enum-told-4 c = search needs
 
 returns-2 : tie.Need-returns-2
-returns-2 c = search items
+returns-2 c = search (item-told, items)
 
 returns-3 : tie.Need-returns-3
-returns-3 c = search items
+returns-3 c = search (item-told, items)
 
 returns-4 : tie.Need-returns-4
-returns-4 c = search items
+returns-4 c = search (item-told, items)
 
 returns-5 : tie.Need-returns-5
-returns-5 c = search items
+returns-5 c = search (item-told, items)
 
 returns-6 : tie.Need-returns-6
-returns-6 c = search items
+returns-6 c = search (item-told, items)
 
 pub read-item-spec : {M : Type 1} → statement M
 read-item-spec =

@@ -1,0 +1,23 @@
+-- No two answers have the same numbers: `expression-one` reads a promise, `expression-told` makes one. Assumes nothing.
+use mathlib.Core.Path.{_≡_, refl, ap}
+use mathlib.Core.List.{List}
+use Rattle.refusals.specs.Numbers.{numberOf}
+use Rattle.languages.proofs.NumberLaws.{clash}
+use Rattle.phonemes.specs.Numbers.{expressionNumbers}
+use Rattle.phonemes.specs.declared.answers.Expression.{Expression}
+use Rattle.phonemes.specs.declared.answers.Expression.the-variants.{Good, Malformed, Stranger}
+
+pub expression-one : (r d : Expression) → expressionNumbers r ≡ expressionNumbers d → r ≡ d
+unfolding expressionNumbers numberOf
+expression-one (Good m) (Good n) e = cc
+expression-one Malformed Malformed e = refl
+expression-one Stranger Stranger e = refl
+expression-one (Good m) Malformed e = clash (cc)
+expression-one (Good m) Stranger e = clash (cc)
+expression-one Malformed (Good n) e = clash (cc)
+expression-one Malformed Stranger e = clash (cc)
+expression-one Stranger (Good n) e = clash (cc)
+expression-one Stranger Malformed e = clash (cc)
+
+pub expression-told : (r d : Expression) → r ≡ d → expressionNumbers r ≡ expressionNumbers d
+expression-told r d = ap expressionNumbers
