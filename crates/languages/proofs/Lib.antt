@@ -1,4 +1,3 @@
-pub mod Arms
 pub mod NameLaws
 pub mod Laws
 pub mod CodedLaws

@@ -58,7 +58,3 @@ number-some NameUnlisted = omega arith
 number-some IncludeTooDeep = omega arith
 number-some TooMuch = omega arith
 number-some AnyMissing = omega arith
-
--- at an arm of a `match`
-pub number-told : (a b : Refusal) (n : ℕ) → a ≡ b → n ≡ numberOf b → n ≡ numberOf a
-number-told a b n p e = e ∙ sym (ap numberOf p)

@@ -1,4 +1,4 @@
-use Rattle.languages.proofs.Arms.{told}
+use Rattle.base.proofs.Arms.{told}
 use Rattle.languages.specs.Coded.{coded}
 use borrow.Author.Needs.{needs}
 use Rattle.languages.proofs.sets.coded.Statement.{statement}

@@ -1,5 +1,5 @@
 use Rattle.languages.proofs.NumberLaws.{set-told}
-use Rattle.languages.proofs.Arms.{told-both}
+use Rattle.base.proofs.Arms.{told-both}
 use Rattle.languages.specs.Sets.{merged}
 use borrow.Author.Needs.{needs}
 use Rattle.languages.proofs.sets.LanguageSet.merge.Statement.{statement}

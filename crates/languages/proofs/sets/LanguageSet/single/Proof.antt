@@ -1,4 +1,4 @@
-use Rattle.languages.proofs.Arms.{told}
+use Rattle.base.proofs.Arms.{told}
 use Rattle.base.specs.Pick.{cases}
 use Rattle.languages.specs.Sets.{singleOf}
 use borrow.Author.Needs.{needs}

@@ -1,4 +1,4 @@
--- A function of sets at an arm of a `match`: the arm knows which sets they are. Assumes nothing.
+-- A function of an enum at an arm of a `match`: the arm knows which case it is. Assumes nothing.
 use mathlib.Core.Path.{_≡_}
 
 pub told : {A B : Type 0} (f : A → B) (a a′ : A) (x : B) → a ≡ a′ → x ≡ f a′ → x ≡ f a
