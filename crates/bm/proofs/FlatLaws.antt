@@ -6,7 +6,6 @@ use Prim.Native.Nat.{ℕ, _≤_, _<_}
 use lib.ListN.{length, getD, set}
 use borrow.Author.Tests.{lt-ltb, le-ltb}
 use mir.Val.{boolByte}
-use Rattle.base.specs.Pick.{pick-yes, pick-no}
 use Rattle.base.proofs.One.{one}
 use Rattle.choices.specs.Texts.{Text}
 use Rattle.refusals.specs.Numbers.{numberOf}
@@ -18,13 +17,13 @@ use Rattle.refusals.specs.Numbers.{numberOf}
 use Rattle.refusals.specs.declared.Refusal.{Refusal}
 use Rattle.rule_lists.specs.Outcomes as loading
 use Rattle.loader.specs.Loading as load
-use Rattle.loader.specs.Loading.{Numbers, answer, AnswerIs}
+use Rattle.loader.specs.Loading.{LoadNumbers, answer, AnswerIs}
 use Rattle.loader.specs.declared.loading.Loaded.{Loaded}
 use Rattle.loader.specs.declared.loading.Loaded.the-variants as loaded
 use Rattle.refusals.specs.Numbers.{numberOf}
 use Rattle.refusals.specs.declared.Refusal.{Refusal}
 use Rattle.engine.specs.Calls as spelling
-use Rattle.engine.specs.Calls.{Outcome, callOf, SpellIs, numbersOf}
+use Rattle.engine.specs.Calls.{CallOutcome, callOf, SpellIs, spelledNumbers}
 use Rattle.engine.specs.Lines.{BlockNumbers, blockNumbers, blockBy, LinesIs}
 use Rattle.engine.specs.declared.call.Settings.{Settings}
 use Rattle.engine.specs.declared.call.Start.{Start}
@@ -32,7 +31,9 @@ use Rattle.engine.specs.declared.lines.Lines.{Lines}
 use Rattle.engine.specs.declared.lines.Lines.the-variants as lines
 use Rattle.engine.specs.declared.spelling.Spelled.{Spelled}
 use Rattle.engine.specs.declared.spelling.Spelled.the-variants.{Done, Refused}
-use Rattle.bm.specs.Flat.{flagBit, numbered, TailIs, SpellFlat, CheckFlat, blocked, LinesFlat, placed, LoadFlat}
+use Rattle.bm.specs.Flat.{flagBit, numbered, SpellFlat, CheckFlat, blocked, LinesFlat, placedTail, LoadFlat}
+use Rattle.base.proofs.PickLaws.{pick-yes, pick-no}
+use Rattle.bm.specs.Contracts.{TailIs}
 
 bit-is : (f : Bool) → boolByte f ≡ flagBit f
 unfolding flagBit
@@ -42,21 +43,21 @@ bit-is false = refl
 -- ---- the numbers of an answer
 
 pub tail-done : (s : Spelled) (tail : List ℕ) (n : ℕ) (f : Bool) → s ≡ Done n f → TailIs s tail (set (set tail 0 n) 1 (boolByte f)) 0
-unfolding numbersOf numbered
+unfolding spelledNumbers numbered
 tail-done s tail n f e = rw (e, bit-is f) (record { code = refl; numbers = refl })
 
 pub tail-refused : (s : Spelled) (tail : List ℕ) (why : Refusal) (p k : ℕ) → s ≡ Refused why p → k ≡ numberOf why → TailIs s tail (set (set tail 0 p) 1 0) k
-unfolding numbersOf numbered flagBit
+unfolding spelledNumbers numbered flagBit
 tail-refused s tail why p k e h = rw e (record { code = h; numbers = refl })
 
 -- ---- a name
 
-pub spell-short : (x : Outcome) (out tail : List ℕ) → length tail < 2 → SpellFlat x out out tail tail 255
+pub spell-short : (x : CallOutcome) (out tail : List ℕ) → length tail < 2 → SpellFlat x out out tail tail 255
 spell-short x out tail h =
     let t = lt-ltb (length tail) 2 h in
     record { code = pick-yes _ _ _ _ t refl; buffer = pick-yes _ _ _ _ t refl; numbers = pick-yes _ _ _ _ t refl }
 
-pub spell-flat : (x : Outcome) (out out′ tail tail′ : List ℕ) (s : Spelled) (r : ℕ) → 2 ≤ length tail → SpellIs x out s out′ → TailIs s tail tail′ r → SpellFlat x out out′ tail tail′ r
+pub spell-flat : (x : CallOutcome) (out out′ tail tail′ : List ℕ) (s : Spelled) (r : ℕ) → 2 ≤ length tail → SpellIs x out s out′ → TailIs s tail tail′ r → SpellFlat x out out′ tail tail′ r
 spell-flat x out out′ tail tail′ s r h w q =
     let t = le-ltb (length tail) 2 h in
     record {
@@ -93,7 +94,7 @@ module _ (s tail : List ℕ) (a : Checked) (h : 1 ≤ length tail) (e : checkedN
 
 -- ---- a block of names
 
-pub lines-short : (call : Text → Outcome) (block out tail : List ℕ) → length tail < 2 → LinesFlat call block out out tail tail 255
+pub lines-short : (call : Text → CallOutcome) (block out tail : List ℕ) → length tail < 2 → LinesFlat call block out out tail tail 255
 lines-short call block out tail h =
     let t = lt-ltb (length tail) 2 h in
     record { code = pick-yes _ _ _ _ t refl; buffer = pick-yes _ _ _ _ t refl; numbers = pick-yes _ _ _ _ t refl }
@@ -119,42 +120,42 @@ module _ (c : Settings) (start start′ : Start) (s block out out′ tail : List
 
 -- ---- a bundle
 
-pub load-short : (x : loading.Outcome (List ℕ)) (out tail : List ℕ) → length tail < 2 → LoadFlat x out out tail tail 255
+pub load-short : (x : loading.Loading (List ℕ)) (out tail : List ℕ) → length tail < 2 → LoadFlat x out out tail tail 255
 load-short x out tail h =
     let t = lt-ltb (length tail) 2 h in
     record { code = pick-yes _ _ _ _ t refl; buffer = pick-yes _ _ _ _ t refl; numbers = pick-yes _ _ _ _ t refl }
 
-module _ (x : loading.Outcome (List ℕ)) (out out′ tail : List ℕ) (s : Loaded) (h : 2 ≤ length tail) (w : AnswerIs x out s out′) where
-  load-numbers : (n : Numbers) → load.numbersOf s ≡ n → LoadFlat x out out′ tail (placed n tail) (n .code)
+module _ (x : loading.Loading (List ℕ)) (out out′ tail : List ℕ) (s : Loaded) (h : 2 ≤ length tail) (w : AnswerIs x out s out′) where
+  load-numbers : (n : LoadNumbers) → load.loadedNumbers s ≡ n → LoadFlat x out out′ tail (placedTail n tail) (n .code)
   load-numbers n e =
       let t = le-ltb (length tail) 2 h in
       let v : n ≡ answer x (length out) = sym e ∙ w .result in
       record {
-        code = pick-no _ _ _ _ t (ap (λ (a : Numbers). a .code) v);
+        code = pick-no _ _ _ _ t (ap (λ (a : LoadNumbers). a .code) v);
         buffer = pick-no _ _ _ _ t (w .buffer);
-        numbers = pick-no _ _ _ _ t (ap (λ (a : Numbers). placed a tail) v);
+        numbers = pick-no _ _ _ _ t (ap (λ (a : LoadNumbers). placedTail a tail) v);
       }
 
   pub load-done : (n : ℕ) → s ≡ loaded.Done n → LoadFlat x out out′ tail (set (set tail 0 n) 1 0) 0
-  unfolding load.numbersOf placed
-  load-done n e = load-numbers (record { code = 0; place = n; file = 0 }) (ap load.numbersOf e)
+  unfolding load.loadedNumbers placedTail
+  load-done n e = load-numbers (record { code = 0; place = n; file = 0 }) (ap load.loadedNumbers e)
 
   pub load-refused : (c : Refusal) (p f k : ℕ) → s ≡ loaded.Refused c p f → k ≡ numberOf c → LoadFlat x out out′ tail (set (set tail 0 p) 1 f) k
-  unfolding load.numbersOf placed
-  load-refused c p f k e q = load-numbers (record { code = k; place = p; file = f }) (ap load.numbersOf e ∙ ap (λ (m : ℕ). record { code = m; place = p; file = f }) (sym q))
+  unfolding load.loadedNumbers placedTail
+  load-refused c p f k e q = load-numbers (record { code = k; place = p; file = f }) (ap load.loadedNumbers e ∙ ap (λ (m : ℕ). record { code = m; place = p; file = f }) (sym q))
 
 pub ruleset flat-laws = (load-short, load-done, load-refused, tail-done, tail-refused, spell-short, spell-flat, check-short, check-accepted, check-refused, lines-short, lines-done, lines-over)
 
 -- ---- one answer, one content of each lent buffer
 
-pub spell-flat-one : {x : Outcome} {out tail o o′ t t′ : List ℕ} {r r′ : ℕ} → SpellFlat x out o tail t r → SpellFlat x out o′ tail t′ r′ → (r ≡ r′) × (o ≡ o′) × (t ≡ t′)
+pub spell-flat-one : {x : CallOutcome} {out tail o o′ t t′ : List ℕ} {r r′ : ℕ} → SpellFlat x out o tail t r → SpellFlat x out o′ tail t′ r′ → (r ≡ r′) × (o ≡ o′) × (t ≡ t′)
 spell-flat-one a b = (one (a .code) (b .code), one (a .buffer) (b .buffer), one (a .numbers) (b .numbers))
 
 pub check-flat-one : {s tail t t′ : List ℕ} {r r′ : ℕ} → CheckFlat s tail t r → CheckFlat s tail t′ r′ → (r ≡ r′) × (t ≡ t′)
 check-flat-one a b = (one (a .code) (b .code), one (a .numbers) (b .numbers))
 
-pub lines-flat-one : {call : Text → Outcome} {block out tail o o′ t t′ : List ℕ} {r r′ : ℕ} → LinesFlat call block out o tail t r → LinesFlat call block out o′ tail t′ r′ → (r ≡ r′) × (o ≡ o′) × (t ≡ t′)
+pub lines-flat-one : {call : Text → CallOutcome} {block out tail o o′ t t′ : List ℕ} {r r′ : ℕ} → LinesFlat call block out o tail t r → LinesFlat call block out o′ tail t′ r′ → (r ≡ r′) × (o ≡ o′) × (t ≡ t′)
 lines-flat-one a b = (one (a .code) (b .code), one (a .buffer) (b .buffer), one (a .numbers) (b .numbers))
 
-pub load-flat-one : {x : loading.Outcome (List ℕ)} {out tail o o′ t t′ : List ℕ} {r r′ : ℕ} → LoadFlat x out o tail t r → LoadFlat x out o′ tail t′ r′ → (r ≡ r′) × (o ≡ o′) × (t ≡ t′)
+pub load-flat-one : {x : loading.Loading (List ℕ)} {out tail o o′ t t′ : List ℕ} {r r′ : ℕ} → LoadFlat x out o tail t r → LoadFlat x out o′ tail t′ r′ → (r ≡ r′) × (o ≡ o′) × (t ≡ t′)
 load-flat-one a b = (one (a .code) (b .code), one (a .buffer) (b .buffer), one (a .numbers) (b .numbers))

@@ -12,12 +12,11 @@ use Rattle.pack.specs.Packs.{packOf, verdictOf}
 use Rattle.pack.specs.Numbers.{checkedNumbers}
 use Rattle.rule_lists.specs.Outcomes as loading
 use Rattle.loader.specs.Loading as load
-use Rattle.engine.specs.Calls.{Outcome, Numbers, numbersIn, numbersOf, filledBy}
+use Rattle.engine.specs.Calls.{CallOutcome, Numbers, numbersIn, filledBy}
 use Rattle.engine.specs.Lines.{taken, BlockNumbers, blockBy}
 use Rattle.engine.specs.declared.call.Settings.{Settings}
 use Rattle.engine.specs.declared.call.Start.{Start}
 use Rattle.engine.specs.declared.call.Start.the-variants.{Guessed, Given}
-use Rattle.engine.specs.declared.spelling.Spelled.{Spelled}
 
 abbrev pub settingsOf : ℕ → ℕ → ℕ → ℕ → Settings
 settingsOf t r c l = record { «name_type» = t; «rule_type» = r; concat = c; limit = l }
@@ -33,12 +32,8 @@ flagBit false = 0
 unfoldable pub numbered : Numbers → List ℕ → List ℕ
 numbered n tail = set (set tail 0 (n .place)) 1 (flagBit (n .flag))
 
-pub record TailIs (s : Spelled) (tail tail′ : List ℕ) (r : ℕ) : Type 0 where
-  pub code : r ≡ numbersOf s .code
-  pub numbers : tail′ ≡ numbered (numbersOf s) tail
-
 -- the promise of a call for C: its code, the content of the buffer, and the content of the tail
-pub record SpellFlat (x : Outcome) (out out′ tail tail′ : List ℕ) (r : ℕ) : Type 0 where
+pub record SpellFlat (x : CallOutcome) (out out′ tail tail′ : List ℕ) (r : ℕ) : Type 0 where
   pub code : r ≡ pick (ltb (length tail) 2) 255 (numbersIn x (length out) .code)
   pub buffer : out′ ≡ pick (ltb (length tail) 2) out (filledBy x out)
   pub numbers : tail′ ≡ pick (ltb (length tail) 2) tail (numbered (numbersIn x (length out)) tail)
@@ -52,16 +47,16 @@ pub record CheckFlat (s tail tail′ : List ℕ) (r : ℕ) : Type 0 where
 unfoldable pub blocked : BlockNumbers → List ℕ → List ℕ
 blocked n tail = set (set tail 0 (n .first)) 1 (n .second)
 
-pub record LinesFlat (call : Text → Outcome) (block out out′ tail tail′ : List ℕ) (r : ℕ) : Type 0 where
+pub record LinesFlat (call : Text → CallOutcome) (block out out′ tail tail′ : List ℕ) (r : ℕ) : Type 0 where
   pub code : r ≡ pick (ltb (length tail) 2) 255 (blockBy call block (length out) .code)
   pub buffer : out′ ≡ pick (ltb (length tail) 2) out (sets out 0 (taken call block (length out) .text))
   pub numbers : tail′ ≡ pick (ltb (length tail) 2) tail (blocked (blockBy call block (length out)) tail)
 
 -- place and file of a loading answer in a tail
-unfoldable pub placed : load.Numbers → List ℕ → List ℕ
-placed n tail = set (set tail 0 (n .place)) 1 (n .file)
+unfoldable pub placedTail : load.LoadNumbers → List ℕ → List ℕ
+placedTail n tail = set (set tail 0 (n .place)) 1 (n .file)
 
-pub record LoadFlat (x : loading.Outcome (List ℕ)) (out out′ tail tail′ : List ℕ) (r : ℕ) : Type 0 where
+pub record LoadFlat (x : loading.Loading (List ℕ)) (out out′ tail tail′ : List ℕ) (r : ℕ) : Type 0 where
   pub code : r ≡ pick (ltb (length tail) 2) 255 (load.answer x (length out) .code)
   pub buffer : out′ ≡ pick (ltb (length tail) 2) out (load.filled x out)
-  pub numbers : tail′ ≡ pick (ltb (length tail) 2) tail (placed (load.answer x (length out)) tail)
+  pub numbers : tail′ ≡ pick (ltb (length tail) 2) tail (placedTail (load.answer x (length out)) tail)

@@ -11,40 +11,41 @@ use lib.Dec.{eqb, leb}
 use lib.ListN.{length, take, drop, length-take, length-drop}
 use lib.Seq.{drop-drop}
 use borrow.Author.Tests.{le-leb, lt-leb, eq-eqb, ne-eqb}
-use Rattle.base.specs.Pick.{pick, and, pick-true, pick-false}
+use Rattle.base.specs.Pick.{pick, and}
 use Rattle.refusals.specs.Numbers.{numberOf}
 use Rattle.letters.specs.Order.{orderOf, sameText}
 use Rattle.letters.specs.declared.order.Order.{Order}
 use Rattle.letters.specs.declared.order.Order.the-variants.{Less, Equal, Greater}
-use Rattle.languages.specs.Names.{stringAt}
 use Rattle.languages.specs.declared.names.Next.{Next}
 use Rattle.languages.specs.declared.names.Next.the-variants as next
-use Rattle.pack.specs.Reading.{Read, cut, got, andThen, readNumber, readMany}
+use Rattle.pack.specs.Reading.{Read, cut, got, andRead, readNumber, readMany}
 use Rattle.pack.specs.Packs.{isLess, increasing, isNil}
-use Rattle.pack.specs.Guessing.{behind, readSome}
-use Rattle.pack.specs.Walks.{numberAt}
+use Rattle.pack.specs.Contracts.{numberAt}
 use Rattle.pack.specs.declared.reading.Number.{Number}
 use Rattle.pack.specs.declared.reading.Number.the-variants as number
 use Rattle.pack.proofs.Readers.{clash, count-of, count-cut, mask-of, mask-cut, text-is, text-cut}
 use Rattle.pack.proofs.GuessLaws.{some-one}
-use Rattle.bundles.specs.Bundles.{File, file, readContent, readFile, readBundle, nameOf, wellFormed, filesOf, Found, missing, found, fileNamed}
-use Rattle.bundles.specs.Places.{Numbers, stands, nowhere, numbersOf, contentFrom, contentTo, placeAmong, fileAt}
-use Rattle.bundles.specs.Walks.{followsIn, Placed, EntryIs, Stands}
+use Rattle.bundles.specs.Bundles.{File, file, readContent, readFile, readBundle, fileName, wellFormed, Found, missing, found, fileNamed}
+use Rattle.bundles.specs.PlaceContracts.{FileNumbers, stands, nowhere, fileNumbers, contentFrom, contentTo, placeAmong, fileAt}
+use Rattle.bundles.specs.Contracts.{followsIn, Placed, EntryIs, Stands, filesOf}
 use Rattle.bundles.specs.declared.FileAt.{FileAt}
 use Rattle.bundles.specs.declared.FileAt.the-variants as file-at
 use Rattle.bundles.specs.declared.Entry.{Entry}
 use Rattle.bundles.specs.declared.Entry.the-variants.{Whole, Cut}
+use Rattle.base.proofs.PickLaws.{pick-true, pick-false}
+use Rattle.languages.specs.Contracts.{stringAt}
+use Rattle.pack.specs.PlaceContracts.{behind, readSome}
 
 -- ---- a file at a place
 
 module _ (s : List ℕ) (at : ℕ) (x : Next) (g : x ≡ stringAt s at) where
   pub entry-cut-name : x ≡ next.Cut → EntryIs s at Cut
-  unfolding EntryIs readFile andThen
+  unfolding EntryIs readFile andRead
   entry-cut-name q = rw (text-cut s at x g q) refl
 
   module _ (a b : ℕ) (q : x ≡ next.Whole a b) (y : Number) (f : y ≡ numberAt 4 s b) where
     pub entry-cut-size : y ≡ number.Cut → EntryIs s at Cut
-    unfolding EntryIs readFile readContent andThen
+    unfolding EntryIs readFile readContent andRead
     entry-cut-size p = rw (text-is s at x g a b q .reads, mask-cut s b y f p) refl
 
     module _ (n c : ℕ) (p : y ≡ number.Of n c) where
@@ -52,13 +53,13 @@ module _ (s : List ℕ) (at : ℕ) (x : Next) (g : x ≡ stringAt s at) where
       entry-room = mask-of s b y n c f p .fits
 
       pub entry-cut-content : length s - c < n → EntryIs s at Cut
-      unfolding EntryIs readFile readContent andThen
+      unfolding EntryIs readFile readContent andRead
       entry-cut-content h =
           let short : leb n (length (drop c s)) ≡ false = ap (leb n) (length-drop c s) ∙ lt-leb _ _ h in
           rw (text-is s at x g a b q .reads, mask-of s b y n c f p .reads, short) (simp pick-false)
 
       pub entry-whole : n ≤ length s - c → EntryIs s at (Whole a b c (c + n))
-      unfolding EntryIs readFile readContent andThen pick
+      unfolding EntryIs readFile readContent andRead pick
       entry-whole h =
           let w = text-is s at x g a b q in
           let m = mask-of s b y n c f p in
@@ -122,8 +123,8 @@ pub ruleset follows-laws = (follows-first, follows-less, follows-equal, follows-
 -- ---- the check: the files that are left, behind the name p unless they are the first
 
 unfoldable pub names : Bool → List ℕ → List File → List (List ℕ)
-names true p fs = map nameOf fs
-names false p fs = p ∷ map nameOf fs
+names true p fs = map fileName fs
+names false p fs = p ∷ map fileName fs
 
 unfoldable pub wellFrom : Bool → List ℕ → Read (List File) → Bool
 wellFrom first p cut = false
@@ -150,19 +151,19 @@ and-assoc true b c = refl
 and-assoc false b c = refl
 
 well-one : (first : Bool) (p : List ℕ) (f : File) (x : Read (List File))
-    → wellFrom first p (andThen x (λ fs q. got (f ∷ fs) q)) ≡ and (followsIn first p (f .name)) (wellFrom false (f .name) x)
-unfolding wellFrom andThen
+    → wellFrom first p (andRead x (λ fs q. got (f ∷ fs) q)) ≡ and (followsIn first p (f .name)) (wellFrom false (f .name) x)
+unfolding wellFrom andRead
 well-one first p f cut = and-false _
 well-one first p f (got fs q) = ap (λ (t : Bool). and t (isNil q)) (names-one first p f fs) ∙ and-assoc _ _ _
 
 well-next : (first : Bool) (p : List ℕ) (n : ℕ) (l : List ℕ) (f : File) (r : List ℕ) → 0 < n → readFile l ≡ got f r
     → wellFrom first p (readMany readFile n l) ≡ and (followsIn first p (f .name)) (wellFrom false (f .name) (readMany readFile (n - 1) r))
-unfolding readMany andThen
+unfolding readMany andRead
 well-next first p zero l f r h e = absurd (not-suc-le-zero h)
 well-next first p (suc n) l f r h e = let m : suc n - 1 ≡ n = omega arith in rw (e, m) (well-one first p f (readMany readFile n r))
 
 well-cut : (first : Bool) (p : List ℕ) (n : ℕ) (l : List ℕ) → 0 < n → readFile l ≡ cut → wellFrom first p (readMany readFile n l) ≡ false
-unfolding readMany andThen wellFrom
+unfolding readMany andRead wellFrom
 well-cut first p zero l h e = absurd (not-suc-le-zero h)
 well-cut first p (suc n) l h e = rw e refl
 
@@ -178,8 +179,8 @@ nil-is (x ∷ l) at n h e = sym (ne-eqb at n (λ q. omega arith))
 
 module _ (s : List ℕ) (r : Number) (p : r ≡ numberAt 2 s 0) where
   pub check-cut : r ≡ number.Cut → false ≡ wellFormed (readBundle s)
-  unfolding readBundle andThen wellFormed
-  check-cut q = sym (ap (λ (x : Read ℕ). wellFormed (andThen x (λ n l. readMany readFile n l))) (count-cut s 0 r p q))
+  unfolding readBundle andRead wellFormed
+  check-cut q = sym (ap (λ (x : Read ℕ). wellFormed (andRead x (λ n l. readMany readFile n l))) (count-cut s 0 r p q))
 
 pub record Checking (s : List ℕ) (first : Bool) (from to at left : ℕ) : Type 0 where
   pub order : from ≤ to
@@ -188,14 +189,14 @@ pub record Checking (s : List ℕ) (first : Bool) (from to at left : ℕ) : Type
   pub is : wellFormed (readBundle s) ≡ wellFrom first (take (to - from) (drop from s)) (readMany readFile left (drop at s))
 
 pub checking-start : (s : List ℕ) (r : Number) (n e : ℕ) → r ≡ numberAt 2 s 0 → r ≡ number.Of n e → Checking s true 0 0 e n
-unfolding readBundle andThen
+unfolding readBundle andRead
 checking-start s r n e p q =
     let w = count-of s 0 r n e p q in
     record {
       order = omega arith;
       before = omega arith;
       within = w .fits;
-      is = ap (λ (x : Read ℕ). wellFormed (andThen x (λ k l. readMany readFile k l))) (w .reads) ∙ well-start _ _;
+      is = ap (λ (x : Read ℕ). wellFormed (andRead x (λ k l. readMany readFile k l))) (w .reads) ∙ well-start _ _;
     }
 
 module _ {s : List ℕ} {first : Bool} {from to at left : ℕ} (w : Checking s first from to at left) where
@@ -239,8 +240,8 @@ pub record Seeking (s name : List ℕ) (at left k : ℕ) : Type 0 where
   pub is : fileAt s name ≡ placeAmong name k at (readSome readFile left (drop at s))
 
 module _ (s name : List ℕ) (r : Number) (p : r ≡ numberAt 2 s 0) where
-  pub seek-cut : r ≡ number.Cut → numbersOf file-at.Missing ≡ fileAt s name
-  unfolding fileAt filesOf behind placeAmong numbersOf
+  pub seek-cut : r ≡ number.Cut → fileNumbers file-at.Missing ≡ fileAt s name
+  unfolding fileAt filesOf behind placeAmong fileNumbers
   seek-cut q = sym (ap (λ (x : Read ℕ). placeAmong name 0 2 (behind x (λ n l. readSome readFile n l))) (count-cut s 0 r p q))
 
   pub seeking-start : (n e : ℕ) → n < 4294967296 → r ≡ number.Of n e → Seeking s name e n 0
@@ -276,8 +277,8 @@ module _ (s : List ℕ) (at a b c d : ℕ) (w : Placed s at a b c d) where
 
 module _ {s name : List ℕ} {at left k : ℕ} (w : Seeking s name at left k) where
   module _ (x : Entry) (g : EntryIs s at x) where
-    pub seeking-cut : x ≡ Cut → numbersOf file-at.Missing ≡ fileAt s name
-    unfolding placeAmong numbersOf
+    pub seeking-cut : x ≡ Cut → fileNumbers file-at.Missing ≡ fileAt s name
+    unfolding placeAmong fileNumbers
     seeking-cut q = sym (w .is ∙ ap (placeAmong name k at) (some-cut left _ (cut-there s at x g q)))
 
     module _ (h : 0 < left) (a b c d : ℕ) (q : x ≡ Whole a b c d) (t : Bool) (f : t ≡ sameText (take (b - a) (drop a s)) name) where
@@ -286,8 +287,8 @@ module _ {s name : List ℕ} {at left k : ℕ} (w : Seeking s name at left k) wh
           w .is ∙ placed-one s at a b c d (placed s at x g a b c d q) name k left h
           ∙ ap (λ (u : Bool). pick u (stands k c d) (placeAmong name (suc k) d (readSome readFile (left - 1) (drop d s)))) (sym f)
 
-      pub seeking-found : t ≡ true → numbersOf (file-at.At k c d) ≡ fileAt s name
-      unfolding numbersOf
+      pub seeking-found : t ≡ true → fileNumbers (file-at.At k c d) ≡ fileAt s name
+      unfolding fileNumbers
       seeking-found v = sym (step-file ∙ pick-true _ _ _ v)
 
       pub seeking-next : t ≡ false → Seeking s name d (left - 1) (k + 1)
@@ -296,23 +297,23 @@ module _ {s name : List ℕ} {at left k : ℕ} (w : Seeking s name at left k) wh
         is = step-file ∙ pick-false _ _ _ v ∙ ap (λ (m : ℕ). placeAmong name m d (readSome readFile (left - 1) (drop d s))) (sym (add-one k));
       }
 
-  pub seeking-done : left ≤ 0 → numbersOf file-at.Missing ≡ fileAt s name
-  unfolding placeAmong readSome numbersOf
+  pub seeking-done : left ≤ 0 → fileNumbers file-at.Missing ≡ fileAt s name
+  unfolding placeAmong readSome fileNumbers
   seeking-done h = let none : left ≡ 0 = omega arith in sym (w .is ∙ ap (λ (n : ℕ). placeAmong name k at (readSome readFile n (drop at s))) none)
 
 pub ruleset seek-laws = (name-order, name-fits, seek-cut, seeking-start, seeking-cut, seeking-found, seeking-next, seeking-done)
 
 -- ---- no two answers have the same numbers
 
-pub numbers-one : (x y : FileAt) → numbersOf x ≡ numbersOf y → x ≡ y
-unfolding numbersOf numberOf
+pub numbers-one : (x y : FileAt) → fileNumbers x ≡ fileNumbers y → x ≡ y
+unfolding fileNumbers numberOf
 numbers-one (file-at.At k a b) (file-at.At l c d) e =
-    let number : k ≡ l = ap (λ (n : Numbers). n .number) e in
-    let start : a ≡ c = ap (λ (n : Numbers). n .start) e in
-    let end : b ≡ d = ap (λ (n : Numbers). n .end) e in
+    let number : k ≡ l = ap (λ (n : FileNumbers). n .number) e in
+    let start : a ≡ c = ap (λ (n : FileNumbers). n .start) e in
+    let end : b ≡ d = ap (λ (n : FileNumbers). n .end) e in
     cc
-numbers-one (file-at.At k a b) file-at.Missing e = let z : _≡_ {A = ℕ} 0 11 = ap (λ (n : Numbers). n .code) e in absurd (omega arith)
-numbers-one file-at.Missing (file-at.At k a b) e = let z : _≡_ {A = ℕ} 11 0 = ap (λ (n : Numbers). n .code) e in absurd (omega arith)
+numbers-one (file-at.At k a b) file-at.Missing e = let z : _≡_ {A = ℕ} 0 11 = ap (λ (n : FileNumbers). n .code) e in absurd (omega arith)
+numbers-one file-at.Missing (file-at.At k a b) e = let z : _≡_ {A = ℕ} 11 0 = ap (λ (n : FileNumbers). n .code) e in absurd (omega arith)
 numbers-one file-at.Missing file-at.Missing e = refl
 
 -- ---- what an answer tells of the file that was asked for
@@ -336,11 +337,11 @@ entry-at-all s at = by-name (stringAt s at) refl
     by-name next.Cut q = (Cut, entry-cut-name s at _ refl q)
 
 -- the file that is found, and where its content stands
-unfoldable Finds : List ℕ → Found → Numbers → Type 0
+unfoldable Finds : List ℕ → Found → FileNumbers → Type 0
 Finds s missing n = n ≡ nowhere
 Finds s (found k c) n = (a : ℕ) × (b : ℕ) × (n ≡ stands k a b) × Stands s a b c
 
-finds-pick : (s : List ℕ) (t : Bool) (u v : Found) (m n : Numbers) → Finds s u m → Finds s v n → Finds s (pick t u v) (pick t m n)
+finds-pick : (s : List ℕ) (t : Bool) (u v : Found) (m n : FileNumbers) → Finds s u m → Finds s v n → Finds s (pick t u v) (pick t m n)
 unfolding pick
 finds-pick s true u v m n x y = x
 finds-pick s false u v m n x y = y
@@ -374,28 +375,28 @@ finds-all s name (number.Of n e) p =
 told-missing : (s : List ℕ) (x : Found) → Finds s x nowhere → x ≡ missing
 unfolding Finds numberOf
 told-missing s missing w = refl
-told-missing s (found k c) w = let z : _≡_ {A = ℕ} 11 0 = ap (λ (n : Numbers). n .code) (w .2) in absurd (omega arith)
+told-missing s (found k c) w = let z : _≡_ {A = ℕ} 11 0 = ap (λ (n : FileNumbers). n .code) (w .2) in absurd (omega arith)
 
 told-found : (s : List ℕ) (x : Found) (k a b : ℕ) → Finds s x (stands k a b) → (c : List ℕ) × (x ≡ found k c) × Stands s a b c
 unfolding Finds numberOf
-told-found s missing k a b w = let z : _≡_ {A = ℕ} 0 11 = ap (λ (n : Numbers). n .code) w in absurd (omega arith)
+told-found s missing k a b w = let z : _≡_ {A = ℕ} 0 11 = ap (λ (n : FileNumbers). n .code) w in absurd (omega arith)
 told-found s (found m c) k a b w =
-    let number : m ≡ k = sym (ap (λ (n : Numbers). n .number) (w .2)) in
-    let start : w .0 ≡ a = sym (ap (λ (n : Numbers). n .start) (w .2)) in
-    let end : w .1 ≡ b = sym (ap (λ (n : Numbers). n .end) (w .2)) in
+    let number : m ≡ k = sym (ap (λ (n : FileNumbers). n .number) (w .2)) in
+    let start : w .0 ≡ a = sym (ap (λ (n : FileNumbers). n .start) (w .2)) in
+    let end : w .1 ≡ b = sym (ap (λ (n : FileNumbers). n .end) (w .2)) in
     (c, ap (λ (i : ℕ). found i c) number, rw (start, end) at (w .3))
 
-module _ (s name : List ℕ) (r : FileAt) (w : numbersOf r ≡ fileAt s name) where
-  finds : (x : FileAt) → r ≡ x → Finds s (fileNamed name 0 (filesOf s)) (numbersOf x)
+module _ (s name : List ℕ) (r : FileAt) (w : fileNumbers r ≡ fileAt s name) where
+  finds : (x : FileAt) → r ≡ x → Finds s (fileNamed name 0 (filesOf s)) (fileNumbers x)
   finds x q = rw (← q, w) (finds-all s name (numberAt 2 s 0) refl)
 
   pub missing-is : r ≡ file-at.Missing → fileNamed name 0 (filesOf s) ≡ missing
-  unfolding numbersOf
+  unfolding fileNumbers
   missing-is q = told-missing s _ (finds _ q)
 
   module _ (k a b : ℕ) (q : r ≡ file-at.At k a b) where
     told : (c : List ℕ) × (fileNamed name 0 (filesOf s) ≡ found k c) × Stands s a b c
-    unfolding numbersOf
+    unfolding fileNumbers
     told = told-found s _ k a b (finds _ q)
 
     pub found-is : fileNamed name 0 (filesOf s) ≡ found k (take (b - a) (drop a s))
@@ -410,13 +411,13 @@ module _ (s name : List ℕ) (r : FileAt) (w : numbersOf r ≡ fileAt s name) wh
 -- ---- the files of a bundle that can be read are those that are read
 
 module _ (n : ℕ) (later : (l : List ℕ) (gs : List File) (q : List ℕ) → readMany readFile n l ≡ got gs q → readSome readFile n l ≡ gs) where
-  rest-some : (a : File) (l : List ℕ) (y : Read (List File)) (fs : List File) (r : List ℕ) → readMany readFile n l ≡ y → andThen y (λ rest z. got (a ∷ rest) z) ≡ got fs r → a ∷ readSome readFile n l ≡ fs
-  unfolding andThen
+  rest-some : (a : File) (l : List ℕ) (y : Read (List File)) (fs : List File) (r : List ℕ) → readMany readFile n l ≡ y → andRead y (λ rest z. got (a ∷ rest) z) ≡ got fs r → a ∷ readSome readFile n l ≡ fs
+  unfolding andRead
   rest-some a l cut fs r e h = clash (cc)
   rest-some a l (got gs q) fs r e h = ap (λ (t : List File). a ∷ t) (later l gs q e) ∙ cc
 
-  first-some : (x : Read File) (fs : List File) (r : List ℕ) → andThen x (λ a q. andThen (readMany readFile n q) (λ rest z. got (a ∷ rest) z)) ≡ got fs r → behind x (λ a q. a ∷ readSome readFile n q) ≡ fs
-  unfolding andThen behind
+  first-some : (x : Read File) (fs : List File) (r : List ℕ) → andRead x (λ a q. andRead (readMany readFile n q) (λ rest z. got (a ∷ rest) z)) ≡ got fs r → behind x (λ a q. a ∷ readSome readFile n q) ≡ fs
+  unfolding andRead behind
   first-some cut fs r h = clash (cc)
   first-some (got a q) fs r h = rest-some a q _ fs r refl h
 
@@ -425,8 +426,8 @@ unfolding readMany readSome
 some-many zero l fs r h = cc
 some-many (suc n) l fs r h = first-some n (some-many n) (readFile l) fs r h
 
-files-by : (x : Read ℕ) (fs : List File) (r : List ℕ) → andThen x (λ n l. readMany readFile n l) ≡ got fs r → behind x (λ n l. readSome readFile n l) ≡ fs
-unfolding andThen behind
+files-by : (x : Read ℕ) (fs : List File) (r : List ℕ) → andRead x (λ n l. readMany readFile n l) ≡ got fs r → behind x (λ n l. readSome readFile n l) ≡ fs
+unfolding andRead behind
 files-by cut fs r h = clash (cc)
 files-by (got n l) fs r h = some-many n l fs r h
 

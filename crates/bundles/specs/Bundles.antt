@@ -7,9 +7,8 @@ use lib.Dec.{leb}
 use lib.ListN.{length, take, drop}
 use Rattle.base.specs.Pick.{pick, and}
 use Rattle.letters.specs.Order.{sameText}
-use Rattle.pack.specs.Reading.{Read, cut, got, andThen, readNumber, readText, readMany}
+use Rattle.pack.specs.Reading.{Read, cut, got, andRead, readNumber, readText, readMany}
 use Rattle.pack.specs.Packs.{increasing, isNil}
-use Rattle.pack.specs.Guessing.{behind, readSome}
 
 pub record File : Type 0 where
   pub name : List ℕ
@@ -20,25 +19,21 @@ file n c = record { name = n; content = c }
 
 -- "content (length in 4 bytes)"
 unfoldable pub readContent : List ℕ → Read (List ℕ)
-readContent l = andThen (readNumber 4 l) (λ n r. pick (leb n (length r)) (got (take n r) (drop n r)) cut)
+readContent l = andRead (readNumber 4 l) (λ n r. pick (leb n (length r)) (got (take n r) (drop n r)) cut)
 
 unfoldable pub readFile : List ℕ → Read File
-readFile l = andThen (readText l) (λ n r. andThen (readContent r) (λ c q. got (file n c) q))
+readFile l = andRead (readText l) (λ n r. andRead (readContent r) (λ c q. got (file n c) q))
 
 unfoldable pub readBundle : List ℕ → Read (List File)
-readBundle s = andThen (readNumber 2 s) (λ n r. readMany readFile n r)
+readBundle s = andRead (readNumber 2 s) (λ n r. readMany readFile n r)
 
-abbrev pub nameOf : File → List ℕ
-nameOf f = f .name
+abbrev pub fileName : File → List ℕ
+fileName f = f .name
 
 -- "names strictly increasing, nothing after"
 unfoldable pub wellFormed : Read (List File) → Bool
 wellFormed cut = false
-wellFormed (got files r) = and (increasing (map nameOf files)) (isNil r)
-
--- the files of any bytes, up to where they run out
-unfoldable pub filesOf : List ℕ → List File
-filesOf s = behind (readNumber 2 s) (λ n r. readSome readFile n r)
+wellFormed (got files r) = and (increasing (map fileName files)) (isNil r)
 
 -- the number and the content of the file of a name, or that it isn't in the bundle (11)
 pub data Found : Type 0 where

@@ -1,3 +1,3 @@
 pub mod Bundles
-pub mod Places
-pub mod Walks
+pub mod PlaceContracts
+pub mod Contracts

@@ -1,8 +1,8 @@
 // Bundles of files: whether any bytes are one, and where the file of a name stands ("Bundle and pack").
 ghost use mathlib.Core.Path.{_≡_};
 ghost use Rattle.bundles.specs.Bundles.{readBundle, wellFormed};
-ghost use Rattle.bundles.specs.Places.{numbersOf, fileAt};
-ghost use Rattle.bundles.specs.Walks.{followsIn, EntryIs};
+ghost use Rattle.bundles.specs.PlaceContracts.{fileNumbers, fileAt};
+ghost use Rattle.bundles.specs.Contracts.{followsIn, EntryIs};
 use languages::Next;
 use letters::Order;
 use pack::Number;
@@ -112,7 +112,7 @@ pub fn check_bundle(bundle: &[u8]) -> bool
 
 // The first file of a name among those of `bundle`, as far as its bytes go.
 pub fn find_file(bundle: &[u8], wanted: &[u8]) -> FileAt
-    ensures { λ r. ⌜ numbersOf r ≡ fileAt (now (bundle .entry)) (now (wanted .entry)) ⌝ }
+    ensures { λ r. ⌜ fileNumbers r ≡ fileAt (now (bundle .entry)) (now (wanted .entry)) ⌝ }
 {
     match pack::count_at(bundle, 0) {
         Number::Of { value, next } => {

@@ -8,7 +8,7 @@ use lib.ListN.{length}
 use Rattle.choices.specs.Texts.{Text}
 use Rattle.base.specs.Pick.{pick}
 use Rattle.languages.specs.Sets.{narrowed, isEmpty}
-use Rattle.choices.specs.Apply.{Alternative, Entry, texts, join, under, candidates, apply, held}
+use Rattle.choices.specs.Apply.{Alternative, Entry, textsOf, join, under, candidates, apply, nextSet}
 use Rattle.choices.specs.Choices.{_∈_, here, there, Holds, first, later, Increasing}
 use Rattle.languages.specs.declared.sets.LanguageSet.{LanguageSet}
 use Rattle.choices.proofs.SetLaws.{Entering, enter-run, enter-sound, enter-has, enter-increasing}
@@ -93,7 +93,7 @@ candidates-has (e ∷ old) alts a (later h) m ne = append-right (under e alts) _
 
 -- the alternatives applied to l give r; a record, so that the four stay implicit in the laws
 pub record Applied (limit : ℕ) (alts : List Alternative) (l r : List Entry) : Type 0 where
-  pub is : apply limit alts l ≡ held r
+  pub is : apply limit alts l ≡ nextSet r
 
 module _ {limit : ℕ} {alts : List Alternative} {l r : List Entry} (e : Applied limit alts l r) where
   run : Entering limit (candidates l alts) [] r
@@ -107,7 +107,7 @@ module _ {limit : ℕ} {alts : List Alternative} {l r : List Entry} (e : Applied
       go : Holds (candidates l alts) t g ⊎ Holds [] t g → From l alts t g
       go (inl k) = candidates-from l alts k
 
-  pub apply-increasing : Increasing (texts r)
+  pub apply-increasing : Increasing (textsOf r)
   unfolding Increasing
   apply-increasing = enter-increasing run tt
 

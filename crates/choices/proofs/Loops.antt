@@ -8,7 +8,7 @@ use lib.ListN.{length}
 use borrow.Author.Tests.{lt-leb, le-leb, lt-ltb, le-ltb}
 use Rattle.base.specs.Pick.{pick}
 use Rattle.languages.specs.Sets.{narrowed, isEmpty}
-use Rattle.choices.specs.Apply.{Alternative, Entry, join, insert, under, enter, refused, held}
+use Rattle.choices.specs.Apply.{Alternative, Entry, join, insert, under, enter, overlong, nextSet}
 
 -- ---- one turn: e's alternatives from a on, then the rest
 
@@ -18,7 +18,7 @@ module _ (limit : ℕ) (e : Entry) (a : Alternative) (alts : List Alternative) (
   turn-empty n = simp n
 
   pub turn-long : isEmpty (narrowed (e .langs) (a .langs)) ≡ false → length l < limit → 128 < length (e .text ++ a .text)
-      → enter limit (under e (a ∷ alts) ++ rest) l ≡ refused
+      → enter limit (under e (a ∷ alts) ++ rest) l ≡ overlong
   unfolding under enter pick
   turn-long n room long = simp (n, lt-leb limit (length l) room, lt-ltb 128 (length (e .text ++ a .text)) long)
 
@@ -28,7 +28,7 @@ module _ (limit : ℕ) (e : Entry) (a : Alternative) (alts : List Alternative) (
   turn-in n room short = simp (n, lt-leb limit (length l) room, le-ltb 128 (length (e .text ++ a .text)) short)
 
 -- the limit is reached: stop
-pub turn-full : (limit : ℕ) (cs l : List Entry) → limit ≤ length l → enter limit cs l ≡ held l
+pub turn-full : (limit : ℕ) (cs l : List Entry) → limit ≤ length l → enter limit cs l ≡ nextSet l
 unfolding enter pick
 turn-full limit [] l full = refl
 turn-full limit (c ∷ cs) l full = simp (le-leb limit (length l) full)

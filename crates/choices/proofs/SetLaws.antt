@@ -14,7 +14,7 @@ use Rattle.choices.specs.Texts.{Text, byOrder}
 use Rattle.letters.specs.Order.{orderOf}
 use Rattle.letters.specs.declared.order.Order.{Order}
 use Rattle.letters.specs.declared.order.Order.the-variants.{Less, Equal, Greater}
-use Rattle.choices.specs.Apply.{Entry, texts, insert, enter, Outcome, refused, held}
+use Rattle.choices.specs.Apply.{Entry, textsOf, insert, enter, NextSet, overlong, nextSet}
 use Rattle.choices.specs.Choices.{Holds, first, later, First, Increasing, times}
 use Rattle.languages.specs.declared.sets.LanguageSet.{LanguageSet}
 use Rattle.choices.proofs.TextLaws.{clash, compare-same, compare-refl, compare-flip, compare-trans}
@@ -72,25 +72,25 @@ insert-has e (x ∷ l) = has-by e x l (orderOf (x .text) (e .text)) refl (insert
 -- ---- the order is kept
 
 first-by : (s : Text) (e x : Entry) (l : List Entry) (o : Order) → orderOf s (e .text) ≡ Less → orderOf s (x .text) ≡ Less
-    → First s (texts (byOrder o (x ∷ insert e l) (x ∷ l) (e ∷ x ∷ l)))
+    → First s (textsOf (byOrder o (x ∷ insert e l) (x ∷ l) (e ∷ x ∷ l)))
 unfolding First byOrder
 first-by s e x l Less d p = p
 first-by s e x l Equal d p = p
 first-by s e x l Greater d p = d
 
-insert-first : (s : Text) (e : Entry) (l : List Entry) → orderOf s (e .text) ≡ Less → First s (texts l) → First s (texts (insert e l))
+insert-first : (s : Text) (e : Entry) (l : List Entry) → orderOf s (e .text) ≡ Less → First s (textsOf l) → First s (textsOf (insert e l))
 unfolding First insert
 insert-first s e [] d f = d
 insert-first s e (x ∷ l) d f = first-by s e x l (orderOf (x .text) (e .text)) d f
 
-increasing-by : (e x : Entry) (l : List Entry) (o : Order) → orderOf (x .text) (e .text) ≡ o → First (x .text) (texts l) → Increasing (texts l)
-    → Increasing (texts (insert e l)) → Increasing (texts (byOrder o (x ∷ insert e l) (x ∷ l) (e ∷ x ∷ l)))
+increasing-by : (e x : Entry) (l : List Entry) (o : Order) → orderOf (x .text) (e .text) ≡ o → First (x .text) (textsOf l) → Increasing (textsOf l)
+    → Increasing (textsOf (insert e l)) → Increasing (textsOf (byOrder o (x ∷ insert e l) (x ∷ l) (e ∷ x ∷ l)))
 unfolding Increasing First byOrder
 increasing-by e x l Less q f i ih = (insert-first (x .text) e l q f, ih)
 increasing-by e x l Equal q f i ih = (f, i)
 increasing-by e x l Greater q f i ih = (compare-flip _ _ q, (f, i))
 
-pub insert-increasing : (e : Entry) (l : List Entry) → Increasing (texts l) → Increasing (texts (insert e l))
+pub insert-increasing : (e : Entry) (l : List Entry) → Increasing (textsOf l) → Increasing (textsOf (insert e l))
 unfolding Increasing First insert
 insert-increasing e [] i = (tt, tt)
 insert-increasing e (x ∷ l) i = increasing-by e x l (orderOf (x .text) (e .text)) refl (i .0) (i .1) (insert-increasing e l (i .1))
@@ -125,12 +125,12 @@ once-by t x n Greater q z (inl p) =
     clash (cc)
 once-by t x n Greater q z (inr h) = h
 
-pub times-one : (l : List Entry) {t : Text} {g : LanguageSet} → Increasing (texts l) → Holds l t g → times t (texts l) ≡ 1
+pub times-one : (l : List Entry) {t : Text} {g : LanguageSet} → Increasing (textsOf l) → Holds l t g → times t (textsOf l) ≡ 1
 unfolding Increasing times
 times-one (x ∷ l) {t} i (first p q) =
-    once-by t (x .text) _ (orderOf (x .text) t) refl (λ e. times-none t (texts l) (rw e at (i .0)) (i .1)) (inl p)
+    once-by t (x .text) _ (orderOf (x .text) t) refl (λ e. times-none t (textsOf l) (rw e at (i .0)) (i .1)) (inl p)
 times-one (x ∷ l) {t} i (later h) =
-    once-by t (x .text) _ (orderOf (x .text) t) refl (λ e. times-none t (texts l) (rw e at (i .0)) (i .1)) (inr (times-one l (i .1) h))
+    once-by t (x .text) _ (orderOf (x .text) t) refl (λ e. times-none t (textsOf l) (rw e at (i .0)) (i .1)) (inr (times-one l (i .1) h))
 
 -- ---- enter
 
@@ -141,17 +141,17 @@ pub data Entering (limit : ℕ) : List Entry → List Entry → List Entry → T
   entered : {c : Entry} {cs l r : List Entry} → length l < limit → length (c .text) ≤ 128 → Entering limit cs (insert c l) r
       → Entering limit (c ∷ cs) l r
 
-pub held-eq : (l r : List Entry) → held l ≡ held r → l ≡ r
+pub held-eq : (l r : List Entry) → nextSet l ≡ nextSet r → l ≡ r
 held-eq l r e = cc
 
-run-by : (limit : ℕ) (c : Entry) (cs l r : List Entry) (p q : Bool) (o : Outcome) → leb limit (length l) ≡ p → ltb 128 (length (c .text)) ≡ q
-    → (o ≡ held r → Entering limit cs (insert c l) r) → pick p (held l) (pick q refused o) ≡ held r → Entering limit (c ∷ cs) l r
+run-by : (limit : ℕ) (c : Entry) (cs l r : List Entry) (p q : Bool) (o : NextSet) → leb limit (length l) ≡ p → ltb 128 (length (c .text)) ≡ q
+    → (o ≡ nextSet r → Entering limit cs (insert c l) r) → pick p (nextSet l) (pick q overlong o) ≡ nextSet r → Entering limit (c ∷ cs) l r
 unfolding pick
 run-by limit c cs l r true q o ep eq ih e = rw (← held-eq l r e) (stopped (leb-true limit (length l) ep))
 run-by limit c cs l r false true o ep eq ih e = clash (cc)
 run-by limit c cs l r false false o ep eq ih e = entered (leb-false limit (length l) ep) (ltb-false 128 (length (c .text)) eq) (ih e)
 
-pub enter-run : (limit : ℕ) (cs l r : List Entry) → enter limit cs l ≡ held r → Entering limit cs l r
+pub enter-run : (limit : ℕ) (cs l r : List Entry) → enter limit cs l ≡ nextSet r → Entering limit cs l r
 unfolding enter
 enter-run limit [] l r e = rw (← held-eq l r e) ended
 enter-run limit (c ∷ cs) l r e =
@@ -178,7 +178,7 @@ module _ {limit : ℕ} where
   enter-keeps (stopped full) h = h
   enter-keeps (entered room short run) h = enter-keeps run (insert-keeps _ _ h)
 
-  pub enter-increasing : {cs l r : List Entry} → Entering limit cs l r → Increasing (texts l) → Increasing (texts r)
+  pub enter-increasing : {cs l r : List Entry} → Entering limit cs l r → Increasing (textsOf l) → Increasing (textsOf r)
   enter-increasing ended i = i
   enter-increasing (stopped full) i = i
   enter-increasing (entered room short run) i = enter-increasing run (insert-increasing _ _ i)

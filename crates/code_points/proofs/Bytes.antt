@@ -9,9 +9,9 @@ use lib.Dec.{leb}
 use lib.ListN.{length, getD, take, drop, take-append-drop, drop-of-length-le}
 use lib.Seq.{drop-drop, getD-drop}
 use borrow.Author.Tests.{leb-true, lt-leb, lt-ltb}
-use Rattle.base.specs.Pick.{pick, and, pick-all, and-inv}
+use Rattle.base.specs.Pick.{pick, and}
 use Rattle.letters.specs.Utf8.{within, lowSecond, highSecond, decode2, decode3, decode4, decodeBytes, decodeAt}
-use Rattle.letters.specs.Reading.{Piece, illIn, firstIll}
+use Rattle.letters.specs.Reading.{Symbol, illIn, firstIll}
 use Rattle.letters.specs.declared.utf8.Step.{Step}
 use Rattle.letters.specs.declared.utf8.Step.the-variants.{Char, Ill, End}
 use Rattle.letters.specs.declared.utf8.Found.the-variants.{Nothing}
@@ -20,6 +20,7 @@ use Rattle.letters.proofs.CodesLaws.{decode-drop}
 use Rattle.letters.proofs.ReadingLaws.{Pieces, end, one, bad, pieces-of}
 use Rattle.choices.specs.Texts.{Text}
 use Rattle.choices.proofs.TextLaws.{clash}
+use Rattle.base.proofs.PickLaws.{pick-all, and-inv}
 
 -- between two characters; within one, where so many bytes follow the next one, which lies within two bounds; or lost
 pub data State : Type 0 where
@@ -203,13 +204,13 @@ module _ (s : Text) (p : ℕ) where
 
 -- ---- the two ways to say it
 
-formed-by : {s : Text} {p : ℕ} {l : List Piece} → Pieces s p l → illIn l ≡ Nothing → Formed (drop p s)
+formed-by : {s : Text} {p : ℕ} {l : List Symbol} → Pieces s p l → illIn l ≡ Nothing → Formed (drop p s)
 unfolding illIn after
 formed-by {s} {p} (end e) h = rw (drop-of-length-le s (end-at s p e)) refl
 formed-by {s} {p} (one {k = k} {n = n} e r) h = char-whole s p k n e (formed-by r h)
 formed-by (bad e r) h = clash (cc)
 
-ill-by : {s : Text} {p : ℕ} {l : List Piece} → Pieces s p l → Formed (drop p s) → illIn l ≡ Nothing
+ill-by : {s : Text} {p : ℕ} {l : List Symbol} → Pieces s p l → Formed (drop p s) → illIn l ≡ Nothing
 unfolding illIn
 ill-by (end e) f = refl
 ill-by {s} {p} (one {k = k} {n = n} e r) f = ill-by r (char-rest s p k n e f)

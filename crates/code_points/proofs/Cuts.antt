@@ -7,12 +7,13 @@ use Prim.Native.Nat.{ℕ, suc}
 use lib.Dec.{leb, eqb}
 use lib.ListN.{length, take, drop}
 use borrow.Author.Tests.{eqb-true}
-use Rattle.base.specs.Pick.{pick, pick-all, and-inv}
+use Rattle.base.specs.Pick.{pick}
 use Rattle.texts.specs.Parts.{tail, front, firstIs, lastIs, placeOf, prefixOf}
 use Rattle.phonemes.specs.Expressions.{round, unround, bar, opening, onFirst, cutAt, inside, extra, piecesIn, textOf}
 use Rattle.choices.specs.Texts.{Text}
 use Rattle.choices.proofs.TextLaws.{clash}
 use Rattle.code_points.proofs.Bytes.{State, border, step, after, Formed, formed-rest, sign-border}
+use Rattle.base.proofs.PickLaws.{pick-all, and-inv}
 
 pub data Every {A : Type 0} (P : A → Type 0) : List A → Type 0 where
   none : Every P []

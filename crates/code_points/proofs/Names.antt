@@ -10,10 +10,10 @@ use lib.Dec.{T, leb, eqb}
 use lib.ListN.{length, getD, take, drop, length-drop}
 use lib.Seq.{drop-drop, take-append-seam, take-all, split-at}
 use borrow.Author.Tests.{eqb-true, eqb-false}
-use Rattle.base.specs.Pick.{pick, and, pick-all, and-inv}
+use Rattle.base.specs.Pick.{pick, and}
 use Rattle.base.proofs.Table.{at}
 use Rattle.letters.specs.Utf8.{within, lowSecond, highSecond, decodeAt, encode}
-use Rattle.letters.specs.Reading.{Piece, illIn, firstIll}
+use Rattle.letters.specs.Reading.{Symbol, illIn, firstIll}
 use Rattle.letters.specs.declared.utf8.Step.the-variants.{Char}
 use Rattle.letters.specs.declared.utf8.Found.the-variants.{Nothing}
 use Rattle.letters.proofs.Utf8Laws.{char-at}
@@ -22,7 +22,7 @@ use Rattle.lower_case.specs.Lower.{lowerTable, lowerOf, lowerIn, lowerText}
 use Rattle.lower_case.proofs.LowerLaws.{lower-in, lower-past}
 use Rattle.languages.specs.declared.sets.LanguageSet.{LanguageSet}
 use Rattle.texts.specs.Parts.{tail, prefixOf}
-use Rattle.prefixes.specs.Prefixes.{generic, prefixesOf, fits, firstFit, splitOf}
+use Rattle.prefixes.specs.Prefixes.{generic, prefixesOf, prefixFits, firstFit, splitOf}
 use Rattle.prefixes.specs.declared.prefixes.NameType.{NameType}
 use Rattle.prefixes.specs.declared.prefixes.NameType.the-variants.{Ashkenazi, Generic, Sephardic}
 use Rattle.prefixes.specs.declared.prefixes.Prefix.{Prefix}
@@ -37,6 +37,7 @@ use Rattle.engine.specs.Spelling.{Steps, partedAs}
 use Rattle.answers.specs.Answers.{WordOf, all-joined, only-word, of-word, of-remainder, of-joined}
 use Rattle.code_points.proofs.Bytes.{State, border, needs, lost, plain, next, high, step, after, Formed, after-append, formed-append, sign-border, char-formed}
 use Rattle.code_points.proofs.Cuts.{Every, none, more, every-at, tail-formed, prefix-split, behind-formed}
+use Rattle.base.proofs.PickLaws.{pick-all, and-inv}
 
 -- ---- by a test that antt computes
 
@@ -66,7 +67,7 @@ lower-formed s p k n e = elim (decLt k 384) [
   | no g ↦ rw (← lower-past k (omega arith), char-at s p k n e .bytes) (char-formed s p k n e)
 ]
 
-pieces-lowered : {s : Text} {p : ℕ} {l : List Piece} → Pieces s p l → illIn l ≡ Nothing → Formed (lowerIn l)
+pieces-lowered : {s : Text} {p : ℕ} {l : List Symbol} → Pieces s p l → illIn l ≡ Nothing → Formed (lowerIn l)
 unfolding illIn lowerIn after
 pieces-lowered (end e) h = refl
 pieces-lowered {s} {p} (one {k = k} {n = n} e r) h = formed-append border (encode (lowerOf k)) _ (lower-formed s p k n e) (pieces-lowered r h)
@@ -185,8 +186,8 @@ unfolding tail
 tail-drop [] = refl
 tail-drop (x ∷ s) = refl
 
-fit-formed : (p s : Text) → fits p s ≡ true → Formed p → Formed s → PartsFormed (Parted (length p) (suc (length p))) s
-unfolding fits PartsFormed
+fit-formed : (p s : Text) → prefixFits p s ≡ true → Formed p → Formed s → PartsFormed (Parted (length p) (suc (length p))) s
+unfolding prefixFits PartsFormed
 fit-formed p s e f g =
     let w = and-inv _ _ e in
     let split = prefix-split p s (w .0) in
@@ -194,7 +195,7 @@ fit-formed p s e f g =
     let rest : tail (drop (length p) s) ≡ drop (suc (length p)) s = tail-drop (drop (length p) s) ∙ drop-drop 1 (length p) s ∙ ap (λ (n : ℕ). drop n s) (add-one (length p)) in
     (rw front f, rw rest at (tail-formed 32 refl (drop (length p) s) (w .1) (behind-formed p s (w .0) f g)))
 
-first-by : (p s : Text) (x : Prefix) (t : Bool) → fits p s ≡ t → Formed p → Formed s → PartsFormed x s → PartsFormed (pick t (Parted (length p) (suc (length p))) x) s
+first-by : (p s : Text) (x : Prefix) (t : Bool) → prefixFits p s ≡ t → Formed p → Formed s → PartsFormed x s → PartsFormed (pick t (Parted (length p) (suc (length p))) x) s
 unfolding pick
 first-by p s x true e f g w = fit-formed p s e f g
 first-by p s x false e f g w = w
@@ -202,7 +203,7 @@ first-by p s x false e f g w = w
 fit-parts : (s : Text) → Formed s → {ps : List Text} → Every Formed ps → PartsFormed (firstFit ps s) s
 unfolding firstFit PartsFormed
 fit-parts s g none = tt
-fit-parts s g (more {x = p} f e) = first-by p s _ (fits p s) refl f g (fit-parts s g e)
+fit-parts s g (more {x = p} f e) = first-by p s _ (prefixFits p s) refl f g (fit-parts s g e)
 
 generic-formed : Every Formed (prefixesOf Generic)
 unfolding prefixesOf all isBorder after step plain pick and

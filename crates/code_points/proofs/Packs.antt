@@ -7,7 +7,7 @@ use Prim.Native.Nat.{ℕ, zero, suc, _+_, max}
 use native.Mathlib.Omega.{arith}
 use lib.ListN.{length, getD, drop}
 use lib.Seq.{drop-drop}
-use Rattle.base.specs.Pick.{pick, pick-inv, and-inv}
+use Rattle.base.specs.Pick.{pick}
 use Rattle.texts.specs.Parts.{firstIs, lastIs, prefixOf}
 use Rattle.rule.specs.Matching.{ruleMatches}
 use Rattle.phonemes.specs.Expressions.{round, unround, formed, checkedOf}
@@ -17,10 +17,11 @@ use Rattle.pack.proofs.Laws.{GoodRule, good-rule, ListsAt, no-list, one-list, i
 use Rattle.choices.specs.Texts.{Text}
 use Rattle.choices.proofs.TextLaws.{clash}
 use Rattle.phoneme_builder.specs.Passes.{Match, by, firstMatch}
-use Rattle.engine.specs.Calls.{listOf}
+use Rattle.engine.specs.Calls.{listNumbered}
 use Rattle.code_points.proofs.Bytes.{formed-of}
 use Rattle.code_points.proofs.Cuts.{prefix-split, pieces-formed}
 use Rattle.code_points.proofs.Passes.{Fitting, Sound}
+use Rattle.base.proofs.PickLaws.{pick-inv, and-inv}
 
 -- ---- one rule
 
@@ -73,6 +74,6 @@ lists-good no-list (suc k) = refl
 lists-good (one-list w l) zero = rules-good _ (w .value) (w .passes)
 lists-good (one-list w l) (suc k) = lists-good l k
 
-pub sound-list : (s : List ℕ) (p : Pack) → packOf s ≡ accepted p → (k : ℕ) → Sound (firstMatch (listOf p k))
-unfolding listOf
+pub sound-list : (s : List ℕ) (p : Pack) → packOf s ≡ accepted p → (k : ℕ) → Sound (firstMatch (listNumbered p k))
+unfolding listNumbered
 sound-list s p e k = sound-rules _ (getD (p .lists) k []) (lists-good (is-pack s p e .lists) k)

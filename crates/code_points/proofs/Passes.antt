@@ -6,7 +6,6 @@ use Prim.Native.Nat.{ℕ, zero, suc, _+_, _≤_, max}
 use native.Mathlib.Omega.{arith}
 use lib.Dec.{ltb}
 use lib.ListN.{length, take, drop, drop-of-length-le}
-use Rattle.base.specs.Pick.{pick-all}
 use Rattle.letters.specs.Utf8.{decodeAt}
 use Rattle.letters.specs.declared.utf8.Step.{Step}
 use Rattle.letters.specs.declared.utf8.Step.the-variants.{Char, Ill, End}
@@ -15,14 +14,15 @@ use Rattle.languages.specs.declared.sets.LanguageSet.{LanguageSet}
 use Rattle.phonemes.specs.Expressions.{piecesIn, textOf, setOf}
 use Rattle.pack.specs.Packs.{Rule}
 use Rattle.choices.specs.Texts.{Text}
-use Rattle.choices.specs.Apply.{Entry, texts, Outcome, refused, held, apply, start}
+use Rattle.choices.specs.Apply.{Entry, textsOf, NextSet, overlong, nextSet, apply, start}
 use Rattle.choices.specs.Choices.{Increasing, First}
 use Rattle.phoneme_builder.specs.Sets.{Spelling, refusal}
 use Rattle.phoneme_builder.specs.Sets as sets
-use Rattle.phoneme_builder.specs.Passes.{offered, Match, none as nothing, by, Matcher, Turn, rule, letter, bytesOf, turnOn, turnsFrom, turnsOf, Ran, tooLong, ran, flagged, applied, after as behind, unmatched, run, raised, onRan, finalText, finalFrom, finalPass, then, mainOf, wordOf}
+use Rattle.phoneme_builder.specs.Passes.{offered, Match, none as nothing, by, Matcher, Turn, rule, letter, stepLength, turnOn, turnsFrom, turnsOf, Ran, tooLong, ran, flagged, applied, after as behind, unmatched, run, raised, onRan, finalText, finalFrom, finalPass, then, mainOf, wordOf}
 use Rattle.code_points.proofs.Bytes.{after, Formed, formed-rest, char-formed, char-rest, ill-not}
 use Rattle.code_points.proofs.Cuts.{Every, none, more, text-formed}
 use Rattle.code_points.proofs.Sets.{Proper, ProperSet, FormedAlternative, apply-proper, appended-proper, ProperSpelling, united-proper, empty-proper}
+use Rattle.base.proofs.PickLaws.{pick-all}
 
 -- ---- turns
 
@@ -48,8 +48,8 @@ offered-formed names (more {x} f e) = more (text-formed x f) (offered-formed nam
 
 -- the character at a place, and what follows it
 letter-formed : (word : Text) (place : ℕ) (x : Step) → decodeAt word place ≡ x → Formed (drop place word)
-    → Formed (take (bytesOf x) (drop place word)) × Formed (drop (place + bytesOf x) word)
-unfolding bytesOf after
+    → Formed (take (stepLength x) (drop place word)) × Formed (drop (place + stepLength x) word)
+unfolding stepLength after
 letter-formed word place (Char k n) e f = (char-formed word place k n e, char-rest word place k n e f)
 letter-formed word place Ill e f = absurd (ill-not word place e f)
 letter-formed word place End e f =
@@ -81,29 +81,29 @@ module _ (names : List ℕ) (rules : Matcher) (sound : Sound rules) (word : Text
 
 unfoldable pub ProperRun : Ran → Type 0
 ProperRun tooLong = Unit {0}
-ProperRun (ran l flag) = Proper (texts l)
+ProperRun (ran l flag) = Proper (textsOf l)
 
 flagged-proper : (up : Bool) (r : Ran) → ProperRun r → ProperRun (flagged up r)
 unfolding flagged ProperRun
 flagged-proper up tooLong w = tt
 flagged-proper up (ran l flag) w = w
 
-applied-proper : (limit : ℕ) (o : Outcome) (rest : List Entry → Ran) → ProperSet o → ((l : List Entry) → Proper (texts l) → ProperRun (rest l)) → ProperRun (applied limit o rest)
+applied-proper : (limit : ℕ) (o : NextSet) (rest : List Entry → Ran) → ProperSet o → ((l : List Entry) → Proper (textsOf l) → ProperRun (rest l)) → ProperRun (applied limit o rest)
 unfolding applied ProperSet ProperRun
-applied-proper limit refused rest w k = tt
-applied-proper limit (held l) rest w k = flagged-proper _ (rest l) (k l w)
+applied-proper limit overlong rest w k = tt
+applied-proper limit (nextSet l) rest w k = flagged-proper _ (rest l) (k l w)
 
-behind-proper : (o : Outcome) (rest : List Entry → Ran) → ProperSet o → ((l : List Entry) → Proper (texts l) → ProperRun (rest l)) → ProperRun (behind o rest)
+behind-proper : (o : NextSet) (rest : List Entry → Ran) → ProperSet o → ((l : List Entry) → Proper (textsOf l) → ProperRun (rest l)) → ProperRun (behind o rest)
 unfolding behind ProperSet ProperRun
-behind-proper refused rest w k = tt
-behind-proper (held l) rest w k = k l w
+behind-proper overlong rest w k = tt
+behind-proper (nextSet l) rest w k = k l w
 
-unmatched-proper : (final : Bool) (c : Text) (l : List Entry) → Formed c → Proper (texts l) → ProperSet (unmatched final c l)
+unmatched-proper : (final : Bool) (c : Text) (l : List Entry) → Formed c → Proper (textsOf l) → ProperSet (unmatched final c l)
 unfolding unmatched ProperSet
 unmatched-proper false c l f w = w
 unmatched-proper true c l f w = appended-proper c l f (w .formed)
 
-pub run-proper : (final : Bool) (limit : ℕ) {turns : List Turn} (l : List Entry) → Every FormedTurn turns → Proper (texts l) → ProperRun (run final limit turns l)
+pub run-proper : (final : Bool) (limit : ℕ) {turns : List Turn} (l : List Entry) → Every FormedTurn turns → Proper (textsOf l) → ProperRun (run final limit turns l)
 unfolding run FormedTurn ProperRun
 run-proper final limit l none w = w
 run-proper final limit l (more {x = rule alts} {l = turns} f e) w =
@@ -111,7 +111,7 @@ run-proper final limit l (more {x = rule alts} {l = turns} f e) w =
 run-proper final limit l (more {x = letter c} {l = turns} f e) w =
     behind-proper (unmatched final c l) _ (unmatched-proper final c l f w) (λ m v. run-proper final limit m e v)
 
-pub start-proper : (g : LanguageSet) → Proper (texts (start g))
+pub start-proper : (g : LanguageSet) → Proper (textsOf (start g))
 unfolding Increasing First after
 start-proper g = record { formed = more refl none; increasing = (tt, tt) }
 
@@ -122,13 +122,13 @@ unfolding raised ProperSpelling
 raised-proper up (refusal k) w = tt
 raised-proper up (sets.texts l flag) w = w
 
-ran-proper : (g : LanguageSet) (r : Ran) (l : List Entry) (rest : List Entry → Spelling) → ProperRun r → Proper (texts l)
-    → ((m : List Entry) → Proper (texts m) → ProperSpelling (rest m)) → ProperSpelling (onRan g r l rest)
+ran-proper : (g : LanguageSet) (r : Ran) (l : List Entry) (rest : List Entry → Spelling) → ProperRun r → Proper (textsOf l)
+    → ((m : List Entry) → Proper (textsOf m) → ProperSpelling (rest m)) → ProperSpelling (onRan g r l rest)
 unfolding onRan ProperRun ProperSpelling
 ran-proper g tooLong l rest v w k = tt
 ran-proper g (ran new flag) l rest v w k = raised-proper flag _ (united-proper g new l rest (v .formed) w k)
 
-then-proper : (x : Spelling) (rest : List Entry → Spelling) → ProperSpelling x → ((l : List Entry) → Proper (texts l) → ProperSpelling (rest l)) → ProperSpelling (then x rest)
+then-proper : (x : Spelling) (rest : List Entry → Spelling) → ProperSpelling x → ((l : List Entry) → Proper (textsOf l) → ProperSpelling (rest l)) → ProperSpelling (then x rest)
 unfolding then ProperSpelling
 then-proper (refusal k) rest w f = tt
 then-proper (sets.texts l flag) rest w f = raised-proper flag (rest l) (f l w)
@@ -143,13 +143,13 @@ module _ (limit : ℕ) (names : List ℕ) where
   pass-proper final rules sound g word f = run-proper final limit (start g) (turns-formed names rules sound word f) (start-proper g)
 
   module _ (rules : Matcher) (sound : Sound rules) where
-    final-from : (old l : List Entry) → Every Formed (texts old) → Proper (texts l) → ProperSpelling (finalFrom limit names rules old l)
+    final-from : (old l : List Entry) → Every Formed (textsOf old) → Proper (textsOf l) → ProperSpelling (finalFrom limit names rules old l)
     unfolding finalFrom finalText ProperSpelling
     final-from [] l f w = w
     final-from (e ∷ old) l (more g f) w =
         ran-proper (e .langs) _ l _ (pass-proper true rules sound (e .langs) (e .text) g) w (λ m v. final-from old m f v)
 
-    pub final-proper : (old : List Entry) → Every Formed (texts old) → ProperSpelling (finalPass limit names rules old)
+    pub final-proper : (old : List Entry) → Every Formed (textsOf old) → ProperSpelling (finalPass limit names rules old)
     unfolding finalPass
     final-proper old f = final-from old [] f empty-proper
 

@@ -10,11 +10,11 @@ use borrow.Author.Tests.{leb-true, le-leb}
 use Rattle.base.specs.Pick.{pick}
 use Rattle.languages.specs.declared.sets.LanguageSet.{LanguageSet}
 use Rattle.choices.specs.Texts.{Text}
-use Rattle.choices.specs.Apply.{Alternative, Entry, Outcome, refused, held, apply, insert, start}
+use Rattle.choices.specs.Apply.{Alternative, Entry, NextSet, overlong, nextSet, apply, insert, start}
 use Rattle.choices.proofs.TextLaws.{clash}
 use Rattle.choices.proofs.ApplyLaws.{Applied}
-use Rattle.phoneme_builder.specs.Sets.{Spelling, refusal, texts, holds, remerged, united}
-use Rattle.phoneme_builder.specs.Passes.{Matcher, Turn, rule, letter, turnsOf, Ran, tooLong, ran, flagged, applied, after, unmatched, run, raised, onRan, finalText, finalFrom, finalPass, then, mainOf, wordOf}
+use Rattle.phoneme_builder.specs.Sets.{Spelling, refusal, texts, holdsText, remerged, united}
+use Rattle.phoneme_builder.specs.Passes.{Matcher, Turn, rule, letter, turnsOf, Ran, tooLong, ran, flagged, applied, afterLetter, unmatched, run, raised, onRan, finalText, finalFrom, finalPass, then, mainOf, wordOf}
 use Rattle.demands.specs.Applies.{UpWhen, ApplyOf, Reached, FinalReached, WordReached, in-main, in-common, in-language}
 
 -- ---- flags
@@ -57,8 +57,8 @@ module _ (final : Bool) (limit : ℕ) where
   unfolding run applied flagged
   rule-run turns r up e k = rw (e .is, k) refl
 
-  letter-run : (c : Text) (l m : List Entry) (turns : List Turn) → unmatched final c l ≡ held m → run final limit (letter c ∷ turns) l ≡ run final limit turns m
-  unfolding run after
+  letter-run : (c : Text) (l m : List Entry) (turns : List Turn) → unmatched final c l ≡ nextSet m → run final limit (letter c ∷ turns) l ≡ run final limit turns m
+  unfolding run afterLetter
   letter-run c l m turns e = rw e refl
 
   -- the apply of the first turn
@@ -80,7 +80,7 @@ module _ (final : Bool) (limit : ℕ) where
     ended = a .ended;
   }
 
-  pub behind-letter : {c : Text} {turns : List Turn} {l new : List Entry} (m : List Entry) → unmatched final c l ≡ held m → ApplyOf final limit turns m new
+  pub behind-letter : {c : Text} {turns : List Turn} {l new : List Entry} (m : List Entry) → unmatched final c l ≡ nextSet m → ApplyOf final limit turns m new
       → ApplyOf final limit (letter c ∷ turns) l new
   behind-letter {c} {l} m e a = record {
     before = letter c ∷ a .before;
@@ -100,7 +100,7 @@ module _ (final : Bool) (limit : ℕ) where
   rule-inv turns r f e k = flagged-inv _ _ r f (rw (e .is) at k)
 
   rule-by : {alts : List Alternative} {turns : List Turn} {l m new : List Entry} → Applied limit alts l m → (before : List Turn) (last : List Alternative) (behind : List Turn)
-      → rule alts ∷ turns ≡ before ++ rule last ∷ behind → (old : List Entry) (f : Bool) → run final limit before l ≡ ran old f → apply limit last old ≡ held new
+      → rule alts ∷ turns ≡ before ++ rule last ∷ behind → (old : List Entry) (f : Bool) → run final limit before l ≡ ran old f → apply limit last old ≡ nextSet new
       → (new ≡ m) ⊎ ApplyOf final limit turns m new
   unfolding run
   rule-by e [] last behind s old f k n = inl (cc)
@@ -113,8 +113,8 @@ module _ (final : Bool) (limit : ℕ) where
       → (new ≡ m) ⊎ ApplyOf final limit turns m new
   of-rule e a = rule-by e (a .before) (a .alts) (a .behind) (a .turns-are) (a .old) (a .up) (a .came) (a .ended)
 
-  letter-by : {c : Text} {turns : List Turn} {new : List Entry} (l m : List Entry) → unmatched final c l ≡ held m → (before : List Turn) (last : List Alternative) (behind : List Turn)
-      → letter c ∷ turns ≡ before ++ rule last ∷ behind → (old : List Entry) (f : Bool) → run final limit before l ≡ ran old f → apply limit last old ≡ held new
+  letter-by : {c : Text} {turns : List Turn} {new : List Entry} (l m : List Entry) → unmatched final c l ≡ nextSet m → (before : List Turn) (last : List Alternative) (behind : List Turn)
+      → letter c ∷ turns ≡ before ++ rule last ∷ behind → (old : List Entry) (f : Bool) → run final limit before l ≡ ran old f → apply limit last old ≡ nextSet new
       → ApplyOf final limit turns m new
   letter-by l m e [] last behind s old f k n = clash (cc)
   letter-by {c} l m e (t ∷ before) last behind s old f k n =
@@ -122,7 +122,7 @@ module _ (final : Bool) (limit : ℕ) where
       let came = sym (letter-run c l m before e) ∙ ap (λ (x : Turn). run final limit (x ∷ before) l) same ∙ k in
       record { before = before; alts = last; behind = behind; turns-are = cc; old = old; up = f; came = came; ended = n }
 
-  of-letter : {c : Text} {turns : List Turn} {l new : List Entry} (m : List Entry) → unmatched final c l ≡ held m → ApplyOf final limit (letter c ∷ turns) l new
+  of-letter : {c : Text} {turns : List Turn} {l new : List Entry} (m : List Entry) → unmatched final c l ≡ nextSet m → ApplyOf final limit (letter c ∷ turns) l new
       → ApplyOf final limit turns m new
   of-letter {l = l} m e a = letter-by l m e (a .before) (a .alts) (a .behind) (a .turns-are) (a .old) (a .up) (a .came) (a .ended)
 
@@ -146,22 +146,22 @@ module _ (final : Bool) (limit : ℕ) where
   reached-rule h (inl s) = inl (rw s at h)
   reached-rule {new = new} h (inr a) = inr (record { new = new; by = a; many = h })
 
-  rule-flag : (alts : List Alternative) (turns : List Turn) (l r : List Entry) (f : Bool) (o : Outcome) → apply limit alts l ≡ o
+  rule-flag : (alts : List Alternative) (turns : List Turn) (l r : List Entry) (f : Bool) (o : NextSet) → apply limit alts l ≡ o
       → ((m : List Entry) (d : Bool) → run final limit turns m ≡ ran r d → UpWhen d (Reached final limit turns m))
       → applied limit o (run final limit turns) ≡ ran r f → UpWhen f (Reached final limit (rule alts ∷ turns) l)
   unfolding applied
-  rule-flag alts turns l r f refused q ih e = clash (cc)
-  rule-flag alts turns l r f (held m) q ih e =
+  rule-flag alts turns l r f overlong q ih e = clash (cc)
+  rule-flag alts turns l r f (nextSet m) q ih e =
       let came = flagged-inv _ _ r f e in
       let by : Applied limit alts l m = record { is = q } in
       same-flag (came .2) (rule-reached by) (λ h. reached-rule (h .many) (of-rule final limit by (h .by))) (either (leb-is limit (length m)) (ih m (came .0) (came .1)))
 
-  letter-flag : (c : Text) (turns : List Turn) (l r : List Entry) (f : Bool) (o : Outcome) → unmatched final c l ≡ o
+  letter-flag : (c : Text) (turns : List Turn) (l r : List Entry) (f : Bool) (o : NextSet) → unmatched final c l ≡ o
       → ((m : List Entry) (d : Bool) → run final limit turns m ≡ ran r d → UpWhen d (Reached final limit turns m))
-      → after o (run final limit turns) ≡ ran r f → UpWhen f (Reached final limit (letter c ∷ turns) l)
-  unfolding after
-  letter-flag c turns l r f refused q ih e = clash (cc)
-  letter-flag c turns l r f (held m) q ih e =
+      → afterLetter o (run final limit turns) ≡ ran r f → UpWhen f (Reached final limit (letter c ∷ turns) l)
+  unfolding afterLetter
+  letter-flag c turns l r f overlong q ih e = clash (cc)
+  letter-flag c turns l r f (nextSet m) q ih e =
       same-flag refl (λ h. record { new = h .new; by = behind-letter final limit m q (h .by); many = h .many })
       (λ h. record { new = h .new; by = of-letter final limit m q (h .by); many = h .many }) (ih m f e)
 
@@ -191,7 +191,7 @@ united-rest : (g : LanguageSet) (xs l : List Entry) (rest : List Entry → Spell
 unfolding united
 united-rest g [] l rest m f e = (l, e)
 united-rest g (x ∷ xs) l rest m f e =
-    united-by (holds (x .text) l) (leb 256 (length l)) _ _ _ m f _ (united-rest g xs (remerged (x .text) g l) rest m f) (λ k. clash (cc)) (united-rest g xs (insert x l) rest m f) e
+    united-by (holdsText (x .text) l) (leb 256 (length l)) _ _ _ m f _ (united-rest g xs (remerged (x .text) g l) rest m f) (λ k. clash (cc)) (united-rest g xs (insert x l) rest m f) e
 
 module _ (limit : ℕ) (names : List ℕ) (rules : Matcher) where
   TextReached : Entry → Type 0

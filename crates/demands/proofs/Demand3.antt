@@ -10,14 +10,14 @@ use borrow.Author.Tests.{leb-true, leb-false}
 use Rattle.languages.specs.Sets.{narrowed, isEmpty}
 use Rattle.languages.specs.declared.sets.LanguageSet.{LanguageSet}
 use Rattle.choices.specs.Texts.{Text}
-use Rattle.choices.specs.Apply.{Alternative, Places, Entry, texts, Outcome, refused, held, apply, start}
+use Rattle.choices.specs.Apply.{Alternative, Places, Entry, textsOf, NextSet, overlong, nextSet, apply, start}
 use Rattle.choices.specs.Choices.{_∈_, Choice, end, choose, spelt, leaves, Holds, first, First, Increasing}
 use Rattle.choices.proofs.TextLaws.{clash}
 use Rattle.choices.proofs.SetLaws.{times-one}
 use Rattle.choices.proofs.ApplyLaws.{Applied, From, from, holds-eq, apply-from, apply-has, apply-increasing}
-use Rattle.phoneme_builder.specs.Passes.{Matcher, Turn, rule, letter, turnsOf, ran, applied, after, unmatched, run}
+use Rattle.phoneme_builder.specs.Passes.{Matcher, Turn, rule, letter, turnsOf, ran, applied, afterLetter, unmatched, run}
 use Rattle.demands.specs.Applies.{ApplyOf, Reached}
-use Rattle.demands.specs.Demands.{placesOf, StayedFewer, AlikeAgree, Demand3OfWord}
+use Rattle.demands.specs.Demands.{rulePlaces, StayedFewer, AlikeAgree, Demand3OfWord}
 use Rattle.demands.proofs.Applies.{flagged-inv, first-apply, behind-rule, behind-letter, run-flag}
 
 -- ---- how a main pass went
@@ -31,17 +31,17 @@ data Passing (limit : ℕ) : List Turn → List Entry → List Entry → Type 0 
 ran-eq : {l r : List Entry} {f g : Bool} → ran l f ≡ ran r g → l ≡ r
 ran-eq e = cc
 
-rule-passing : (limit : ℕ) (alts : List Alternative) (turns : List Turn) (l r : List Entry) (f : Bool) (o : Outcome) → apply limit alts l ≡ o
+rule-passing : (limit : ℕ) (alts : List Alternative) (turns : List Turn) (l r : List Entry) (f : Bool) (o : NextSet) → apply limit alts l ≡ o
     → ((m : List Entry) (d : Bool) → run false limit turns m ≡ ran r d → Passing limit turns m r)
     → applied limit o (run false limit turns) ≡ ran r f → Passing limit (rule alts ∷ turns) l r
 unfolding applied
-rule-passing limit alts turns l r f refused q ih e = clash (cc)
-rule-passing limit alts turns l r f (held m) q ih e =
+rule-passing limit alts turns l r f overlong q ih e = clash (cc)
+rule-passing limit alts turns l r f (nextSet m) q ih e =
     let came = flagged-inv _ _ r f e in
     step (record { is = q }) (ih m (came .0) (came .1))
 
 passing : (limit : ℕ) (turns : List Turn) (l r : List Entry) (f : Bool) → run false limit turns l ≡ ran r f → Passing limit turns l r
-unfolding run after unmatched
+unfolding run afterLetter unmatched
 passing limit [] l r f e = rw (← ran-eq e) over
 passing limit (rule alts ∷ turns) l r f e = rule-passing limit alts turns l r f (apply limit alts l) refl (λ m d. passing limit turns m r d) e
 passing limit (letter c ∷ turns) l r f e = skip (passing limit turns l r f e)
@@ -66,15 +66,15 @@ spelled-step : {limit : ℕ} {alts : List Alternative} {places : Places} {l m : 
 spelled-step e (spelled h c) = spelled-more (apply-from e h) c
 
 pass-sound : {limit : ℕ} {turns : List Turn} {l r : List Entry} {t : Text} {g : LanguageSet}
-    → Passing limit turns l r → Holds r t g → Spelled l (placesOf turns) t g
-unfolding spelt leaves placesOf
+    → Passing limit turns l r → Holds r t g → Spelled l (rulePlaces turns) t g
+unfolding spelt leaves rulePlaces
 pass-sound {t} over h = spelled-eq (append-nil t) (spelled h end)
 pass-sound (step e run) h = spelled-step e (pass-sound run h)
 pass-sound (skip run) h = pass-sound run h
 
 -- ---- strictly increasing
 
-pass-increasing : {limit : ℕ} {turns : List Turn} {l r : List Entry} → Passing limit turns l r → Increasing (texts l) → Increasing (texts r)
+pass-increasing : {limit : ℕ} {turns : List Turn} {l r : List Entry} → Passing limit turns l r → Increasing (textsOf l) → Increasing (textsOf r)
 pass-increasing over i = i
 pass-increasing (step e run) i = pass-increasing run (apply-increasing e)
 pass-increasing (skip run) i = pass-increasing run i
@@ -119,8 +119,8 @@ module _ {limit : ℕ} {alts : List Alternative} {places : Places} {l m : List E
 -- ---- under them, each choice's text is there, with the languages that it leaves
 
 pass-has : {limit : ℕ} {turns : List Turn} {l r : List Entry} {t : Text} {g : LanguageSet}
-    → Passing limit turns l r → Fewer limit l turns → Agree l (placesOf turns) → Holds l t g → (c : Choice g (placesOf turns)) → Holds r (t ++ spelt c) (leaves c)
-unfolding spelt leaves placesOf
+    → Passing limit turns l r → Fewer limit l turns → Agree l (rulePlaces turns) → Holds l t g → (c : Choice g (rulePlaces turns)) → Holds r (t ++ spelt c) (leaves c)
+unfolding spelt leaves rulePlaces
 pass-has {t} over f a h end = holds-eq (sym (append-nil t)) refl h
 pass-has {t} {g} (step e run) f a h (choose x mx nx c) =
     let came = apply-has e (fewer-here e f) x h mx nx in
@@ -143,7 +143,7 @@ from-start (spelled (first p q) c) =
     (m .0, m .1 ∙ ap (λ (s : Text). s ++ spelt c) p, m .2)
 
 start-agree : (g : LanguageSet) (turns : List Turn) → AlikeAgree g turns → (k : ℕ) (t u : Text) (i h : LanguageSet)
-    → Holds (start g) t i → Holds (start g) u h → (c : Choice i (take k (placesOf turns))) (d : Choice h (take k (placesOf turns)))
+    → Holds (start g) t i → Holds (start g) u h → (c : Choice i (take k (rulePlaces turns))) (d : Choice h (take k (rulePlaces turns)))
     → t ++ spelt c ≡ u ++ spelt d → leaves c ≡ leaves d
 unfolding AlikeAgree
 start-agree g turns a k t u i h (first p q) (first p′ q′) c d e =
@@ -153,7 +153,7 @@ start-agree g turns a k t u i h (first p q) (first p′ q′) c d e =
 
 -- the two conditions, and a choice's text
 has-choice : (limit : ℕ) (g : LanguageSet) (turns : List Turn) (l : List Entry) → Passing limit turns (start g) l
-    → StayedFewer limit g turns → AlikeAgree g turns → (c : Choice g (placesOf turns)) → Holds l (spelt c) (leaves c)
+    → StayedFewer limit g turns → AlikeAgree g turns → (c : Choice g (rulePlaces turns)) → Holds l (spelt c) (leaves c)
 unfolding StayedFewer
 has-choice limit g turns l run f a c = pass-has run (record { at = f }) (record { at = start-agree g turns a }) (first refl refl) c
 
@@ -185,7 +185,7 @@ of-turns : (limit : ℕ) (g : LanguageSet) (turns : List Turn) (l : List Entry) 
 unfolding Increasing First
 of-turns limit g turns l f e =
     let run = passing limit turns (start g) l f e in
-    let rising : Increasing (texts l) = pass-increasing run (tt, tt) in
+    let rising : Increasing (textsOf l) = pass-increasing run (tt, tt) in
     let flag = run-flag false limit turns (start g) l f e in
     let has = has-choice limit g turns l run in
     let down : f ≡ false → StayedFewer limit g turns = λ d. fewer (λ h. let u = flag .raised-by h in clash (cc)) in

@@ -6,7 +6,7 @@ use mathlib.Core.List.{List, [], _∷_, _++_}
 use lib.ListN.{getD}
 use Rattle.base.specs.Pick.{pick, and}
 use Rattle.letters.specs.Utf8.{within, decodeBytes, decodeAt}
-use Rattle.letters.specs.Reading.{piecesOn, piecesFrom, piecesOf}
+use Rattle.letters.specs.Reading.{symbolsOn, symbolsFrom, symbolsOf}
 use Rattle.letters.specs.Order.{orderOf, sameText}
 use Rattle.texts.specs.Parts.{tail, front, firstIs, lastIs, placeOf, has, prefixOf, suffixOf}
 use Rattle.languages.specs.Sets.{narrowed, isEmpty}
@@ -16,29 +16,29 @@ use Rattle.languages.specs.declared.sets.LanguageSet.the-variants.{Any, SomeLan
 use Rattle.regex_optim.specs.Contexts.{literalForm, withoutCaret, withoutDollar, formIn, formOf, leftForm, rightForm, kindOf, fits}
 use Rattle.phonemes.specs.Expressions.{onFirst, cutAt, inside, extra, piecesIn, allOf, formedPiece, formed, boxOf, withBits, namesMask, pieceMask, isListed, textOf, maskSet, setOf, checkedOf}
 use Rattle.rule.specs.Matching.{plainCode, plainIn, ruleText, codeIn, firstCode, ruleMatches}
-use Rattle.pack.specs.Reading.{andThen, readByte, readMore, readNumber, readText, readMany}
-use Rattle.pack.specs.Packs.{Rule, Pack, rule, readNames, readGuesses, readRule, readList, all, isLess, increasing, holds, namesGood, guessesGood, isForm, isGood, ruleGood, ordered, listGood, accepted, section, placeIn, namesIn, listCount, listSections, isNil, endSection, packOf}
+use Rattle.pack.specs.Reading.{andRead, readByte, readMore, readNumber, readText, readMany}
+use Rattle.pack.specs.Packs.{Rule, Pack, rule, readNames, readGuesses, readRule, readList, all, isLess, increasing, holds, namesGood, guessesGood, isForm, isGood, ruleGood, orderedByCode, listGood, accepted, section, placeIn, namesIn, listCount, listSections, isNil, endSection, packOf}
 use Rattle.choices.specs.Texts.{Text, byOrder}
 use Rattle.choices.specs.Apply.{Alternative, Places, Entry, insert, under, candidates, enter, apply, start}
 use Rattle.choices.specs.Choices.{here, there, Choice, end, choose, spelt, leaves, times}
 use Rattle.choices.proofs.TextLaws.{clash}
 use Rattle.choices.proofs.Tests.{sameSet, fits as agrees, agreeing, allAgree, alike-by-test}
-use Rattle.phoneme_builder.specs.Passes.{Turn, offered, firstMatch, bytesOf, turnOn, turnsFrom, turnsOf, Ran, ran, flagged, applied, after, unmatched, run}
-use Rattle.demands.specs.Demands.{placesOf, StayedFewer, AlikeAgree, Demand3OfWord}
+use Rattle.phoneme_builder.specs.Passes.{Turn, offered, firstMatch, stepLength, turnOn, turnsFrom, turnsOf, Ran, ran, flagged, applied, afterLetter, unmatched, run}
+use Rattle.demands.specs.Demands.{rulePlaces, StayedFewer, AlikeAgree, Demand3OfWord}
 use Rattle.demands.proofs.Demand3.{demand-3-of-a-word}
 
 -- `unfolding computing` opens all that its line names
 computing : Unit {0}
 unfolding
-    pick and within decodeBytes decodeAt piecesOn piecesFrom piecesOf orderOf sameText tail front firstIs lastIs placeOf has prefixOf suffixOf
+    pick and within decodeBytes decodeAt symbolsOn symbolsFrom symbolsOf orderOf sameText tail front firstIs lastIs placeOf has prefixOf suffixOf
     narrowed isEmpty isLetter allLetters languageName strings stringsOf namePlace bitAt languageBit
     literalForm withoutCaret withoutDollar formIn formOf leftForm rightForm kindOf fits
     onFirst cutAt inside extra piecesIn allOf formedPiece formed boxOf withBits namesMask pieceMask isListed textOf maskSet setOf checkedOf
-    plainCode plainIn ruleText codeIn firstCode ruleMatches andThen readByte readMore readNumber readText readMany
-    readNames readGuesses readRule readList all isLess increasing holds namesGood guessesGood isForm isGood ruleGood ordered listGood
+    plainCode plainIn ruleText codeIn firstCode ruleMatches andRead readByte readMore readNumber readText readMany
+    readNames readGuesses readRule readList all isLess increasing holds namesGood guessesGood isForm isGood ruleGood orderedByCode listGood
     section placeIn namesIn listCount listSections isNil endSection packOf
     byOrder insert under candidates enter apply sameSet agrees agreeing allAgree
-    offered firstMatch bytesOf turnOn turnsFrom turnsOf flagged applied after unmatched run placesOf
+    offered firstMatch stepLength turnOn turnsFrom turnsOf flagged applied afterLetter unmatched run rulePlaces
 computing = tt
 
 -- ---- the pack: languages any, de and fr (bits 0 to 2); the main rules of `any` are list 0, ten lists are empty
@@ -103,7 +103,7 @@ abbrev turnsIn : Text → List Turn
 turnsIn word = turnsOf names (firstMatch (getD (pack .lists) 0 [])) word
 
 abbrev placesIn : Text → Places
-placesIn word = placesOf (turnsIn word)
+placesIn word = rulePlaces (turnsIn word)
 
 abbrev ranOn : ℕ → Text → Ran
 ranOn limit word = run false limit (turnsIn word) (start Any)

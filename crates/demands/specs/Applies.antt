@@ -7,7 +7,7 @@ use mathlib.Core.List.{List, _∷_, _++_, List·Memᴰ}
 use lib.ListN.{length}
 use Rattle.languages.specs.declared.sets.LanguageSet.{LanguageSet}
 use Rattle.choices.specs.Texts.{Text}
-use Rattle.choices.specs.Apply.{Alternative, Entry, held, apply, start}
+use Rattle.choices.specs.Apply.{Alternative, Entry, nextSet, apply, start}
 use Rattle.phoneme_builder.specs.Sets.{texts}
 use Rattle.phoneme_builder.specs.Passes.{Matcher, Turn, rule, turnsOf, ran, run, finalPass}
 
@@ -25,7 +25,7 @@ pub record ApplyOf (final : Bool) (limit : ℕ) (turns : List Turn) (l new : Lis
   pub old : List Entry
   pub up : Bool
   pub came : run final limit before l ≡ ran old up
-  pub ended : apply limit alts old ≡ held new
+  pub ended : apply limit alts old ≡ nextSet new
 
 -- "ended with a count at or over the limit"
 pub record Reached (final : Bool) (limit : ℕ) (turns : List Turn) (l : List Entry) : Type 0 where

@@ -9,12 +9,12 @@ use lib.Dec.{eqb, leb, ltb}
 use lib.ListN.{length, getD, take, drop, replicate, length-take, length-replicate, getD-replicate, List·getD-eq-default}
 use lib.Seq.{sets, take-at, sets-eq, length-sets}
 use borrow.Author.Tests.{le-leb, lt-leb, leb-true, leb-false, ltb-true, ltb-false}
-use Rattle.base.specs.Pick.{pick, pick-true, pick-false, pick-all, and-inv}
+use Rattle.base.specs.Pick.{pick}
 use Rattle.base.proofs.One.{one}
-use Rattle.lower_case.specs.Lower.{lowerText, loweredBuffer, LoweredInto}
+use Rattle.lower_case.specs.Lower.{lowerText}
 use Rattle.lower_case.specs.declared.lower_case.Lowered.{Lowered}
 use Rattle.lower_case.proofs.LowerLaws.{lower-text-length}
-use Rattle.name_parts.specs.Writing.{cap, Put}
+use Rattle.name_parts.specs.Contracts.{cap, Put}
 use Rattle.name_parts.specs.Words.{oneWord}
 use Rattle.name_parts.specs.Joining.{spaced}
 use Rattle.prefixes.specs.declared.prefixes.NameType.{NameType}
@@ -22,14 +22,14 @@ use Rattle.prefixes.specs.declared.prefixes.Prefix.{Prefix}
 use Rattle.prefixes.specs.declared.prefixes.Prefix.the-variants.{Parted, Whole}
 use Rattle.name_parts.proofs.Laws.{clash, slice-room, spaced-long}
 use Rattle.pack.specs.Packs.{refused, packOf}
-use Rattle.pack.specs.Guessing.{guessed, guessedAt}
+use Rattle.pack.specs.Guessing.{guessed}
 use Rattle.pack.proofs.Laws.{languages-few, guess-told, guess-below}
 use Rattle.refusals.specs.declared.Refusal.{Refusal}
 use Rattle.refusals.specs.declared.Refusal.the-variants.{PackBroken, NoSuchLanguage, NoRoom}
 use Rattle.choices.specs.Texts.{Text}
-use Rattle.engine.specs.Spelling.{Spelt, bad, good, onePart, partedAs, spelledName}
-use Rattle.engine.specs.Calls.{settingsKnown, kindKnown, haveLanguages, stepsBy, stepsOf, spelledBy, Outcome, refusedBy, outcomeOf, onPack, checkedThen, callOf, numbersIn, numbersOf, toldOf, filledBy, SpellIs}
-use Rattle.engine.specs.Walks.{packIn, Blank, AtDesk, DeskIs, Ready, Scratch, callFor, FoundIs, stepsAt, startAt, isGood, ToldBy, Told, wholeBy, ToldWhole, answeredBy, wholeAnd, KeptAll, none, over, copied, KeptIs}
+use Rattle.engine.specs.Spelling.{Spelt, unspelt, speltAs, onePart, partedAs, spelledName}
+use Rattle.engine.specs.Calls.{settingsKnown, kindKnown, haveLanguages, stepsBy, stepsOf, spelledBy, CallOutcome, refusedBy, outcomeOf, onPack, checkedThen, callOf, numbersIn, spelledNumbers, filledBy, SpellIs}
+use Rattle.engine.specs.Contracts.{packIn, Blank, AtDesk, DeskIs, CallReady, Scratch, callFor, FoundIs, stepsAt, startAt, isSpelt, ToldBy, NameTold, wholeBy, ToldWhole, answeredBy, wholeAnd, KeptAll, none, over, copied, HeldApartIs, toldOf}
 use Rattle.engine.specs.declared.call.Call.{Call}
 use Rattle.engine.specs.declared.encode.Ends.{Ends}
 use Rattle.engine.specs.declared.spelling.Spelled.{Spelled}
@@ -44,6 +44,9 @@ use Rattle.engine.proofs.NumberLaws.{numbers-one, spell-is}
 use Rattle.engine.proofs.SpellingLaws.{name-plain}
 use Rattle.engine.proofs.CallLaws as calls
 use Rattle.engine.proofs.CallLaws.{fine-name, fine-call, wrong-name, known-limits}
+use Rattle.base.proofs.PickLaws.{pick-true, pick-false, pick-all, and-inv}
+use Rattle.lower_case.specs.Contracts.{loweredBuffer, LoweredInto}
+use Rattle.pack.specs.Contracts.{guessedAt}
 
 -- ---- a name spelled as one word
 
@@ -64,10 +67,10 @@ single-inv Whole u e = (refl, e)
 -- ---- how long it is, and whether it fits
 
 module _ {a : Ends} {room : ℕ} {o o′ : List ℕ} (h : room < cap) where
-  answered-by : (x : Spelt) → Told x o o′ 0 a → answeredBy a room ≡ toldOf (outcomeOf x) room
-  unfolding isGood ToldBy answeredBy outcomeOf toldOf
-  answered-by (bad why) q = pick-false _ _ _ (q .fine) ∙ ap (λ (k : Refusal). Refused k 0) (q .is)
-  answered-by (good t f) q = pick-true _ _ _ (q .fine) ∙ fits-by _ refl
+  answered-by : (x : Spelt) → NameTold x o o′ 0 a → answeredBy a room ≡ toldOf (outcomeOf x) room
+  unfolding isSpelt ToldBy answeredBy outcomeOf toldOf
+  answered-by (unspelt why) q = pick-false _ _ _ (q .fine) ∙ ap (λ (k : Refusal). Refused k 0) (q .is)
+  answered-by (speltAs t f) q = pick-true _ _ _ (q .fine) ∙ fits-by _ refl
     where
       fits-by : (b : Bool) → leb (a .at) room ≡ b
           → pick (leb (a .at) room) (Done (a .at) (a .flag)) (Refused NoRoom (min (a .at) 4294967295)) ≡ pick (leb (length t) room) (Done (length t) f) (Refused NoRoom (min (length t) 4294967295))
@@ -84,13 +87,13 @@ module _ {a : Ends} {room : ℕ} {o o′ : List ℕ} (h : room < cap) where
 
 whole-filled : (x : Spelt) (o : List ℕ) → wholeBy x o 0 ≡ filledBy (outcomeOf x) o
 unfolding wholeBy outcomeOf filledBy
-whole-filled (bad k) o = refl
-whole-filled (good t f) o = rw (zero-add (length t))
+whole-filled (unspelt k) o = refl
+whole-filled (speltAs t f) o = rw (zero-add (length t))
 
 whole-long : (x : Spelt) (o : List ℕ) → length (wholeBy x o 0) ≡ length o
 unfolding wholeBy
-whole-long (bad k) o = refl
-whole-long (good t f) o = pick-all (λ (l : List ℕ). length l ≡ length o) _ _ _ (length-sets o 0 t) refl
+whole-long (unspelt k) o = refl
+whole-long (speltAs t f) o = pick-all (λ (l : List ℕ). length l ≡ length o) _ _ _ (length-sets o 0 t) refl
 
 -- a name that is one word is spelled once
 module _ (s : List ℕ) (call : Call) (name : Text) (t : Bool) (et : t ≡ wholeAnd (partedAs (call .kind) name) (pick (call .concat) true (oneWord name))) where
@@ -103,33 +106,33 @@ module _ (s : List ℕ) (call : Call) (name : Text) (t : Bool) (et : t ≡ whole
 
 -- what `keep` tells
 module _ (a : Ends) (apart o : List ℕ) where
-  pub kept-copied : {o′ : List ℕ} {p : ℕ} → a .fine ≡ true → a .at ≤ length o → a .at ≤ length apart → Put o o′ 0 p (take (a .at - 0) (drop 0 apart)) → KeptIs a apart o o′ true
-  unfolding KeptIs
+  pub kept-copied : {o′ : List ℕ} {p : ℕ} → a .fine ≡ true → a .at ≤ length o → a .at ≤ length apart → Put o o′ 0 p (take (a .at - 0) (drop 0 apart)) → HeldApartIs a apart o o′ true
+  unfolding HeldApartIs
   kept-copied e h k w =
       let n : a .at - 0 ≡ a .at = omega arith in
       copied e h k (w .wrote ∙ ap (λ (m : ℕ). sets o 0 (take m apart)) n)
 
-  pub kept-long : a .fine ≡ true → a .at ≤ length o → KeptIs a apart o o false
-  unfolding KeptIs
+  pub kept-long : a .fine ≡ true → a .at ≤ length o → HeldApartIs a apart o o false
+  unfolding HeldApartIs
   kept-long e h = (e, h, refl)
 
-  pub kept-over : length o < a .at → KeptIs a apart o o true
-  unfolding KeptIs
+  pub kept-over : length o < a .at → HeldApartIs a apart o o true
+  unfolding HeldApartIs
   kept-over h = over h refl
 
-  pub kept-none : a .fine ≡ false → KeptIs a apart o o true
-  unfolding KeptIs
+  pub kept-none : a .fine ≡ false → HeldApartIs a apart o o true
+  unfolding HeldApartIs
   kept-none h = none h refl
 
 -- a name spelled apart, into u, and kept: it is told as a whole
 module _ {u u′ o : List ℕ} {a : Ends} (room : length o < cap) where
-  kept-by : {o₁ : List ℕ} (x : Spelt) → Told x u u′ 0 a → KeptAll a u′ o o₁ → ToldWhole x o o₁ 0 a
-  unfolding isGood ToldBy wholeBy
-  kept-by (bad k) m (none h e) = record { told = record { fine = m .fine; is = m .is }; whole = e }
-  kept-by (bad k) m (over h e) = record { told = record { fine = m .fine; is = m .is }; whole = e }
-  kept-by (bad k) m (copied c h l e) = absurd (false≢true (sym (m .fine) ∙ c))
-  kept-by (good t f) m (none h e) = absurd (false≢true (sym h ∙ m .fine))
-  kept-by (good t f) m (over h e) =
+  kept-by : {o₁ : List ℕ} (x : Spelt) → NameTold x u u′ 0 a → KeptAll a u′ o o₁ → ToldWhole x o o₁ 0 a
+  unfolding isSpelt ToldBy wholeBy
+  kept-by (unspelt k) m (none h e) = record { told = record { fine = m .fine; is = m .is }; whole = e }
+  kept-by (unspelt k) m (over h e) = record { told = record { fine = m .fine; is = m .is }; whole = e }
+  kept-by (unspelt k) m (copied c h l e) = absurd (false≢true (sym (m .fine) ∙ c))
+  kept-by (speltAs t f) m (none h e) = absurd (false≢true (sym h ∙ m .fine))
+  kept-by (speltAs t f) m (over h e) =
       let past : length o < 0 + length t = omega (arith, h, m .is .0 .ends) in
       record {
         told = record {
@@ -141,7 +144,7 @@ module _ {u u′ o : List ℕ} {a : Ends} (room : length o < cap) where
         };
         whole = e ∙ sym (pick-false _ _ _ (lt-leb _ _ past));
       }
-  kept-by (good t f) m (copied c h l e) =
+  kept-by (speltAs t f) m (copied c h l e) =
       let long : a .at ≡ length t = omega (arith, m .is .0 .ends, h, room) in
       let text : take (a .at) u′ ≡ t = ap₂ take long (m .is .0 .wrote (omega (arith, long, l, m .is .0 .same))) ∙ rw (sets-eq t u 0 (omega (arith, long, l, m .is .0 .same))) (take-at t _ (length t) refl) in
       let stands = e ∙ ap (sets o 0) text in
@@ -151,20 +154,20 @@ module _ {u u′ o : List ℕ} {a : Ends} (room : length o < cap) where
         whole = stands ∙ sym (pick-true _ _ _ (le-leb _ _ fits));
       }
 
-  again-by : {o₂ : List ℕ} {b : Ends} (x : Spelt) → Told x u u′ 0 a → a .fine ≡ true → a .at ≤ length o → Told x o o₂ 0 b → ToldWhole x o o₂ 0 b
-  unfolding isGood ToldBy wholeBy
-  again-by (bad k) m c h q = absurd (false≢true (sym (m .fine) ∙ c))
-  again-by (good t f) m c h q =
+  again-by : {o₂ : List ℕ} {b : Ends} (x : Spelt) → NameTold x u u′ 0 a → a .fine ≡ true → a .at ≤ length o → NameTold x o o₂ 0 b → ToldWhole x o o₂ 0 b
+  unfolding isSpelt ToldBy wholeBy
+  again-by (unspelt k) m c h q = absurd (false≢true (sym (m .fine) ∙ c))
+  again-by (speltAs t f) m c h q =
       let fits : 0 + length t ≤ length o = omega (arith, m .is .0 .ends, h, room) in
       record { told = q; whole = q .is .0 .wrote fits ∙ sym (pick-true _ _ _ (le-leb _ _ fits)) }
 
-module _ {x : Spelt} {u u′ o o₁ : List ℕ} {a : Ends} {t : Bool} (h : length o * 1 < cap) (m : Told x u u′ 0 a) (k : KeptIs a u′ o o₁ t) where
+module _ {x : Spelt} {u u′ o o₁ : List ℕ} {a : Ends} {t : Bool} (h : length o * 1 < cap) (m : NameTold x u u′ 0 a) (k : HeldApartIs a u′ o o₁ t) where
   pub kept-told : t ≡ true → ToldWhole x o o₁ 0 a
-  unfolding KeptIs
+  unfolding HeldApartIs
   kept-told y = let all : KeptAll a u′ o o₁ = rw y at k in kept-by (slice-room o h) x m all
 
-  pub again-told : {o₂ : List ℕ} {b : Ends} → t ≡ false → Told x o₁ o₂ 0 b → ToldWhole x o o₂ 0 b
-  unfolding KeptIs
+  pub again-told : {o₂ : List ℕ} {b : Ends} → t ≡ false → NameTold x o₁ o₂ 0 b → ToldWhole x o o₂ 0 b
+  unfolding HeldApartIs
   again-told n q =
       let w : (a .fine ≡ true) × (a .at ≤ length o) × (o₁ ≡ o) = rw n at k in
       again-by (slice-room o h) x m (w .0) (w .1) (rw (w .2) at q)
@@ -219,7 +222,7 @@ module _ (s places : List ℕ) (c : Settings) (start : Start) (languages guesses
   guess-here : guessedAt s guesses languages low ≡ guessed (length (packIn s .names)) (packIn s .guesses) low
   guess-here = ap (λ (n : ℕ). guessedAt s guesses n low) (desk .languages-are) ∙ guess-told s (packIn s) guesses (desk .is) (desk .guesses-are) low
 
-  call-ready : settingsKnown c start ≡ true → haveLanguages languages start ≡ true → Ready s places call
+  call-ready : settingsKnown c start ≡ true → haveLanguages languages start ≡ true → CallReady s places call
   unfolding callFor
   call-ready known have =
       let limits = known-limits c start known in
@@ -236,8 +239,8 @@ module _ (s places : List ℕ) (c : Settings) (start : Start) (languages guesses
 
 -- ---- the refusals in their order
 
-refused-told : {why : Refusal} {p : ℕ} {x : Outcome} (o : List ℕ) → x ≡ refusedBy why p → SpellIs x o (Refused why p) o
-unfolding numbersOf numbersIn filledBy
+refused-told : {why : Refusal} {p : ℕ} {x : CallOutcome} (o : List ℕ) → x ≡ refusedBy why p → SpellIs x o (Refused why p) o
+unfolding spelledNumbers numbersIn filledBy
 refused-told o e = rw e (record { result = refl; buffer = refl })
 
 pub desk-at : (s places : List ℕ) (d : Desk) (l g a : ℕ) → DeskIs s places d → d ≡ Open l g a → AtDesk s places l g a
@@ -281,7 +284,7 @@ module _ (c : Settings) (start : Start) (s places : List ℕ) (name : Text) (r :
 
         -- spelled by the call of the lower-cased name, which stands in a buffer
         module _ (y : t ≡ true) (low : Text) (el : low ≡ lowerText name) (call : Call) (ec : call ≡ callFor c start languages guesses other (guessedAt s guesses languages low)) where
-          pub at-ready : Ready s places call
+          pub at-ready : CallReady s places call
           at-ready = call-ready s places c start languages guesses other low desk call ec (fine-name c start name r found e .0) (sym et ∙ y)
 
           pub at-open : (text : Text) → text ≡ spaced (lowerText name) → {a : Ends} {ans : Spelled} {o o′ : List ℕ} → length o * 1 < cap
@@ -295,7 +298,7 @@ module _ (c : Settings) (start : Start) (s places : List ℕ) (name : Text) (r :
               rw is (answer-told (spelledName (stepsAt s call) (startAt s call text) text) h q ea)
 
 -- the promise of a call allows one answer and one content of the buffer
-pub spell-one : {x : Outcome} {out o o′ : List ℕ} {r r′ : Spelled} → SpellIs x out r o → SpellIs x out r′ o′ → (r ≡ r′) × (o ≡ o′)
+pub spell-one : {x : CallOutcome} {out o o′ : List ℕ} {r r′ : Spelled} → SpellIs x out r o → SpellIs x out r′ o′ → (r ≡ r′) × (o ≡ o′)
 spell-one a b = (numbers-one _ _ (one (a .result) (b .result)), one (a .buffer) (b .buffer))
 
 pub scratch-new : (a b : ℕ) → a ≡ 131072 → b ≡ 1024 → Scratch (length (replicate {A = ℕ} a 0)) (length (replicate {A = ℕ} b 0))

@@ -14,21 +14,20 @@ use lib.Seq.{sets, sets-eq, length-sets, getD-append-add, getD-drop}
 use mir.Syntax.{w64}
 use mir.Val.{Fits}
 use borrow.Author.Tests.{lt-ltb, le-ltb, leb-true, ltb-true, ltb-false}
-use Rattle.base.specs.Pick.{pick, pick-true, pick-false, and-inv, cases}
+use Rattle.base.specs.Pick.{pick}
 use Rattle.base.proofs.Bits.{single-is, ones-pow}
 use Rattle.letters.specs.Order.{sameText}
 use Rattle.letters.specs.Reading.{firstIll, firstOutside}
 use Rattle.letters.specs.declared.utf8.Found.{Found}
 use Rattle.letters.specs.declared.utf8.Found.the-variants.{At, Nothing}
 use Rattle.languages.specs.Names.{stringsOf, namePlace, bitAt, languageBit}
-use Rattle.languages.specs.Sets.{BitsBelow}
 use Rattle.languages.specs.declared.names.Listed.{Listed}
 use Rattle.languages.specs.declared.names.Listed.the-variants.{Bit, Unlisted}
 use Rattle.languages.specs.declared.sets.LanguageSet.{LanguageSet}
 use Rattle.languages.specs.declared.sets.LanguageSet.the-variants.{Any, NoLanguages, SomeLanguages}
-use Rattle.pack.specs.Packs.{Pack, Verdict, accepted, refused, any, holds, namesGood, listCount, packOf}
+use Rattle.pack.specs.Packs.{Pack, Verdict, accepted, refused, any, holds, namesGood, listCount, packOf, stringsLength}
 use Rattle.pack.proofs.NumberLaws.{surveyed-one}
-use Rattle.pack.specs.Places.{textBytes, placesOf, surveyedOf, SurveyIs}
+use Rattle.pack.specs.PlaceContracts.{placesOf, surveyedOf, SurveyIs}
 use Rattle.pack.specs.declared.sections.Surveyed.{Surveyed}
 use Rattle.pack.specs.declared.sections.Surveyed.the-variants as surveyed
 use Rattle.pack.proofs.Laws.{is-pack, languages-few, guesses-within, names-strings, places-counted, SurveyedPack, surveyed-pack}
@@ -37,8 +36,8 @@ use Rattle.choices.specs.Texts.{Text}
 use Rattle.choices.proofs.TextLaws.{clash}
 use Rattle.refusals.specs.declared.Refusal.{Refusal}
 use Rattle.refusals.specs.declared.Refusal.the-variants.{NotUtf8, OutsideRange, NameTooLong, SettingUnknown}
-use Rattle.engine.specs.Calls.{kindKnown, settingsKnown, haveLanguages, typeOf, startSet, Outcome, refusedBy, key, unless, onPack, lettersThen, checkedThen, callOf}
-use Rattle.engine.specs.Walks.{packBy, packIn, ByTable, Blank, Placed, DeskIs, callFor, foundBy, FoundIs}
+use Rattle.engine.specs.Calls.{kindKnown, settingsKnown, haveLanguages, typeOf, startSet, CallOutcome, refusedBy, key, unless, onPack, lettersThen, checkedThen, callOf}
+use Rattle.engine.specs.Contracts.{packBy, packIn, ByTable, Blank, ListsPlaced, DeskIs, callFor, foundBy, FoundIs}
 use Rattle.engine.specs.declared.call.Settings.{Settings}
 use Rattle.engine.specs.declared.call.Start.{Start}
 use Rattle.engine.specs.declared.call.Start.the-variants.{Guessed, Given}
@@ -46,6 +45,8 @@ use Rattle.engine.specs.declared.call.Desk.the-variants.{Open, Shut}
 use Rattle.engine.specs.declared.spelling.Named.{Named}
 use Rattle.engine.specs.declared.spelling.Named.the-variants.{Fine, Wrong}
 use Rattle.engine.specs.declared.spelling.Spelled.the-variants as spelled
+use Rattle.base.proofs.PickLaws.{pick-true, pick-false, and-inv, cases}
+use Rattle.languages.specs.Contracts.{BitsBelow}
 
 -- ---- which name is `any`
 
@@ -201,7 +202,7 @@ module _ (s t t′ : List ℕ) (r : Surveyed) (w : SurveyIs s t r t′) where
     lists-fit = record { fits = omega (arith, few) }
 
     -- the table with the lists' places, and nothing else
-    pub desk-placed : Blank t → Placed s t′ 0
+    pub desk-placed : Blank t → ListsPlaced s t′ 0
     desk-placed h =
         let room : length (placesOf s) ≤ length t = omega (arith, h .long, places-many, few) in
         record {
@@ -218,7 +219,7 @@ module _ (s t t′ : List ℕ) (r : Surveyed) (w : SurveyIs s t r t′) where
         record {
           is = found .is ∙ ap accepted same;
           languages-are = languages;
-          guesses-are = found .guesses ∙ ap (λ (x : Pack). 1 + textBytes (x .names)) same;
+          guesses-are = found .guesses ∙ ap (λ (x : Pack). 1 + stringsLength (x .names)) same;
           any-is = is-any ∙ ap (λ (x : Pack). namePlace any (x .names)) same;
           any-below = omega (arith, is-any, found .languages, any-held s (found .pack) (found .is));
           table = v;
@@ -250,7 +251,7 @@ module _ (name : Text) where
   unfolding lettersThen foundBy
   found-long h = record { is = λ rest. sym (pick-true _ _ _ (lt-ltb _ _ h)) }
 
-  letters-by : (x y : Found) → length name ≤ 96 → firstIll name ≡ x → firstOutside name ≡ y → (rest : Outcome) → unless NotUtf8 x (unless OutsideRange y rest) ≡ lettersThen name rest
+  letters-by : (x y : Found) → length name ≤ 96 → firstIll name ≡ x → firstOutside name ≡ y → (rest : CallOutcome) → unless NotUtf8 x (unless OutsideRange y rest) ≡ lettersThen name rest
   unfolding lettersThen
   letters-by x y h p q rest = sym (pick-false _ _ _ (le-ltb _ _ h) ∙ ap₂ (λ (f g : Found). unless NotUtf8 f (unless OutsideRange g rest)) p q)
 
@@ -281,7 +282,7 @@ pub ruleset found-laws = (found-long, found-ill, found-outside, found-none, foun
 
 -- ---- what that tells
 
-fine-by : (t u : Bool) (x : Outcome) → key [] false ≡ pick t (pick u (refusedBy NameTooLong 0) x) (refusedBy SettingUnknown 0) → (t ≡ true) × (u ≡ false)
+fine-by : (t u : Bool) (x : CallOutcome) → key [] false ≡ pick t (pick u (refusedBy NameTooLong 0) x) (refusedBy SettingUnknown 0) → (t ≡ true) × (u ≡ false)
 unfolding pick
 fine-by false u x e = clash (cc)
 fine-by true true x e = clash (cc)

@@ -8,13 +8,13 @@ use lib.Dec.{leb}
 use lib.ListN.{length, take, drop, length-drop}
 use lib.Seq.{take-all, length-sets}
 use borrow.Author.Tests.{eq-eqb, le-leb, lt-ltb}
-use Rattle.base.specs.Pick.{pick, and, pick-true, pick-false, pick-all, and-yes}
-use Rattle.languages.specs.Sets.{singleOf, BitsBelow}
+use Rattle.base.specs.Pick.{pick, and}
+use Rattle.languages.specs.Sets.{singleOf}
 use Rattle.languages.specs.declared.sets.LanguageSet.{LanguageSet}
 use Rattle.languages.specs.declared.sets.Single.{Single}
 use Rattle.languages.specs.declared.sets.Single.the-variants.{Language, NotSingle}
 use Rattle.languages.proofs.Laws.{single-below}
-use Rattle.name_parts.specs.Writing.{cap, Put}
+use Rattle.name_parts.specs.Contracts.{cap, Put}
 use Rattle.name_parts.specs.Words.{wordAt, wordsOf, oneWord}
 use Rattle.prefixes.specs.Prefixes.{splitOf}
 use Rattle.name_parts.specs.Joining.{joinedName, joinedWords}
@@ -23,9 +23,8 @@ use Rattle.prefixes.specs.declared.prefixes.NameType.the-variants.{Ashkenazi, G
 use Rattle.prefixes.specs.declared.prefixes.Prefix.{Prefix}
 use Rattle.prefixes.specs.declared.prefixes.Prefix.the-variants.{Parted, Whole}
 use Rattle.name_parts.proofs.Laws.{clash, split-within, rest-shorter, joined-shorter, joined-short, put-fits, put-long, slice-room}
-use Rattle.pack.specs.Packs.{listCount}
-use Rattle.pack.specs.Places.{textBytes}
-use Rattle.pack.specs.Guessing.{guessed, guessedAt}
+use Rattle.pack.specs.Packs.{listCount, stringsLength}
+use Rattle.pack.specs.Guessing.{guessed}
 use Rattle.pack.proofs.Laws.{languages-few, guesses-within, guess-told, guessed-below}
 use Rattle.choices.specs.Texts.{Text}
 use Rattle.refusals.specs.Numbers.{numberOf}
@@ -34,24 +33,27 @@ use Rattle.refusals.specs.declared.Refusal.the-variants.{TextTooLong, TooManyTe
 use Rattle.refusals.proofs.NumberLaws.{number-one}
 use Rattle.phoneme_builder.specs.Sets.{Spelling, refusal, texts}
 use Rattle.phoneme_builder.specs.Passes.{wordOf, joined}
-use Rattle.phoneme_builder.specs.Tables.{matcher, areLists}
-use Rattle.phoneme_builder.specs.Walks.{WordIs, placed, placedAs, areBuffers, spellings, answerOf, answered}
+use Rattle.phoneme_builder.specs.TableContracts.{matcher, areLists}
+use Rattle.phoneme_builder.specs.Contracts.{WordIs, placed, placedAs, areBuffers, spellingsIn, answerOf, answered}
 use Rattle.phoneme_builder.specs.declared.words.Worded.{Worded}
 use Rattle.phoneme_builder.specs.declared.words.Worded.the-variants.{Done, TooLong, TooMany, Unfit}
-use Rattle.engine.specs.Spelling.{bad, good, or, onePart, eachWord, partedAs, spelledName, afreshBy}
+use Rattle.engine.specs.Spelling.{unspelt, speltAs, or, onePart, eachWord, partedAs, spelledName, afreshBy}
 use Rattle.engine.specs.Calls.{languageBy, languageOf, speltBy, wordBy, stepsBy}
-use Rattle.engine.specs.Walks.{packIn, Ready, Scratch, afreshOf, stepsAt, startAt, listsOf, isGood, ToldBy, Told, wholeBy, ToldWhole, EndedIs, bothOf, HyphenAt}
+use Rattle.engine.specs.Contracts.{packIn, CallReady, Scratch, afreshOf, stepsAt, startAt, listNumbers, isSpelt, ToldBy, NameTold, wholeBy, ToldWhole, EndedIs, bothOf, HyphenAt}
 use Rattle.engine.proofs.SpellingLaws.{not-or, parted-split, name-parted, name-plain, name-words}
 use Rattle.engine.proofs.ToldLaws.{bad-told, both-told}
 use Rattle.engine.specs.declared.call.Call.{Call}
 use Rattle.engine.specs.declared.encode.Ends.{Ends}
 use Rattle.engine.specs.declared.encode.Lists.{Lists}
+use Rattle.base.proofs.PickLaws.{pick-true, pick-false, pick-all, and-yes}
+use Rattle.languages.specs.Contracts.{BitsBelow}
+use Rattle.pack.specs.Contracts.{guessedAt}
 
 -- ---- what a word's answer tells
 
 module _ {o o′ : List ℕ} {at : ℕ} {r : Ends} (room : length o < cap) where
-  whole-good : (t : Text) (f : Bool) → r .at ≡ min (at + length t) cap → r .flag ≡ f → r .fine ≡ true → o′ ≡ placed o at t → ToldWhole (good t f) o o′ at r
-  unfolding isGood ToldBy wholeBy placed
+  whole-good : (t : Text) (f : Bool) → r .at ≡ min (at + length t) cap → r .flag ≡ f → r .fine ≡ true → o′ ≡ placed o at t → ToldWhole (speltAs t f) o o′ at r
+  unfolding isSpelt ToldBy wholeBy placed
   whole-good t f ea ef ec eo = record {
     told = record {
       fine = ec;
@@ -68,16 +70,16 @@ module _ {o o′ : List ℕ} {at : ℕ} {r : Ends} (room : length o < cap) where
     whole = eo;
   }
 
-  whole-bad : (a why : Refusal) → numberOf a ≡ numberOf why → (r .fine ≡ false) × (r .why ≡ a) → o′ ≡ o → ToldWhole (bad why) o o′ at r
+  whole-bad : (a why : Refusal) → numberOf a ≡ numberOf why → (r .fine ≡ false) × (r .why ≡ a) → o′ ≡ o → ToldWhole (unspelt why) o o′ at r
   unfolding wholeBy
   whole-bad a why e w eo = record { told = bad-told (w .0) (w .1 ∙ number-one a why e); whole = eo }
 
   word-told : (x : Spelling) (answer : Worded) → answerOf answer ≡ answered x → o′ ≡ placedAs x o at → EndedIs answer at r → ToldWhole (speltBy x) o o′ at r
   unfolding answerOf answered placedAs EndedIs speltBy
   word-told (texts l flag) (Done n f) e b w =
-      let en : n ≡ length (joined (spellings l)) = cc in
+      let en : n ≡ length (joined (spellingsIn l)) = cc in
       let ef : f ≡ flag = cc in
-      whole-good (joined (spellings l)) flag (rw en at (w .0)) (w .1 ∙ ef) (w .2) b
+      whole-good (joined (spellingsIn l)) flag (rw en at (w .0)) (w .1 ∙ ef) (w .2) b
   word-told (texts l flag) TooLong e b w = clash (cc)
   word-told (texts l flag) TooMany e b w = clash (cc)
   word-told (texts l flag) Unfit e b w = clash (cc)
@@ -97,7 +99,7 @@ unfolding languageBy
 language-by n g (Language l) other e h k o = single-below n g l _ h k e refl
 language-by n g NotSingle other e h k o = o
 
-module _ (s places : List ℕ) (call : Call) (w : Ready s places call) where
+module _ (s places : List ℕ) (call : Call) (w : CallReady s places call) where
   few : call .languages ≤ 32
   few = omega (arith, w .desk .languages-are, languages-few s (packIn s) (call .guesses) (w .desk .is) (w .desk .guesses-are))
 
@@ -123,7 +125,7 @@ module _ (s places : List ℕ) (call : Call) (w : Ready s places call) where
       rw e (pick-all (BitsBelow (call .languages)) (call .fresh) _ _ guess (w .below))
 
   -- the same call for a name spelled afresh
-  pub ready-afresh : (again : Call) → again ≡ afreshOf call → Ready s places again
+  pub ready-afresh : (again : Call) → again ≡ afreshOf call → CallReady s places again
   unfolding afreshOf
   ready-afresh again e = rw e (record { desk = w .desk; few = w .few; known = w .known; below = w .below })
 
@@ -154,15 +156,15 @@ module _ (s places : List ℕ) (call : Call) (w : Ready s places call) where
       abbrev fitting : Lists → ℕ → ℕ → Bool
       fitting x a b = and (leb (call .limit) 256) (and (areBuffers a b 256) (areLists (length places) (x .main) (x .common) (x .own)))
 
-      word-is : stepsAt s call .word set word ≡ speltBy (spelled-word (listsOf call l))
-      unfolding stepsAt stepsBy wordBy listsOf
+      word-is : stepsAt s call .word set word ≡ speltBy (spelled-word (listNumbers call l))
+      unfolding stepsAt stepsBy wordBy listNumbers
       word-is =
-          let names : call .guesses - 1 ≡ textBytes (packIn s .names) = omega (arith, w .desk .guesses-are) in
+          let names : call .guesses - 1 ≡ stringsLength (packIn s .names) = omega (arith, w .desk .guesses-are) in
           let found = w .desk .table .found in
           rw (language-is, names, found (3 * l) main-in, found _ common-in, found _ own-in, w .desk .languages-are)
 
-      fits : (a b : ℕ) → Scratch a b → fitting (listsOf call l) a b ≡ true
-      unfolding areBuffers areLists listsOf
+      fits : (a b : ℕ) → Scratch a b → fitting (listNumbers call l) a b ≡ true
+      unfolding areBuffers areLists listNumbers
       fits a b x =
           and-yes _ _ (le-leb _ _ (w .few))
           (and-yes _ _
@@ -170,15 +172,15 @@ module _ (s places : List ℕ) (call : Call) (w : Ready s places call) where
           (and-yes _ _ (eq-eqb _ _ (w .desk .table .long))
           (and-yes _ _ (lt-ltb _ _ (few-lists main-in)) (and-yes _ _ (lt-ltb _ _ (few-lists common-in)) (lt-ltb _ _ (few-lists own-in))))))
 
-      pub one-told : {o o′ : List ℕ} {at : ℕ} {r : Ends} {answer : Worded} (lists : Lists) (a b : ℕ) → lists ≡ listsOf call l → Scratch a b → length o * 1 < cap
+      pub one-told : {o o′ : List ℕ} {at : ℕ} {r : Ends} {answer : Worded} (lists : Lists) (a b : ℕ) → lists ≡ listNumbers call l → Scratch a b → length o * 1 < cap
           → WordIs (and (leb (call .limit) 256) (and (areBuffers a b 256) (areLists (length places) (lists .main) (lists .common) (lists .own))))
           (wordOf (call .limit) (take (call .guesses - 1) (drop 1 s)) (matcher s places (lists .main)) (matcher s places (lists .common)) (matcher s places (lists .own)) set word)
           o o′ at answer
           → EndedIs answer at r → ToldWhole (stepsAt s call .word set word) o o′ at r
       one-told {o = o} lists a b e x room q ended =
           let fit = fits a b x in
-          let v : WordIs (fitting (listsOf call l) a b) (spelled-word (listsOf call l)) _ _ _ _ = rw e at q in
-          rw word-is (word-told (slice-room o room) (spelled-word (listsOf call l)) _ (v .result ∙ pick-true _ _ _ fit) (v .buffer ∙ pick-true _ _ _ fit) ended)
+          let v : WordIs (fitting (listNumbers call l) a b) (spelled-word (listNumbers call l)) _ _ _ _ = rw e at q in
+          rw word-is (word-told (slice-room o room) (spelled-word (listNumbers call l)) _ (v .result ∙ pick-true _ _ _ fit) (v .buffer ∙ pick-true _ _ _ fit) ended)
 
 -- ---- a name by its parts
 
@@ -215,26 +217,26 @@ module _ (s : List ℕ) (call : Call) where
 
   -- what a name spelled afresh tells
   pub afresh-told : {o o′ : List ℕ} {at : ℕ} {r : Ends} (again : Call) (t : Text) → again ≡ afreshOf call
-      → Told (spelledName (stepsAt s again) (startAt s again t) t) o o′ at r → Told (afreshBy (stepsAt s call) t) o o′ at r
+      → NameTold (spelledName (stepsAt s again) (startAt s again t) t) o o′ at r → NameTold (afreshBy (stepsAt s call) t) o o′ at r
   unfolding afreshOf stepsAt startAt afreshBy pick
   afresh-told again t e q = rw e at q
 
   module _ (name : Text) (x : Prefix) (e : x ≡ partedAs (call .kind) name) where
     module _ (keep skip : ℕ) (q : x ≡ Parted keep skip) where
       pub parted-told : (joined : Text) {o o₁ o₂ o₃ o₄ o₅ : List ℕ} {at p₁ p₂ end : ℕ} {a b r : Ends} → joined ≡ joinedName keep skip name
-          → Put o o₁ at p₁ (40 ∷ []) → Told (afreshBy (stepsAt s call) (take (length name - skip) (drop skip name))) o₁ o₂ p₁ a → Put o₂ o₃ (a .at) p₂ (41 ∷ 45 ∷ 40 ∷ [])
-          → Told (afreshBy (stepsAt s call) joined) o₃ o₄ p₂ b → Put o₄ o₅ (b .at) end (41 ∷ []) → r ≡ bothOf b a end
-          → Told (spelledName (stepsAt s call) (startAt s call name) name) o o₅ at r
+          → Put o o₁ at p₁ (40 ∷ []) → NameTold (afreshBy (stepsAt s call) (take (length name - skip) (drop skip name))) o₁ o₂ p₁ a → Put o₂ o₃ (a .at) p₂ (41 ∷ 45 ∷ 40 ∷ [])
+          → NameTold (afreshBy (stepsAt s call) joined) o₃ o₄ p₂ b → Put o₄ o₅ (b .at) end (41 ∷ []) → r ≡ bothOf b a end
+          → NameTold (spelledName (stepsAt s call) (startAt s call name) name) o o₅ at r
       unfolding stepsAt stepsBy
       parted-told joined ej left ta middle tb right h =
           rw (name-parted (stepsAt s call) (startAt s call name) name keep skip (sym e ∙ q), ← rest-is name skip, ← ej) (both-told _ _ left ta middle tb right h)
 
     module _ (q : x ≡ Whole) (t : Bool) (et : t ≡ pick (call .concat) true (oneWord name)) where
-      pub whole-plain : {o o′ : List ℕ} {at : ℕ} {r : Ends} → t ≡ true → ToldWhole (onePart (stepsAt s call) (startAt s call name) name) o o′ at r → Told (spelledName (stepsAt s call) (startAt s call name) name) o o′ at r
+      pub whole-plain : {o o′ : List ℕ} {at : ℕ} {r : Ends} → t ≡ true → ToldWhole (onePart (stepsAt s call) (startAt s call name) name) o o′ at r → NameTold (spelledName (stepsAt s call) (startAt s call name) name) o o′ at r
       unfolding stepsAt stepsBy
       whole-plain y w = rw (name-plain (stepsAt s call) (startAt s call name) name (sym e ∙ q) (sym et ∙ y)) (w .told)
 
-      pub whole-words : {o o′ : List ℕ} {at : ℕ} {r : Ends} → t ≡ false → Told (eachWord (afreshBy (stepsAt s call)) (wordsOf name)) o o′ at r → Told (spelledName (stepsAt s call) (startAt s call name) name) o o′ at r
+      pub whole-words : {o o′ : List ℕ} {at : ℕ} {r : Ends} → t ≡ false → NameTold (eachWord (afreshBy (stepsAt s call)) (wordsOf name)) o o′ at r → NameTold (spelledName (stepsAt s call) (startAt s call name) name) o o′ at r
       unfolding stepsAt stepsBy
       whole-words y w = rw (name-words (stepsAt s call) (startAt s call name) name (sym e ∙ q) (sym et ∙ y)) w
 

@@ -11,23 +11,23 @@ use lib.ListN.{length, getD, take, drop, set, length-set, length-append, length-
 use lib.Seq.{getD-set-same, getD-set-other, getD-take, getD-drop}
 use borrow.Author.Tests.{eqb-true, eqb-false, eq-eqb, ne-eqb, ltb-true, ltb-false}
 use lib.Dec.{ltb}
-use Rattle.base.specs.Pick.{pick, pick-true, pick-false, pick-all, and-first}
+use Rattle.base.specs.Pick.{pick}
 use Rattle.texts.specs.Parts.{prefixOf}
 use Rattle.rule.specs.Matching.{ruleMatches}
 use Rattle.choices.specs.Texts.{Text}
 use Rattle.pack.specs.Reading.{got}
-use Rattle.pack.specs.Packs.{Rule, readRule, listCount}
-use Rattle.pack.specs.Places.{textBytes, ruleAt, ruleCount, listAt}
+use Rattle.pack.specs.Packs.{Rule, readRule, listCount, stringsLength}
+use Rattle.pack.specs.PlaceContracts.{ruleStandsAt, ruleCount, listAt, readSome}
 use Rattle.pack.specs.declared.rules.RuleAt.{RuleAt}
 use Rattle.pack.specs.declared.rules.RuleAt.the-variants as rules
-use Rattle.pack.specs.Guessing.{readSome}
 use Rattle.pack.proofs.GuessLaws.{some-one}
 use Rattle.pack.proofs.RuleLaws.{RuleIs, rule-is}
 use Rattle.pack.proofs.Laws.{RulesAt, ListIs, held-pattern, held-good, held-rest, held-whole, rules-start, list-held, list-told, languages-few}
 use Rattle.phoneme_builder.specs.Passes.{Match, none, by, Matcher, firstMatch}
-use Rattle.phoneme_builder.specs.Tables.{tried, matcher}
-use Rattle.engine.specs.Calls.{listOf}
-use Rattle.engine.specs.Walks.{packIn, rowOf, ByTable, Placed, CanNote, notedIn, Indexed}
+use Rattle.phoneme_builder.specs.TableContracts.{tried, matcher}
+use Rattle.engine.specs.Calls.{listNumbered}
+use Rattle.engine.specs.Contracts.{packIn, rowOf, ByTable, ListsPlaced, CanNote, notedIn, Indexed}
+use Rattle.base.proofs.PickLaws.{pick-true, pick-false, pick-all, and-first}
 
 -- ---- a rule whose pattern begins with a byte of another kind does not match
 
@@ -219,15 +219,15 @@ pub record Indexing (s t₀ t : List ℕ) (k list count at i : ℕ) : Type 0 whe
   pub few : count ≤ 4096
   pub known : k < 98
 
-module _ {s t : List ℕ} {k : ℕ} (w : Placed s t k) (h : k < listCount (length (packIn s .names))) where
-  list-here : ListIs s (take (1 + textBytes (packIn s .names) - 1) (drop 1 s)) (getD t k 0) (getD (packIn s .lists) k [])
+module _ {s t : List ℕ} {k : ℕ} (w : ListsPlaced s t k) (h : k < listCount (length (packIn s .names))) where
+  list-here : ListIs s (take (1 + stringsLength (packIn s .names) - 1) (drop 1 s)) (getD t k 0) (getD (packIn s .lists) k [])
   list-here =
-      subst (λ (p : ℕ). ListIs s (take (1 + textBytes (packIn s .names) - 1) (drop 1 s)) p (getD (packIn s .lists) k [])) (sym (w .places k h))
-      (list-held s (packIn s) (1 + textBytes (packIn s .names)) (w .is) refl k h)
+      subst (λ (p : ℕ). ListIs s (take (1 + stringsLength (packIn s .names) - 1) (drop 1 s)) p (getD (packIn s .lists) k [])) (sym (w .places k h))
+      (list-held s (packIn s) (1 + stringsLength (packIn s .names)) (w .is) refl k h)
 
   list-known : k < 98
   unfolding listCount
-  list-known = omega (arith, h, languages-few s (packIn s) (1 + textBytes (packIn s .names)) (w .is) refl)
+  list-known = omega (arith, h, languages-few s (packIn s) (1 + stringsLength (packIn s .names)) (w .is) refl)
 
   pub list-within : getD t k 0 + 2 ≤ length s
   list-within = list-here .fits
@@ -256,7 +256,7 @@ next-by : (s names : List ℕ) (at i count : ℕ) (rest : List Rule) → i + len
 next-by s names at i count [] e h l = let no-way : ⊥ = omega (arith, e) in absurd no-way
 next-by s names at i count (r ∷ rs) e h l = next r rs (omega (arith, e)) l
 
-module _ {s t₀ t : List ℕ} {k list count at i : ℕ} (w : Indexing s t₀ t k list count at i) (h : i < count) (x : RuleAt) (o : x ≡ ruleAt s at) where
+module _ {s t₀ t : List ℕ} {k list count at i : ℕ} (w : Indexing s t₀ t k list count at i) (h : i < count) (x : RuleAt) (o : x ≡ ruleStandsAt s at) where
   cut-by : Next s (w .names) at i count → x ≡ rules.Cut → Indexed s t₀ t k
   cut-by (next r rs n l) q = absurd (held-whole s (w .names) at r rs x l o q)
 
@@ -334,16 +334,16 @@ module _ {s t₀ t : List ℕ} {k list count at i : ℕ} (w : Indexing s t₀ t 
 matchers-same : (f g : Matcher) → ((word : Text) (place : ℕ) → f word place ≡ g word place) → f ≡ g
 matchers-same f g h = λ z word place. h word place z
 
-module _ {s t : List ℕ} {k : ℕ} (w : Placed s t k) (h : k < listCount (length (packIn s .names))) {t′ : List ℕ} {count at i : ℕ} where
+module _ {s t : List ℕ} {k : ℕ} (w : ListsPlaced s t k) (h : k < listCount (length (packIn s .names))) {t′ : List ℕ} {count at i : ℕ} where
   module _ (v : Indexing s t t′ k (getD t k 0) count at i) (ec : count ≡ ruleCount s (getD t k 0)) (done : count ≤ i) where
-    whole-list : v .before ≡ listOf (packIn s) k
-    unfolding listOf
+    whole-list : v .before ≡ listNumbered (packIn s) k
+    unfolding listNumbered
     whole-list =
         sym (stand-read s (getD t k 0 + 2) at count (v .before) (v .stand) (omega (arith, v .counted, v .left)))
         ∙ sym (rules-start s (getD t k 0) count ec) ∙ ap (listAt s) (w .places k h)
-        ∙ list-told s (packIn s) (1 + textBytes (packIn s .names)) (w .is) refl k h
+        ∙ list-told s (packIn s) (1 + stringsLength (packIn s .names)) (w .is) refl k h
 
-    matched : (word : Text) (place : ℕ) → matcher s t′ k word place ≡ firstMatch (listOf (packIn s) k) word place
+    matched : (word : Text) (place : ℕ) → matcher s t′ k word place ≡ firstMatch (listNumbered (packIn s) k) word place
     unfolding matcher tried
     matched word place =
         sym (noted-found (v .kinds (getD word place 0 % 64) (omega arith)) .is word place refl) ∙ ap (λ (l : List Rule). firstMatch l word place) whole-list
@@ -356,12 +356,12 @@ pub ruleset index-laws = (indexing-start, indexing-cut, pattern-within, note-rea
 -- ---- the loop over the lists
 
 pub record Listing (s t : List ℕ) (k lists : ℕ) : Type 0 where
-  pub placed : Placed s t k
+  pub placed : ListsPlaced s t k
   pub found : ByTable s t k
   pub within : k ≤ lists
   pub counted : lists ≡ listCount (length (packIn s .names))
 
-pub listing-start : (s t : List ℕ) (lists : ℕ) → Placed s t 0 → lists ≡ listCount (length (packIn s .names)) → Listing s t 0 lists
+pub listing-start : (s t : List ℕ) (lists : ℕ) → ListsPlaced s t 0 → lists ≡ listCount (length (packIn s .names)) → Listing s t 0 lists
 listing-start s t lists w e = record {
   placed = w;
   found = record { long = w .long; found = λ k h. let no-way : ⊥ = omega arith in absurd no-way };
@@ -379,7 +379,7 @@ module _ {s t : List ℕ} {k lists : ℕ} (w : Listing s t k lists) where
 
     lists-few : listCount (length (packIn s .names)) ≤ 98
     unfolding listCount
-    lists-few = omega (arith, languages-few s (packIn s) (1 + textBytes (packIn s .names)) (w .placed .is) refl)
+    lists-few = omega (arith, languages-few s (packIn s) (1 + stringsLength (packIn s .names)) (w .placed .is) refl)
 
     pub listing-fits : k < 98
     listing-fits = list-known (w .placed) listing-next
@@ -390,7 +390,7 @@ module _ {s t : List ℕ} {k lists : ℕ} (w : Listing s t k lists) where
       row-kept j l b =
           rw (v .others (rowOf j + b % 64) (λ n. let no-way : ⊥ = omega (arith, n) in absurd no-way), v .others (rowOf j + b % 64 + 64) (λ n. let no-way : ⊥ = omega (arith, n) in absurd no-way))
 
-      found-by : (j : ℕ) → j < k + 1 → (z : Bool) → ltb j k ≡ z → matcher s t′ j ≡ firstMatch (listOf (packIn s) j)
+      found-by : (j : ℕ) → j < k + 1 → (z : Bool) → ltb j k ≡ z → matcher s t′ j ≡ firstMatch (listNumbered (packIn s) j)
       unfolding matcher
       found-by j l true z =
           matchers-same _ _ (λ word place. ap (λ (r : List Rule). firstMatch r word place) (row-kept j (ltb-true _ _ z) (getD word place 0))) ∙ w .found .found j (ltb-true _ _ z)

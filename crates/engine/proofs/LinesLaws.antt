@@ -12,14 +12,14 @@ use lib.Dec.{eqb, leb}
 use lib.ListN.{length, set, take, drop, length-append, length-take, length-drop, take-append-drop, length-set}
 use lib.Seq.{sets, set-comm, set-append-left, length-sets, drop-drop}
 use borrow.Author.Tests.{lt-ltb, le-ltb, le-leb, lt-leb, eq-eqb, ne-eqb, ltb-false, leb-true, leb-false}
-use Rattle.base.specs.Pick.{pick, and, pick-true, pick-false, pick-cong, pick-all, and-rest, and-none, and-no, and-first, and-inv}
+use Rattle.base.specs.Pick.{pick, and}
 use Rattle.base.proofs.One.{one}
 use Rattle.base.proofs.Stores.{sets-then}
 use Rattle.texts.specs.Parts.{placeOf, has}
 use Rattle.letters.specs.declared.utf8.Found.{Found}
 use Rattle.letters.specs.declared.utf8.Found.the-variants.{At, Nothing}
 use Rattle.languages.specs.declared.sets.LanguageSet.{LanguageSet}
-use Rattle.name_parts.specs.Writing.{Put}
+use Rattle.name_parts.specs.Contracts.{Put}
 use Rattle.name_parts.proofs.Laws.{clash, slice-room, put-then, put-long}
 use Rattle.prefixes.specs.declared.prefixes.Prefix.{Prefix}
 use Rattle.prefixes.specs.declared.prefixes.Prefix.the-variants.{Parted, Whole}
@@ -31,10 +31,10 @@ use Rattle.refusals.specs.declared.Refusal.{Refusal}
 use Rattle.refusals.specs.declared.Refusal.the-variants.{NotUtf8, OutsideRange, NoRoom}
 use Rattle.phoneme_builder.specs.Sets.{Spelling, refusal, texts, united}
 use Rattle.phoneme_builder.specs.Passes.{Matcher, Ran, tooLong, ran, raised, onRan, finalText, finalFrom, finalPass, then, mainOf, wordOf}
-use Rattle.engine.specs.Spelling.{Spelt, bad, good, Steps, both, hyphened, andWords, eachWord, onePart, byWords, byPrefix, nameBy, nameFrom, spelledName}
-use Rattle.engine.specs.Calls.{speltBy, wordBy, stepsBy, stepsOf, spelledBy, Outcome, refusedBy, key, outcomeOf, unless, onPack, lettersThen, checkedThen, callOf, toldOf, filledBy, SpellIs, refusedAs, numbersOf}
-use Rattle.engine.specs.Lines.{decimalBy, decimal, flagDigit, answerLine, refusalLine, wholeLine, most, holds, needed, lineOf, lineFor, linesFrom, wholeLines, Taken, andTaken, noneTaken, takeLines, taken, BlockNumbers, blockNumbers, took, noRoom, numbersBy, blockBy, LinesIs}
-use Rattle.engine.specs.Fitting.{LineAt, headOf, lineLength, DoneIs, placeTold, refusedLine, lengthTold, lengthNeeded, waitsFor, RefusedIs, stoppedAt}
+use Rattle.engine.specs.Spelling.{Spelt, unspelt, speltAs, Steps, both, hyphened, andWords, eachWord, onePart, byWords, byPrefix, nameBy, nameFrom, spelledName}
+use Rattle.engine.specs.Calls.{speltBy, wordBy, stepsBy, stepsOf, spelledBy, CallOutcome, refusedBy, key, outcomeOf, unless, onPack, lettersThen, checkedThen, callOf, filledBy, SpellIs, refusedAs, spelledNumbers}
+use Rattle.engine.specs.Lines.{decimalBy, decimal, flagDigit, answerLine, refusalLine, wholeLine, most, holdsLine, needed, lineWith, lineFor, linesFrom, wholeLines, Taken, andTaken, noneTaken, takeLines, taken, BlockNumbers, blockNumbers, took, noRoom, numbersBy, blockBy, LinesIs}
+use Rattle.engine.specs.LineContracts.{LineAt, headOf, lineLength, DoneIs, placeTold, refusedLine, lengthTold, lengthNeeded, waitsFor, RefusedIs, stoppedAt}
 use Rattle.engine.proofs.NumberLaws.{told-is}
 use Rattle.engine.proofs.EncodeLaws.{rest-is}
 use Rattle.engine.specs.declared.call.Settings.{Settings}
@@ -45,6 +45,8 @@ use Rattle.engine.specs.declared.lines.Fit.{Fit}
 use Rattle.engine.specs.declared.lines.Fit.the-variants.{Behind, Over}
 use Rattle.engine.specs.declared.spelling.Spelled.{Spelled}
 use Rattle.engine.specs.declared.spelling.Spelled.the-variants.{Done, Refused}
+use Rattle.base.proofs.PickLaws.{pick-true, pick-false, pick-cong, pick-all, and-rest, and-none, and-no, and-first, and-inv}
+use Rattle.engine.specs.Contracts.{toldOf}
 
 -- ---- the promise
 
@@ -57,7 +59,7 @@ block-one (lines.NoRoom n) (lines.NoRoom m) e = ap lines.NoRoom (ap (λ (x : Blo
 block-one (lines.Done read written) (lines.NoRoom n) e = clash (omega (arith, ap (λ (x : BlockNumbers). x .code) e))
 block-one (lines.NoRoom n) (lines.Done read written) e = clash (omega (arith, ap (λ (x : BlockNumbers). x .code) e))
 
-pub lines-one : {call : Text → Outcome} {block out : List ℕ} {r s : Lines} {o p : List ℕ} → LinesIs call block out r o → LinesIs call block out s p → (r ≡ s) × (o ≡ p)
+pub lines-one : {call : Text → CallOutcome} {block out : List ℕ} {r s : Lines} {o p : List ℕ} → LinesIs call block out r o → LinesIs call block out s p → (r ≡ s) × (o ≡ p)
 lines-one x y = (block-one _ _ (one (x .result) (y .result)), one (x .buffer) (y .buffer))
 
 -- the first line of a text, and what is taken of it
@@ -112,16 +114,16 @@ unfolding pick
 took-first true x n e = refl
 took-first false x n e = clash (omega (arith, e))
 
-took-by : (call : Text → Outcome) (size : ℕ) (names : List Text) (t : Taken) → numbersBy call size names t .code ≡ 0 → numbersBy call size names t ≡ took t
+took-by : (call : Text → CallOutcome) (size : ℕ) (names : List Text) (t : Taken) → numbersBy call size names t .code ≡ 0 → numbersBy call size names t ≡ took t
 unfolding numbersBy
 took-by call size [] t e = refl
 took-by call size (name ∷ names) t e = took-first _ _ _ e
 
-pub blocked-took : (call : Text → Outcome) (block : List ℕ) (size : ℕ) → blockBy call block size .code ≡ 0 → blockBy call block size ≡ took (taken call block size)
+pub blocked-took : (call : Text → CallOutcome) (block : List ℕ) (size : ℕ) → blockBy call block size .code ≡ 0 → blockBy call block size ≡ took (taken call block size)
 unfolding blockBy
 blocked-took call block size e = took-by call size (wholeLines block) (taken call block size) e
 
-module _ {call : Text → Outcome} {block out o : List ℕ} {read written : ℕ} (x : LinesIs call block out (lines.Done read written) o) where
+module _ {call : Text → CallOutcome} {block out o : List ℕ} {read written : ℕ} (x : LinesIs call block out (lines.Done read written) o) where
   taken-is : blockNumbers (lines.Done read written) ≡ took (taken call block (length out))
   unfolding blockNumbers
   taken-is = x .result ∙ blocked-took call block (length out) (sym (ap (λ (n : BlockNumbers). n .code) (x .result)))
@@ -265,13 +267,13 @@ sets-none : (vs l : List ℕ) (i : ℕ) → length vs ≡ 0 → sets l i vs ≡ 
 sets-none [] l i h = refl
 sets-none (v ∷ vs) l i h = absurd (omega arith)
 
-pub answer-long : (written : ℕ) (flag : Bool) (t : Text) → length (answerLine (numbersOf (Done written flag)) t) ≡ 5 + length t
-unfolding answerLine numbersOf decimal decimalBy
+pub answer-long : (written : ℕ) (flag : Bool) (t : Text) → length (answerLine (spelledNumbers (Done written flag)) t) ≡ 5 + length t
+unfolding answerLine spelledNumbers decimal decimalBy
 answer-long written flag t = omega (arith, length-append t (10 ∷ []))
 
 answer-stands : (o : List ℕ) (at written : ℕ) (flag : Bool) (t : Text)
-    → sets (sets (sets o (at + 4) t) at (headOf flag)) (at + 4 + length t) (10 ∷ []) ≡ sets o at (answerLine (numbersOf (Done written flag)) t)
-unfolding answerLine numbersOf decimal decimalBy headOf
+    → sets (sets (sets o (at + 4) t) at (headOf flag)) (at + 4 + length t) (10 ∷ []) ≡ sets o at (answerLine (spelledNumbers (Done written flag)) t)
+unfolding answerLine spelledNumbers decimal decimalBy headOf
 answer-stands o at written flag t =
     ap (λ (l : List ℕ). sets l (at + 4 + length t) (10 ∷ [])) (sets-apart (headOf flag) t o at (at + 4) (omega arith))
     ∙ sets-then (sets o at (headOf flag)) (at + 4) t (10 ∷ [])
@@ -306,28 +308,28 @@ unfolding pick
 filled-by a k o t true l e = sets-part a k o t (leb-true _ _ e) l
 filled-by a k o t false l e = back-same a k o
 
-filled-long : (x : Outcome) (o : List ℕ) → length (filledBy x o) ≡ length o
+filled-long : (x : CallOutcome) (o : List ℕ) → length (filledBy x o) ≡ length o
 unfolding filledBy
 filled-long (refusedBy code place) o = refl
 filled-long (key t f) o = pick-all (λ (l : List ℕ). length l ≡ length o) _ _ _ (length-sets o 0 t) refl
 
 -- a call's answer in a part of a buffer
-unfoldable partFilled : Outcome → ℕ → ℕ → List ℕ → List ℕ
+unfoldable partFilled : CallOutcome → ℕ → ℕ → List ℕ → List ℕ
 partFilled (refusedBy k place) a space out = out
 partFilled (key t f) a space out = pick (leb (length t) space) (sets out a t) out
 
-record PartIs (x : Outcome) (a space : ℕ) (out : List ℕ) (r : Spelled) (out′ : List ℕ) : Type 0 where
+record PartIs (x : CallOutcome) (a space : ℕ) (out : List ℕ) (r : Spelled) (out′ : List ℕ) : Type 0 where
   result : r ≡ toldOf x space
   buffer : out′ ≡ partFilled x a space out
 
-part-filled : (x : Outcome) (a k : ℕ) (o : List ℕ) → a + k ≤ length o → take a o ++ (filledBy x (take k (drop a o)) ++ drop k (drop a o)) ≡ partFilled x a k o
+part-filled : (x : CallOutcome) (a k : ℕ) (o : List ℕ) → a + k ≤ length o → take a o ++ (filledBy x (take k (drop a o)) ++ drop k (drop a o)) ≡ partFilled x a k o
 unfolding filledBy partFilled
 part-filled (refusedBy code place) a k o l = back-same a k o
 part-filled (key t f) a k o l =
     let long : length (take k (drop a o)) ≡ k = omega (arith, length-take k (drop a o), length-drop a o) in
     ap (λ (n : ℕ). take a o ++ (pick (leb (length t) n) (sets (take k (drop a o)) 0 t) (take k (drop a o)) ++ drop k (drop a o))) long ∙ filled-by a k o t _ l refl
 
-part-back : (x : Outcome) (a e : ℕ) (o : List ℕ) (r : Spelled) (m : List ℕ) → (a ≤ e) × (e ≤ length o)
+part-back : (x : CallOutcome) (a e : ℕ) (o : List ℕ) (r : Spelled) (m : List ℕ) → (a ≤ e) × (e ≤ length o)
     → SpellIs x (take (e - a) (drop a o)) r m → PartIs x a (e - a) o r (take a o ++ (m ++ drop (e - a) (drop a o)))
 part-back x a e o r m h p = record {
   result = told-is p ∙ ap (toldOf x) (omega (arith, h .0, h .1, length-take (e - a) (drop a o), length-drop a o));
@@ -372,8 +374,8 @@ main-below tooLong = omega arith
 main-below (ran l flag) = tt
 
 unfoldable NameBelow : Spelt → Type 0
-NameBelow (bad k) = numberOf k < 9
-NameBelow (good t f) = Unit {0}
+NameBelow (unspelt k) = numberOf k < 9
+NameBelow (speltAs t f) = Unit {0}
 
 answer-below : (s : Spelling) → WordBelow s → NameBelow (speltBy s)
 unfolding WordBelow NameBelow speltBy
@@ -382,16 +384,16 @@ answer-below (texts l f) h = tt
 
 both-below : (x y : Spelt) → NameBelow x → NameBelow y → NameBelow (both x y)
 unfolding NameBelow both
-both-below (good t f) (good u g) h k = tt
-both-below (good t f) (bad j) h k = k
-both-below (bad i) (good u g) h k = h
-both-below (bad i) (bad j) h k = k
+both-below (speltAs t f) (speltAs u g) h k = tt
+both-below (speltAs t f) (unspelt j) h k = k
+both-below (unspelt i) (speltAs u g) h k = h
+both-below (unspelt i) (unspelt j) h k = k
 
 hyphened-below : (x y : Spelt) → NameBelow x → NameBelow y → NameBelow (hyphened x y)
 unfolding NameBelow hyphened
-hyphened-below (good t f) (good u g) h k = tt
-hyphened-below (good t f) (bad j) h k = k
-hyphened-below (bad i) y h k = h
+hyphened-below (speltAs t f) (speltAs u g) h k = tt
+hyphened-below (speltAs t f) (unspelt j) h k = k
+hyphened-below (unspelt i) y h k = h
 
 module _ (afresh : Text → Spelt) (low : (t : Text) → NameBelow (afresh t)) where
   and-below : (x : Spelt) (ws : List Text) → NameBelow x → NameBelow (andWords afresh x ws)
@@ -416,16 +418,16 @@ name-below (suc n) c low g s =
     let again : (t : Text) → NameBelow (nameFrom n c (c .guess t) t) = λ t. name-below n c low (c .guess t) t in
     prefix-below _ again _ s _ (pick-all NameBelow _ _ _ (pick-all NameBelow _ _ _ (low g _) (low g _)) (each-below _ again _))
 
-unfoldable pub Below : Outcome → Type 0
+unfoldable pub Below : CallOutcome → Type 0
 Below (refusedBy k place) = numberOf k < 9
 Below (key t f) = Unit {0}
 
 outcome-below : (x : Spelt) → NameBelow x → Below (outcomeOf x)
 unfolding NameBelow Below outcomeOf
-outcome-below (bad k) h = h
-outcome-below (good t f) h = h
+outcome-below (unspelt k) h = h
+outcome-below (speltAs t f) h = h
 
-unless-below : (why : Refusal) (at : Found) (rest : Outcome) → numberOf why < 9 → Below rest → Below (unless why at rest)
+unless-below : (why : Refusal) (at : Found) (rest : CallOutcome) → numberOf why < 9 → Below rest → Below (unless why at rest)
 unfolding Below unless
 unless-below why (At place) rest h k = h
 unless-below why Nothing rest h k = k
@@ -444,35 +446,35 @@ call-below c start s name =
 -- ---- the line of a name
 
 -- what a line is by what the call came to
-pub line-answer : (size : ℕ) (t : Text) (f : Bool) → length t + 5 ≤ min size most → lineOf size (key t f) ≡ answerLine (numbersOf (Done (length t) f)) t
-unfolding lineOf wholeLine holds
-line-answer size t f h = pick-true _ _ _ (le-leb (length (answerLine (numbersOf (Done (length t) f)) t)) (min size most) (omega (arith, answer-long (length t) f t)))
+pub line-answer : (size : ℕ) (t : Text) (f : Bool) → length t + 5 ≤ min size most → lineWith size (key t f) ≡ answerLine (spelledNumbers (Done (length t) f)) t
+unfolding lineWith wholeLine holdsLine
+line-answer size t f h = pick-true _ _ _ (le-leb (length (answerLine (spelledNumbers (Done (length t) f)) t)) (min size most) (omega (arith, answer-long (length t) f t)))
 
 pub needed-answer : (t : Text) (f : Bool) → needed (key t f) ≡ lineLength (length t)
 unfolding needed wholeLine
 needed-answer t f = omega (arith, answer-long (length t) f t)
 
-pub line-long : (size : ℕ) (t : Text) (f : Bool) → min size most < length t + 5 → lineOf size (key t f) ≡ refusalLine (refusedAs 9 (lineLength (length t)))
-unfolding lineOf wholeLine holds numbersOf numberOf
-line-long size t f h = pick-false _ _ _ (lt-leb (length (answerLine (numbersOf (Done (length t) f)) t)) (min size most) (omega (arith, answer-long (length t) f t))) ∙ ap (λ (n : ℕ). refusalLine (refusedAs 9 n)) (needed-answer t f)
+pub line-long : (size : ℕ) (t : Text) (f : Bool) → min size most < length t + 5 → lineWith size (key t f) ≡ refusalLine (refusedAs 9 (lineLength (length t)))
+unfolding lineWith wholeLine holdsLine spelledNumbers numberOf
+line-long size t f h = pick-false _ _ _ (lt-leb (length (answerLine (spelledNumbers (Done (length t) f)) t)) (min size most) (omega (arith, answer-long (length t) f t))) ∙ ap (λ (n : ℕ). refusalLine (refusedAs 9 n)) (needed-answer t f)
 
-pub line-other : (size : ℕ) (why : Refusal) (place : ℕ) → lineOf size (refusedBy why place) ≡ refusalLine (refusedAs (numberOf why) place)
-unfolding lineOf wholeLine numbersOf
+pub line-other : (size : ℕ) (why : Refusal) (place : ℕ) → lineWith size (refusedBy why place) ≡ refusalLine (refusedAs (numberOf why) place)
+unfolding lineWith wholeLine spelledNumbers
 line-other size why place = refl
 
 pub needed-refusal : (why : Refusal) (place : ℕ) → needed (refusedBy why place) ≡ min (length (refusalLine (refusedAs (numberOf why) place))) most
-unfolding needed wholeLine numbersOf
+unfolding needed wholeLine spelledNumbers
 needed-refusal why place = refl
 
 -- what an answer in the part tells of the call
-record Answered (x : Outcome) (a space : ℕ) (o o₁ : List ℕ) (written : ℕ) (flag : Bool) : Type 0 where
+record Answered (x : CallOutcome) (a space : ℕ) (o o₁ : List ℕ) (written : ℕ) (flag : Bool) : Type 0 where
   text : Text
   is : x ≡ key text flag
   long : length text ≡ written
   room-is : written ≤ space
   stands : o₁ ≡ sets o a text
 
-record Long (x : Outcome) (space : ℕ) (o o₁ : List ℕ) (code place : ℕ) : Type 0 where
+record Long (x : CallOutcome) (space : ℕ) (o o₁ : List ℕ) (code place : ℕ) : Type 0 where
   text : Text
   flag : Bool
   is : x ≡ key text flag
@@ -481,7 +483,7 @@ record Long (x : Outcome) (space : ℕ) (o o₁ : List ℕ) (code place : ℕ) :
   over : space < length text
   same : o₁ ≡ o
 
-record Other (x : Outcome) (o o₁ : List ℕ) (why : Refusal) (place : ℕ) : Type 0 where
+record Other (x : CallOutcome) (o o₁ : List ℕ) (why : Refusal) (place : ℕ) : Type 0 where
   is : x ≡ refusedBy why place
   low : numberOf why < 9
   same : o₁ ≡ o
@@ -494,7 +496,7 @@ answered-by t f a space o o₁ written flag true e p q =
     record { text = t; is = cc; long = long; room-is = omega (arith, leb-true (length t) space e); stands = q }
 answered-by t f a space o o₁ written flag false e p q = clash (cc)
 
-answered-of : (x : Outcome) (a space : ℕ) (o o₁ : List ℕ) (r : Spelled) (written : ℕ) (flag : Bool) → PartIs x a space o r o₁ → r ≡ Done written flag → Answered x a space o o₁ written flag
+answered-of : (x : CallOutcome) (a space : ℕ) (o o₁ : List ℕ) (r : Spelled) (written : ℕ) (flag : Bool) → PartIs x a space o r o₁ → r ≡ Done written flag → Answered x a space o o₁ written flag
 unfolding toldOf partFilled
 answered-of (refusedBy k place) a space o o₁ r written flag p e = let no : Done written flag ≡ Refused k place = sym e ∙ p .result in clash (cc)
 answered-of (key t f) a space o o₁ r written flag p e = answered-by t f a space o o₁ written flag _ refl (sym e ∙ p .result) (p .buffer)
@@ -507,7 +509,7 @@ long-by t f a space o o₁ why place false e p q =
     let why-is : why ≡ NoRoom = cc in
     record { text = t; flag = f; is = refl; code-is = ap numberOf why-is; place-is = cc; over = leb-false _ _ e; same = q }
 
-refused-of : (x : Outcome) (a space : ℕ) (o o₁ : List ℕ) (r : Spelled) (why : Refusal) (place : ℕ) → Below x → PartIs x a space o r o₁ → r ≡ Refused why place
+refused-of : (x : CallOutcome) (a space : ℕ) (o o₁ : List ℕ) (r : Spelled) (why : Refusal) (place : ℕ) → Below x → PartIs x a space o r o₁ → r ≡ Refused why place
     → Long x space o o₁ (numberOf why) place ⊎ Other x o o₁ why place
 unfolding Below toldOf partFilled
 refused-of (refusedBy k at) a space o o₁ r why place l p e =
@@ -528,17 +530,17 @@ module _ {o : List ℕ} {at size a e : ℕ} (w : Lent o at size a e) where
   lent-space = omega (arith, w .within, w .front-is, w .end-is)
 
   -- an answer whose line has room in the whole buffer
-  line-room : (x : Outcome) (t : Text) (f : Bool) → x ≡ key t f → length t + 5 ≤ size → lineOf (length o) x ≡ answerLine (numbersOf (Done (length t) f)) t
-  line-room x t f p h = ap (lineOf (length o)) p ∙ line-answer (length o) t f (omega (arith, w .size-is))
+  line-room : (x : CallOutcome) (t : Text) (f : Bool) → x ≡ key t f → length t + 5 ≤ size → lineWith (length o) x ≡ answerLine (spelledNumbers (Done (length t) f)) t
+  line-room x t f p h = ap (lineWith (length o)) p ∙ line-answer (length o) t f (omega (arith, w .size-is))
 
-  line-nine : {x : Outcome} (t : Text) (f : Bool) (place : ℕ) → x ≡ key t f → min (length o) most < length t + 5 → lineLength place ≡ lineLength (length t) → lineOf (length o) x ≡ refusedLine 9 place
+  line-nine : {x : CallOutcome} (t : Text) (f : Bool) (place : ℕ) → x ≡ key t f → min (length o) most < length t + 5 → lineLength place ≡ lineLength (length t) → lineWith (length o) x ≡ refusedLine 9 place
   unfolding refusedLine
-  line-nine t f place p over q = ap (lineOf (length o)) p ∙ line-long (length o) t f over ∙ ap (λ (n : ℕ). refusalLine (refusedAs 9 n)) (sym (told-nine place ∙ q))
+  line-nine t f place p over q = ap (lineWith (length o)) p ∙ line-long (length o) t f over ∙ ap (λ (n : ℕ). refusalLine (refusedAs 9 n)) (sym (told-nine place ∙ q))
 
-  module _ {x : Outcome} {o₁ o₂ : List ℕ} {r : Fit} where
+  module _ {x : CallOutcome} {o₁ o₂ : List ℕ} {r : Fit} where
     -- an answer that has no room here: its line waits, or is that of 9
     line-long-by : {place : ℕ} (t : Text) (f b : Bool) → waitsFor 9 place size ≡ b → x ≡ key t f → place ≡ min (length t) most → size - at < length t + 5 → o₁ ≡ o → RefusedIs 9 place size o₁ o₂ at r
-        → LineAt (lineOf (length o) x) (needed x) size o o₂ at r
+        → LineAt (lineWith (length o) x) (needed x) size o o₂ at r
     unfolding waitsFor and
     line-long-by {place} t f true h p q over same d =
         let small : place + 5 ≤ size = leb-true _ _ (and-inv (eqb 9 9) (leb (place + 5) size) h .1) in
@@ -552,10 +554,10 @@ module _ {o : List ℕ} {at size a e : ℕ} (w : Lent o at size a e) where
         let large : size < place + 5 = leb-false _ _ h in
         let length-is : lineLength place ≡ lineLength (length t) = omega (arith, q) in
         let told : lengthNeeded 9 place ≡ needed x = needed-nine place ∙ length-is ∙ sym (ap needed p ∙ needed-answer t f) in
-        let line-is : lineOf (length o) x ≡ refusedLine 9 place = line-nine t f place p (omega (arith, w .size-is, large, q)) length-is in
+        let line-is : lineWith (length o) x ≡ refusedLine 9 place = line-nine t f place p (omega (arith, w .size-is, large, q)) length-is in
         rw (line-is, ← told, ← same) (d .line h)
 
-    line-done : {written : ℕ} {flag : Bool} → Answered x a (e - a) o o₁ written flag → DoneIs written flag size o₁ o₂ at r → LineAt (lineOf (length o) x) (needed x) size o o₂ at r
+    line-done : {written : ℕ} {flag : Bool} → Answered x a (e - a) o o₁ written flag → DoneIs written flag size o₁ o₂ at r → LineAt (lineWith (length o) x) (needed x) size o o₂ at r
     line-done {written} {flag} p d = elim (decLe (written + 5) (size - at)) [
       | yes here ↦
           let long = answer-long (length (p .text)) flag (p .text) in
@@ -576,14 +578,14 @@ module _ {o : List ℕ} {at size a e : ℕ} (w : Lent o at size a e) where
     ]
 
     line-refused : (why : Refusal) {place : ℕ} → Long x (e - a) o o₁ (numberOf why) place ⊎ Other x o o₁ why place → RefusedIs (numberOf why) place size o₁ o₂ at r
-        → LineAt (lineOf (length o) x) (needed x) size o o₂ at r
+        → LineAt (lineWith (length o) x) (needed x) size o o₂ at r
     unfolding waitsFor
     line-refused why {place} (inl p) d =
         line-long-by (p .text) (p .flag) _ refl (p .is) (p .place-is) (omega (arith, lent-space, p .over)) (p .same) (rw (p .code-is) at d)
     line-refused why {place} (inr p) d =
         let other : numberOf why ≡ 9 → ⊥ = λ z. omega (arith, p .low) in
-        let line-is : lineOf (length o) x ≡ refusedLine (numberOf why) place =
-        ap (lineOf (length o)) (p .is) ∙ line-other (length o) why place ∙ sym (line-told (numberOf why) place other) in
+        let line-is : lineWith (length o) x ≡ refusedLine (numberOf why) place =
+        ap (lineWith (length o)) (p .is) ∙ line-other (length o) why place ∙ sym (line-told (numberOf why) place other) in
         let told : lengthNeeded (numberOf why) place ≡ needed x = needed-other (numberOf why) place other ∙ sym (ap needed (p .is) ∙ needed-refusal why place) in
         rw (line-is, ← told, ← p .same) (d .line (and-first _ _ (ne-eqb (numberOf why) 9 other)))
 
@@ -597,11 +599,11 @@ module _ (o : List ℕ) (at size a e : ℕ) (h : (at ≤ size) × (size ≡ min 
   lent : Lent o at size a e
   lent = record { within = h .0; size-is = h .1; front-is = f; end-is = g }
 
-  pub lent-long : {x : Outcome} {r : Spelled} {m : List ℕ} → SpellIs x (take (e - a) (drop a o)) r m → length (take a o ++ (m ++ drop (e - a) (drop a o))) ≡ length o
+  pub lent-long : {x : CallOutcome} {r : Spelled} {m : List ℕ} → SpellIs x (take (e - a) (drop a o)) r m → length (take a o ++ (m ++ drop (e - a) (drop a o))) ≡ length o
   lent-long {x} {r} {m} p =
       alike-long (take a o) m (take (e - a) (drop a o)) (drop (e - a) (drop a o)) (ap length (p .buffer) ∙ filled-long x (take (e - a) (drop a o))) ∙ ap length (back-same a (e - a) o)
 
-  module _ (call : Text → Outcome) (name : Text) (m o₂ : List ℕ) (r : Spelled) (next : Fit) (low : Below (call name)) (p : SpellIs (call name) (take (e - a) (drop a o)) r m) where
+  module _ (call : Text → CallOutcome) (name : Text) (m o₂ : List ℕ) (r : Spelled) (next : Fit) (low : Below (call name)) (p : SpellIs (call name) (take (e - a) (drop a o)) r m) where
     abbrev o₁ : List ℕ
     o₁ = take a o ++ (m ++ drop (e - a) (drop a o))
 
@@ -623,19 +625,19 @@ refusal-some : (code place : ℕ) → 0 < length (refusalLine (refusedAs code pl
 unfolding refusalLine
 refusal-some code place = omega (arith, length-append (decimal code) ((32 ∷ []) ++ (decimal place ++ 10 ∷ [])))
 
-line-some : (size : ℕ) (x : Outcome) → 0 < length (lineOf size x)
+line-some : (size : ℕ) (x : CallOutcome) → 0 < length (lineWith size x)
 line-some size (refusedBy why place) = rw (line-other size why place) (refusal-some (numberOf why) place)
 line-some size (key t f) = elim (decLe (length t + 5) (min size most)) [
   | yes h ↦ rw (line-answer size t f h) (omega (arith, answer-long (length t) f t))
   | no h ↦ rw (line-long size t f (omega arith)) (refusal-some 9 (lineLength (length t)))
 ]
 
-took-none : (call : Text → Outcome) (size : ℕ) (names : List Text) (t : Taken) → names ≡ [] → numbersBy call size names t ≡ took t
+took-none : (call : Text → CallOutcome) (size : ℕ) (names : List Text) (t : Taken) → names ≡ [] → numbersBy call size names t ≡ took t
 unfolding numbersBy
 took-none call size names t e = ap (λ (ns : List Text). numbersBy call size ns t) e
 
 -- what is read and written so far, and what is left to take
-pub record Going (call : Text → Outcome) (block o₀ o : List ℕ) (size read written : ℕ) : Type 0 where
+pub record Going (call : Text → CallOutcome) (block o₀ o : List ℕ) (size read written : ℕ) : Type 0 where
   pub fuel : ℕ
   pub enough : length block - read ≤ fuel
   pub read-in : read ≤ length block
@@ -656,7 +658,7 @@ and-twice : (n m : ℕ) (t u : Text) (x : Taken) → andTaken n t (andTaken m u 
 unfolding andTaken
 and-twice n m t u x = ap₂ (λ (k : ℕ) (v : Text). record { read = k; text = v }) (omega arith) (sym (append-assoc t u (x .text)))
 
-pub going-start : (call : Text → Outcome) (block o : List ℕ) (size : ℕ) → size ≡ min (length o) most → Going call block o o size 0 0
+pub going-start : (call : Text → CallOutcome) (block o : List ℕ) (size : ℕ) → size ≡ min (length o) most → Going call block o o size 0 0
 unfolding taken wholeLines
 going-start call block o size e = record {
   fuel = length block;
@@ -672,7 +674,7 @@ going-start call block o size e = record {
   later = λ z. absurd (z refl);
 }
 
-module _ {call : Text → Outcome} {block o₀ o : List ℕ} {size read written : ℕ} (w : Going call block o₀ o size read written) where
+module _ {call : Text → CallOutcome} {block o₀ o : List ℕ} {size read written : ℕ} (w : Going call block o₀ o size read written) where
   pub going-in : read ≤ length block
   going-in = w .read-in
 
@@ -749,7 +751,7 @@ module _ {call : Text → Outcome} {block o₀ o : List ℕ} {size read written 
     -- whether the buffer holds the first line
     first-by : (b : Bool) → written ≡ 0 → leb (length line) size ≡ b
         → blockBy call block (length o₀) ≡ pick b (took (taken call block (length o₀))) (noRoom (needed (call name)))
-    unfolding blockBy numbersBy holds
+    unfolding blockBy numbersBy holdsLine
     first-by b z k =
         ap (λ (ns : List Text). numbersBy call (length o₀) ns (taken call block (length o₀))) (sym (w .first z) ∙ names-are)
         ∙ ap (λ (t : Bool). pick t (took (taken call block (length o₀))) (noRoom (needed (call name)))) (ap (leb (length line)) (sym (w .size-is)) ∙ k)

@@ -7,7 +7,7 @@ use native.Mathlib.Omega.{arith}
 use lib.ListN.{length, take, drop}
 use Rattle.base.specs.Pick.{pick}
 use Rattle.choices.specs.Texts.{Text}
-use Rattle.name_parts.specs.Writing.{cap, Put}
+use Rattle.name_parts.specs.Contracts.{cap, Put}
 use Rattle.name_parts.specs.Words.{wordsOf, wordAt, pastWord, oneWord}
 use Rattle.name_parts.specs.Joining.{joinedName}
 use Rattle.prefixes.specs.declared.prefixes.NameType.{NameType}
@@ -16,7 +16,7 @@ use Rattle.prefixes.specs.declared.prefixes.Prefix.the-variants.{Parted}
 use Rattle.name_parts.proofs.Laws.{slice-room, word-later, past-within, word-shorter}
 use Rattle.refusals.specs.declared.Refusal.{Refusal}
 use Rattle.engine.specs.Spelling.{Spelt, partedAs, spelledName, eachWord, afreshBy}
-use Rattle.engine.specs.Walks.{Scratch, afreshOf, stepsAt, startAt, Told, bothOf, HyphenAt}
+use Rattle.engine.specs.Contracts.{Scratch, afreshOf, stepsAt, startAt, NameTold, bothOf, HyphenAt}
 use Rattle.engine.specs.declared.call.Call.{Call}
 use Rattle.engine.specs.declared.encode.Ends.{Ends}
 use Rattle.engine.proofs.ToldLaws.{WordsTold, words-start, words-end, words-place, words-turn, a-word}
@@ -59,7 +59,7 @@ module _ (s : List ℕ) (call again : Call) (e : again ≡ afreshOf call) where
   unfolding afreshOf stepsAt
   steps-again = rw e refl
 
-  pub told-again : {o o′ : List ℕ} {at : ℕ} {r : Ends} (t : Text) → Told (spelledName (stepsAt s again) (startAt s again t) t) o o′ at r → Told (afreshBy (stepsAt s again) t) o o′ at r
+  pub told-again : {o o′ : List ℕ} {at : ℕ} {r : Ends} (t : Text) → NameTold (spelledName (stepsAt s again) (startAt s again t) t) o o′ at r → NameTold (afreshBy (stepsAt s again) t) o o′ at r
   unfolding afreshOf stepsAt startAt afreshBy pick
   told-again t q = rw e (rw e at q)
 
@@ -88,7 +88,7 @@ module _ {f : Text → Spelt} {name : Text} {o₀ o : List ℕ} {at p : ℕ} {al
   held-scratch x = scratch-kept x (k .store-same) (k .marks-same)
 
   module _ (w : Text) (ew : w ≡ wordAt name p) where
-    pub held-end : length w ≡ 0 → Told (eachWord f (wordsOf name)) o₀ o at all
+    pub held-end : length w ≡ 0 → NameTold (eachWord f (wordsOf name)) o₀ o at all
     held-end h = words-end w ew (k .told) h
 
     module _ (some : length w ≡ 0 → ⊥) where
@@ -102,7 +102,7 @@ module _ {f : Text → Spelt} {name : Text} {o₀ o : List ℕ} {at p : ℕ} {al
         pub held-place : q ≤ cap
         held-place = words-place w ew some h (k .told)
 
-        pub held-turn : {o₂ : List ℕ} {b′ r : Ends} {p′ a₁ b₁ : ℕ} → Told (f w) o₁ o₂ q b′ → r ≡ bothOf all b′ (b′ .at) → p′ ≡ pastWord name p
+        pub held-turn : {o₂ : List ℕ} {b′ r : Ends} {p′ a₁ b₁ : ℕ} → NameTold (f w) o₁ o₂ q b′ → r ≡ bothOf all b′ (b′ .at) → p′ ≡ pastWord name p
             → a₁ ≡ a → b₁ ≡ b → length o₂ ≡ length o → WordsHeld f name o₀ o₂ at p′ r a₀ b₀ a₁ b₁
         held-turn {p′ = p′} tb e ep ea eb eo = record {
           told = words-turn w ew some h tb e (k .told) p′ ep;

@@ -9,16 +9,16 @@ use native.Mathlib.Omega.{arith}
 use lib.Dec.{ltb}
 use lib.ListN.{length, take, drop, length-append}
 use borrow.Author.Tests.{lt-ltb, le-leb, lt-leb, ltb-false}
-use Rattle.base.specs.Pick.{pick, pick-true, pick-false, pick-all}
+use Rattle.base.specs.Pick.{pick}
 use Rattle.texts.specs.Parts.{placeOf}
 use Rattle.letters.specs.Utf8.{decodeAt}
-use Rattle.letters.specs.Reading.{piecesOn, piecesFrom, piecesOf, illIn, firstIll, outsideIn, firstOutside}
+use Rattle.letters.specs.Reading.{symbolsOn, symbolsFrom, symbolsOf, illIn, firstIll, outsideIn, firstOutside}
 use Rattle.letters.specs.declared.utf8.Step.{Step}
 use Rattle.letters.specs.declared.utf8.Step.the-variants.{Char, Ill, End}
 use Rattle.letters.specs.declared.utf8.Found.{Found}
 use Rattle.letters.specs.declared.utf8.Found.the-variants.{At, Nothing}
 use Rattle.letters.proofs.Utf8Laws.{char-at, ill-in}
-use Rattle.name_parts.specs.Writing.{cap}
+use Rattle.name_parts.specs.Contracts.{cap}
 use Rattle.name_parts.proofs.Laws.{clash}
 use Rattle.pack.specs.Reading.{Read, cut, got, readByte}
 use Rattle.pack.specs.Packs.{Verdict, accepted, refused, Rule, readNames, readGuesses, readList, section, placeIn, listSections, endSection, packOf}
@@ -26,15 +26,16 @@ use Rattle.choices.specs.Texts.{Text}
 use Rattle.refusals.specs.Numbers.{numberOf}
 use Rattle.refusals.specs.declared.Refusal.{Refusal}
 use Rattle.refusals.specs.declared.Refusal.the-variants.{NotUtf8, OutsideRange, NameTooLong}
-use Rattle.engine.specs.Spelling.{Spelt, bad, good}
-use Rattle.engine.specs.Calls.{Outcome, refusedBy, key, outcomeOf, unless, onPack, lettersThen, checkedThen, callOf, refusedAs}
-use Rattle.engine.specs.Lines.{decimalBy, decimal, refusalLine, most, holds, needed, lineOf, lineFor, linesFrom, wholeLines, andTaken, takeLines, taken, BlockNumbers, blockNumbers, took, noRoom, numbersBy, blockBy, LinesIs}
-use Rattle.engine.specs.Fitting.{lineLength}
+use Rattle.engine.specs.Spelling.{Spelt, unspelt, speltAs}
+use Rattle.engine.specs.Calls.{CallOutcome, refusedBy, key, outcomeOf, unless, onPack, lettersThen, checkedThen, callOf, refusedAs}
+use Rattle.engine.specs.Lines.{decimalBy, decimal, refusalLine, most, holdsLine, needed, lineWith, lineFor, linesFrom, wholeLines, andTaken, takeLines, taken, BlockNumbers, blockNumbers, took, noRoom, numbersBy, blockBy, LinesIs}
+use Rattle.engine.specs.LineContracts.{lineLength}
 use Rattle.engine.specs.declared.call.Settings.{Settings}
 use Rattle.engine.specs.declared.call.Start.{Start}
 use Rattle.engine.specs.declared.lines.Lines.{Lines}
 use Rattle.engine.specs.declared.lines.Lines.the-variants.{NoRoom}
 use Rattle.engine.proofs.LinesLaws.{lines-more, take-fits, answer-long, Below, call-below, line-answer, line-long, line-other, needed-answer, needed-refusal}
+use Rattle.base.proofs.PickLaws.{pick-true, pick-false, pick-all}
 
 -- ---- digits
 
@@ -70,15 +71,15 @@ refusal-short k p h l =
 
 -- ---- where a refusal's place is
 
-found-ill : (f : ℕ) (s : List ℕ) (p q : ℕ) (r : Step) → decodeAt s p ≡ r → ((m : ℕ) → illIn (piecesFrom f s m) ≡ At q → q < length s)
-    → illIn (piecesOn r s p (piecesFrom f s)) ≡ At q → q < length s
-unfolding illIn piecesOn
+found-ill : (f : ℕ) (s : List ℕ) (p q : ℕ) (r : Step) → decodeAt s p ≡ r → ((m : ℕ) → illIn (symbolsFrom f s m) ≡ At q → q < length s)
+    → illIn (symbolsOn r s p (symbolsFrom f s)) ≡ At q → q < length s
+unfolding illIn symbolsOn
 found-ill f s p q (Char c n) d ih e = ih (p + n) e
 found-ill f s p q Ill d ih e = let here : p ≡ q = cc in rw (← here) (ill-in s p d)
 found-ill f s p q End d ih e = clash (cc)
 
-ill-place : (f : ℕ) (s : List ℕ) (p q : ℕ) → illIn (piecesFrom f s p) ≡ At q → q < length s
-unfolding piecesFrom illIn
+ill-place : (f : ℕ) (s : List ℕ) (p q : ℕ) → illIn (symbolsFrom f s p) ≡ At q → q < length s
+unfolding symbolsFrom illIn
 ill-place zero s p q e = clash (cc)
 ill-place (suc f) s p q e = found-ill f s p q _ refl (λ m k. ill-place f s m q k) e
 
@@ -87,15 +88,15 @@ unfolding pick
 outside-by true rest s p q h ih e = ih e
 outside-by false rest s p q h ih e = let here : p ≡ q = cc in rw (← here) h
 
-found-outside : (f : ℕ) (s : List ℕ) (p q : ℕ) (r : Step) → decodeAt s p ≡ r → ((m : ℕ) → outsideIn (piecesFrom f s m) ≡ At q → q < length s)
-    → outsideIn (piecesOn r s p (piecesFrom f s)) ≡ At q → q < length s
-unfolding outsideIn piecesOn
+found-outside : (f : ℕ) (s : List ℕ) (p q : ℕ) (r : Step) → decodeAt s p ≡ r → ((m : ℕ) → outsideIn (symbolsFrom f s m) ≡ At q → q < length s)
+    → outsideIn (symbolsOn r s p (symbolsFrom f s)) ≡ At q → q < length s
+unfolding outsideIn symbolsOn
 found-outside f s p q (Char c n) d ih e = outside-by _ _ s p q (char-at s p c n d .start) (ih (p + n)) e
 found-outside f s p q Ill d ih e = let here : p ≡ q = cc in rw (← here) (ill-in s p d)
 found-outside f s p q End d ih e = clash (cc)
 
-outside-place : (f : ℕ) (s : List ℕ) (p q : ℕ) → outsideIn (piecesFrom f s p) ≡ At q → q < length s
-unfolding piecesFrom outsideIn
+outside-place : (f : ℕ) (s : List ℕ) (p q : ℕ) → outsideIn (symbolsFrom f s p) ≡ At q → q < length s
+unfolding symbolsFrom outsideIn
 outside-place zero s p q e = clash (cc)
 outside-place (suc f) s p q e = found-outside f s p q _ refl (λ m k. outside-place f s m q k) e
 
@@ -124,16 +125,16 @@ pack-in s =
     section-in _ _ _ (readGuesses a) _ (place-in s a) (λ guesses b.
     section-in _ _ _ (readByte b) _ (place-in s b) (λ n c. lists-in s _ n c _ (λ ls d. pick-all (FaultIn (length s)) _ _ _ tt (place-in s d)))))
 
-unfoldable PlaceIn : ℕ → Outcome → Type 0
+unfoldable PlaceIn : ℕ → CallOutcome → Type 0
 PlaceIn b (refusedBy k place) = place ≤ b
 PlaceIn b (key t f) = Unit {0}
 
 spelt-in : (b : ℕ) (x : Spelt) → PlaceIn b (outcomeOf x)
 unfolding PlaceIn outcomeOf
-spelt-in b (bad k) = zero-le
-spelt-in b (good t f) = tt
+spelt-in b (unspelt k) = zero-le
+spelt-in b (speltAs t f) = tt
 
-unless-in : (b : ℕ) (why : Refusal) (at : Found) (rest : Outcome) → ((q : ℕ) → at ≡ At q → q ≤ b) → PlaceIn b rest → PlaceIn b (unless why at rest)
+unless-in : (b : ℕ) (why : Refusal) (at : Found) (rest : CallOutcome) → ((q : ℕ) → at ≡ At q → q ≤ b) → PlaceIn b rest → PlaceIn b (unless why at rest)
 unfolding PlaceIn unless
 unless-in b why (At place) rest h k = h place refl
 unless-in b why Nothing rest h k = k
@@ -143,9 +144,9 @@ unfolding PlaceIn FaultIn onPack
 on-pack-in c start s name b (refused place) h l = omega arith
 on-pack-in c start s name b (accepted p) h l = pick-all (PlaceIn b) _ _ _ (spelt-in b _) zero-le
 
-letters-in : (name : Text) (rest : Outcome) (b : ℕ) (t : Bool) → ltb 96 (length name) ≡ t → 96 ≤ b → PlaceIn b rest
+letters-in : (name : Text) (rest : CallOutcome) (b : ℕ) (t : Bool) → ltb 96 (length name) ≡ t → 96 ≤ b → PlaceIn b rest
     → PlaceIn b (pick t (refusedBy NameTooLong 0) (unless NotUtf8 (firstIll name) (unless OutsideRange (firstOutside name) rest)))
-unfolding PlaceIn pick firstIll firstOutside piecesOf
+unfolding PlaceIn pick firstIll firstOutside symbolsOf
 letters-in name rest b true e h k = zero-le
 letters-in name rest b false e h k =
     let few : length name ≤ 96 = ltb-false _ _ e in
@@ -159,7 +160,7 @@ call-in c start s name =
 
 -- ---- a line and its buffer
 
-line-fits-by : (size b : ℕ) (x : Outcome) → 32 ≤ size → b < 100000000000000000000 → Below x → PlaceIn b x → length (lineOf size x) ≤ min size most
+line-fits-by : (size b : ℕ) (x : CallOutcome) → 32 ≤ size → b < 100000000000000000000 → Below x → PlaceIn b x → length (lineWith size x) ≤ min size most
 unfolding Below PlaceIn
 line-fits-by size b (refusedBy k place) h l code there = omega (arith, refusal-short (numberOf k) place (omega arith) (omega arith), ap length (line-other size k place))
 line-fits-by size b (key t f) h l code there = elim (decLe (length t + 5) (min size most)) [
@@ -172,7 +173,7 @@ unfolding lineFor
 line-fits c start s size name h l = line-fits-by size (length s + 96) (callOf c start s name) h (omega arith) (call-below c start s name) (call-in c start s name)
 
 -- in a buffer of the length needed a name's line is the whole one
-needed-fits : (size : ℕ) (x : Outcome) → needed x < most → needed x ≤ size → length (lineOf size x) ≤ min size most
+needed-fits : (size : ℕ) (x : CallOutcome) → needed x < most → needed x ≤ size → length (lineWith size x) ≤ min size most
 needed-fits size (refusedBy k place) few h = omega (arith, ap length (line-other size k place), needed-refusal k place)
 needed-fits size (key t f) few h =
     let room : length t + 5 ≤ min size most = omega (arith, needed-answer t f) in
@@ -180,7 +181,7 @@ needed-fits size (key t f) few h =
 
 -- ---- the first name of a block
 
-module _ (call : Text → Outcome) (block : List ℕ) (there : placeOf 10 block < length block) where
+module _ (call : Text → CallOutcome) (block : List ℕ) (there : placeOf 10 block < length block) where
   -- the first line of a block that holds a whole one
   abbrev first-name : Text
   first-name = take (placeOf 10 block) block
@@ -191,7 +192,7 @@ module _ (call : Text → Outcome) (block : List ℕ) (there : placeOf 10 block 
       let n : length block ≡ suc (length block - 1) = omega arith in
       ap (λ (k : ℕ). linesFrom k block) n ∙ lines-more (length block - 1) block there
 
-  numbers-are : (size : ℕ) → blockBy call block size ≡ pick (holds size (lineFor call size first-name)) (took (taken call block size)) (noRoom (needed (call first-name)))
+  numbers-are : (size : ℕ) → blockBy call block size ≡ pick (holdsLine size (lineFor call size first-name)) (took (taken call block size)) (noRoom (needed (call first-name)))
   unfolding blockBy numbersBy
   numbers-are size = ap (λ (ns : List Text). numbersBy call size ns (taken call block size)) names-are
 
@@ -201,11 +202,11 @@ module _ (call : Text → Outcome) (block : List ℕ) (there : placeOf 10 block 
   first-read size h = rw (names-are, take-fits (lineFor call size) (min size most) first-name (linesFrom (length block - 1) (drop (suc (placeOf 10 block)) block)) h) (omega arith)
 
   block-read : (size : ℕ) → length (lineFor call size first-name) ≤ min size most → (blockBy call block size .code ≡ 0) × (0 < blockBy call block size .first)
-  unfolding holds
+  unfolding holdsLine
   block-read size h = rw (numbers-are size ∙ pick-true _ _ _ (le-leb _ _ h)) (refl, first-read size h)
 
   block-nine : (size : ℕ) → min size most < length (lineFor call size first-name) → blockBy call block size ≡ noRoom (needed (call first-name))
-  unfolding holds
+  unfolding holdsLine
   block-nine size h = numbers-are size ∙ pick-false _ _ _ (lt-leb _ _ h)
 
   block-either : (size : ℕ) → ((blockBy call block size .code ≡ 0) × (0 < blockBy call block size .first)) ⊎ (blockBy call block size ≡ noRoom (needed (call first-name)))

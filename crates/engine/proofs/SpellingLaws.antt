@@ -8,7 +8,7 @@ use native.Mathlib.Omega.{arith}
 use lib.Dec.{eqb}
 use lib.ListN.{length, drop}
 use borrow.Author.Tests.{eqb-true, eqb-false}
-use Rattle.base.specs.Pick.{pick, pick-true, pick-false, pick-cong}
+use Rattle.base.specs.Pick.{pick}
 use Rattle.choices.specs.Texts.{Text}
 use Rattle.languages.specs.declared.sets.LanguageSet.{LanguageSet}
 use Rattle.name_parts.specs.Words.{wordsOf, wordAt, pastWord, oneWord}
@@ -20,6 +20,7 @@ use Rattle.prefixes.specs.declared.prefixes.Prefix.{Prefix}
 use Rattle.prefixes.specs.declared.prefixes.Prefix.the-variants.{Parted, Whole}
 use Rattle.name_parts.proofs.Laws.{clash, words-none, words-next, word-later, past-within, word-shorter, rest-shorter, joined-shorter}
 use Rattle.engine.specs.Spelling.{Spelt, Steps, both, hyphened, andWords, eachWord, onePart, byWords, partedAs, byPrefix, nameBy, nameFrom, spelledName, afreshBy}
+use Rattle.base.proofs.PickLaws.{pick-true, pick-false, pick-cong}
 
 -- ---- where two ways to spell agree on every shorter text, the name is spelled alike
 

@@ -6,16 +6,16 @@ use Prim.Native.Nat.{ℕ, _+_, _≤_, _<_}
 use native.Mathlib.Omega.{arith}
 use lib.ListN.{length, drop, length-append}
 use lib.Seq.{sets}
-use Rattle.base.specs.Pick.{pick-true, pick-false}
 use Rattle.base.proofs.Stores.{sets-then}
 use Rattle.choices.specs.Texts.{Text}
-use Rattle.name_parts.specs.Writing.{cap, Put}
+use Rattle.name_parts.specs.Contracts.{cap, Put}
 use Rattle.name_parts.specs.Words.{wordsOf, wordAt, pastWord}
 use Rattle.name_parts.proofs.Laws.{put-long, put-place, words-none, words-next, word-later}
 use Rattle.refusals.specs.declared.Refusal.{Refusal}
-use Rattle.engine.specs.Spelling.{Spelt, bad, good, or, both, hyphened, andWords, eachWord}
-use Rattle.engine.specs.Walks.{Wrote, isGood, ToldBy, Told, bothOf, HyphenAt}
+use Rattle.engine.specs.Spelling.{Spelt, unspelt, speltAs, or, both, hyphened, andWords, eachWord}
+use Rattle.engine.specs.Contracts.{Wrote, isSpelt, ToldBy, NameTold, bothOf, HyphenAt}
 use Rattle.engine.specs.declared.encode.Ends.{Ends}
+use Rattle.base.proofs.PickLaws.{pick-true, pick-false}
 
 -- ---- texts one after the other
 
@@ -57,28 +57,28 @@ module _ (first second r : Ends) (at : ℕ) (e : r ≡ bothOf first second at) w
   unfolding bothOf
   both-first q = e ∙ pick-false _ _ _ q
 
-pub bad-told : {o o′ : List ℕ} {at : ℕ} {why : Refusal} {r : Ends} → r .fine ≡ false → r .why ≡ why → Told (bad why) o o′ at r
-unfolding isGood ToldBy
+pub bad-told : {o o′ : List ℕ} {at : ℕ} {why : Refusal} {r : Ends} → r .fine ≡ false → r .why ≡ why → NameTold (unspelt why) o o′ at r
+unfolding isSpelt ToldBy
 bad-told e h = record { fine = e; is = h }
 
-good-told : {t : Text} {f : Bool} {o o′ : List ℕ} {at : ℕ} {r : Ends} → r .fine ≡ true → Wrote t o o′ at (r .at) → r .flag ≡ f → Told (good t f) o o′ at r
-unfolding isGood ToldBy
+good-told : {t : Text} {f : Bool} {o o′ : List ℕ} {at : ℕ} {r : Ends} → r .fine ≡ true → Wrote t o o′ at (r .at) → r .flag ≡ f → NameTold (speltAs t f) o o′ at r
+unfolding isSpelt ToldBy
 good-told e w h = record { fine = e; is = (w, h) }
 
 -- what an answer tells of its case
 module _ {o o′ : List ℕ} {at : ℕ} {r : Ends} where
-  module _ {why : Refusal} (x : Told (bad why) o o′ at r) where
+  module _ {why : Refusal} (x : NameTold (unspelt why) o o′ at r) where
     not-fine : r .fine ≡ false
-    unfolding isGood
+    unfolding isSpelt
     not-fine = x .fine
 
     bad-why : r .why ≡ why
     unfolding ToldBy
     bad-why = x .is
 
-  module _ {t : Text} {f : Bool} (x : Told (good t f) o o′ at r) where
+  module _ {t : Text} {f : Bool} (x : NameTold (speltAs t f) o o′ at r) where
     is-fine : r .fine ≡ true
-    unfolding isGood
+    unfolding isSpelt
     is-fine = x .fine
 
     good-wrote : Wrote t o o′ at (r .at)
@@ -90,53 +90,53 @@ module _ {o o′ : List ℕ} {at : ℕ} {r : Ends} where
     good-flag = x .is .1
 
 -- the answer of two of which one is refused
-module _ {x : Refusal} {o o′ p p′ : List ℕ} {at q : ℕ} {a r : Ends} (told : Told (bad x) o o′ at a) where
-  bad-first : r ≡ a → Told (bad x) p p′ q r
+module _ {x : Refusal} {o o′ p p′ : List ℕ} {at q : ℕ} {a r : Ends} (told : NameTold (unspelt x) o o′ at a) where
+  bad-first : r ≡ a → NameTold (unspelt x) p p′ q r
   bad-first e = bad-told (ap (λ (z : Ends). z .fine) e ∙ not-fine told) (ap (λ (z : Ends). z .why) e ∙ bad-why told)
 
-  bad-second : (b : Ends) (n : ℕ) → b .fine ≡ true → r ≡ bothOf b a n → Told (bad x) p p′ q r
+  bad-second : (b : Ends) (n : ℕ) → b .fine ≡ true → r ≡ bothOf b a n → NameTold (unspelt x) p p′ q r
   bad-second b n h e = bad-told (both-fine _ _ _ _ e h ∙ not-fine told) (both-why _ _ _ _ e h ∙ bad-why told)
 
 -- ---- a name with a prefix: the remainder between brackets, and the joined name between brackets
 
 pub both-told : (x y : Spelt) {o o₁ o₂ o₃ o₄ o₅ : List ℕ} {at p q end : ℕ} {a b r : Ends}
-    → Put o o₁ at p (40 ∷ []) → Told x o₁ o₂ p a → Put o₂ o₃ (a .at) q (41 ∷ 45 ∷ 40 ∷ []) → Told y o₃ o₄ q b → Put o₄ o₅ (b .at) end (41 ∷ [])
-    → r ≡ bothOf b a end → Told (both x y) o o₅ at r
+    → Put o o₁ at p (40 ∷ []) → NameTold x o₁ o₂ p a → Put o₂ o₃ (a .at) q (41 ∷ 45 ∷ 40 ∷ []) → NameTold y o₃ o₄ q b → Put o₄ o₅ (b .at) end (41 ∷ [])
+    → r ≡ bothOf b a end → NameTold (both x y) o o₅ at r
 unfolding both
-both-told (good t f) (good u g) {at = at} {a = a} {b} {r} left ta middle tb right e =
+both-told (speltAs t f) (speltAs u g) {at = at} {a = a} {b} {r} left ta middle tb right e =
     let fine = is-fine tb in
     let whole = wrote-then (wrote-put left) (wrote-then (good-wrote ta) (wrote-then (wrote-put middle) (wrote-then (good-wrote tb) (wrote-put right)))) in
     good-told (both-fine _ _ _ _ e fine ∙ is-fine ta) (rw (both-at _ _ _ _ e fine) whole) (both-flag _ _ _ _ e fine ∙ ap₂ or (good-flag tb) (good-flag ta))
-both-told (good t f) (bad k) left ta middle tb right e =
+both-told (speltAs t f) (unspelt k) left ta middle tb right e =
     bad-first tb (both-first _ _ _ _ e (not-fine tb))
-both-told (bad j) (good u g) left ta middle tb right e = bad-second ta _ _ (is-fine tb) e
-both-told (bad j) (bad k) left ta middle tb right e =
+both-told (unspelt j) (speltAs u g) left ta middle tb right e = bad-second ta _ _ (is-fine tb) e
+both-told (unspelt j) (unspelt k) left ta middle tb right e =
     bad-first tb (both-first _ _ _ _ e (not-fine tb))
 
 -- ---- words, a hyphen between them
 
 hyphened-told : (x y : Spelt) {o o₁ o₂ o₃ : List ℕ} {at q : ℕ} {a b r : Ends}
-    → Told x o o₁ at a → Put o₁ o₂ (a .at) q (45 ∷ []) → Told y o₂ o₃ q b → r ≡ bothOf a b (b .at) → Told (hyphened x y) o o₃ at r
+    → NameTold x o o₁ at a → Put o₁ o₂ (a .at) q (45 ∷ []) → NameTold y o₂ o₃ q b → r ≡ bothOf a b (b .at) → NameTold (hyphened x y) o o₃ at r
 unfolding hyphened
-hyphened-told (good t f) (good u g) ta middle tb e =
+hyphened-told (speltAs t f) (speltAs u g) ta middle tb e =
     let fine = is-fine ta in
     good-told (both-fine _ _ _ _ e fine ∙ is-fine tb) (rw (both-at _ _ _ _ e fine) (wrote-then (good-wrote ta) (wrote-then (wrote-put middle) (good-wrote tb))))
     (both-flag _ _ _ _ e fine ∙ ap₂ or (good-flag ta) (good-flag tb))
-hyphened-told (good t f) (bad k) ta middle tb e = bad-second tb _ _ (is-fine ta) e
-hyphened-told (bad j) y ta middle tb e =
+hyphened-told (speltAs t f) (unspelt k) ta middle tb e = bad-second tb _ _ (is-fine ta) e
+hyphened-told (unspelt j) y ta middle tb e =
     bad-first ta (both-first _ _ _ _ e (not-fine ta))
 
 -- the first word's answer stands for all so far
-first-told : (y : Spelt) {o o′ : List ℕ} {at : ℕ} (a : Ends) {b r : Ends} → a .fine ≡ true → a .flag ≡ false → Told y o o′ at b → r ≡ bothOf a b (b .at) → Told y o o′ at r
+first-told : (y : Spelt) {o o′ : List ℕ} {at : ℕ} (a : Ends) {b r : Ends} → a .fine ≡ true → a .flag ≡ false → NameTold y o o′ at b → r ≡ bothOf a b (b .at) → NameTold y o o′ at r
 unfolding or
-first-told (good u g) a fine down tb e =
+first-told (speltAs u g) a fine down tb e =
     good-told (both-fine _ _ _ _ e fine ∙ is-fine tb) (rw (both-at _ _ _ _ e fine) (good-wrote tb)) (both-flag _ _ _ _ e fine ∙ ap₂ or down (good-flag tb))
-first-told (bad k) a fine down tb e = bad-second tb _ _ fine e
+first-told (unspelt k) a fine down tb e = bad-second tb _ _ fine e
 
 -- nothing is written yet, or the words read so far are told
 pub data Begun (f : Text → Spelt) (name : Text) (o₀ o : List ℕ) (at p : ℕ) (all : Ends) : Type 0 where
   not-yet : p ≡ 0 → o ≡ o₀ → (all .at ≡ at) × (all .flag ≡ false) × (all .fine ≡ true) → Begun f name o₀ o at p all
-  begun : (x : Spelt) → (p ≡ 0 → ⊥) → Told x o₀ o at all → andWords f x (wordsOf (drop p name)) ≡ eachWord f (wordsOf name) → Begun f name o₀ o at p all
+  begun : (x : Spelt) → (p ≡ 0 → ⊥) → NameTold x o₀ o at all → andWords f x (wordsOf (drop p name)) ≡ eachWord f (wordsOf name) → Begun f name o₀ o at p all
 
 -- the invariant of `spell_words`' loop
 pub record WordsTold (f : Text → Spelt) (name : Text) (o₀ o : List ℕ) (at p : ℕ) (all : Ends) : Type 0 where
@@ -154,14 +154,14 @@ pub a-word : (name : Text) (p : ℕ) (w : Text) → w ≡ wordAt name p → (len
 a-word name p w e some h = some (ap length e ∙ h)
 
 module _ {f : Text → Spelt} {name : Text} {o₀ o : List ℕ} {at p : ℕ} {all : Ends} (w : Text) (ew : w ≡ wordAt name p) where
-  end-by : at ≤ cap → length o₀ < cap → Begun f name o₀ o at p all → length w ≡ 0 → Told (eachWord f (wordsOf name)) o₀ o at all
+  end-by : at ≤ cap → length o₀ < cap → Begun f name o₀ o at p all → length w ≡ 0 → NameTold (eachWord f (wordsOf name)) o₀ o at all
   unfolding eachWord andWords
   end-by fits room (not-yet ep eo ea) h =
       let none : wordsOf name ≡ [] = sym (ap (λ (k : ℕ). wordsOf (drop k name)) ep) ∙ words-none name p (no-word name p w ew h) in
       rw (none, eo) (good-told (ea .2) (record { ends = omega (arith, ea .0); wrote = λ k. refl; same = refl; room = room }) (ea .1))
   end-by fits room (begun x some told rest) h = rw (← rest, words-none name p (no-word name p w ew h)) told
 
-  pub words-end : WordsTold f name o₀ o at p all → length w ≡ 0 → Told (eachWord f (wordsOf name)) o₀ o at all
+  pub words-end : WordsTold f name o₀ o at p all → length w ≡ 0 → NameTold (eachWord f (wordsOf name)) o₀ o at all
   words-end k h = end-by (k .fits) (k .room) (k .so-far) h
 
   module _ (some : length w ≡ 0 → ⊥) {o₁ : List ℕ} {q : ℕ} (h : HyphenAt o o₁ (all .at) p q) where
@@ -172,13 +172,13 @@ module _ {f : Text → Spelt} {name : Text} {o₀ o : List ℕ} {at p : ℕ} {al
     pub words-place : WordsTold f name o₀ o at p all → q ≤ cap
     words-place k = place-by (k .fits) (k .so-far)
 
-    module _ {o₂ : List ℕ} {b r : Ends} (tb : Told (f w) o₁ o₂ q b) (e : r ≡ bothOf all b (b .at)) where
+    module _ {o₂ : List ℕ} {b r : Ends} (tb : NameTold (f w) o₁ o₂ q b) (e : r ≡ bothOf all b (b .at)) where
       turn-by : Begun f name o₀ o at p all → Begun f name o₀ o₂ at (pastWord name p) r
       unfolding eachWord andWords
       turn-by (not-yet ep eo ea) =
           let here : q ≡ at = h .first ep .0 ∙ ea .0 in
           let same : o₁ ≡ o₀ = h .first ep .1 ∙ eo in
-          let told : Told (f w) o₀ o₂ at b = rw (same, here) at tb in
+          let told : NameTold (f w) o₀ o₂ at b = rw (same, here) at tb in
           let words : wordsOf name ≡ w ∷ wordsOf (drop (pastWord name p) name) = sym (ap (λ (k : ℕ). wordsOf (drop k name)) ep) ∙ rw (ew) (words-next name p (a-word name p w ew some)) in
           begun (f w) (λ z. let no-way : ⊥ = omega (arith, word-later name p (a-word name p w ew some)) in absurd no-way)
           (first-told (f w) all (ea .2) (ea .1) told e) (rw words refl)

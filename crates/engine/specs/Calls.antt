@@ -20,8 +20,7 @@ use Rattle.languages.specs.declared.sets.Single.the-variants.{Language, NotSing
 use Rattle.name_parts.specs.Joining.{spaced}
 use Rattle.prefixes.specs.declared.prefixes.NameType.{NameType}
 use Rattle.prefixes.specs.declared.prefixes.NameType.the-variants.{Ashkenazi, Generic, Sephardic}
-use Rattle.pack.specs.Packs.{Pack, Rule, Verdict, accepted, refused, packOf, any}
-use Rattle.pack.specs.Places.{textBytes}
+use Rattle.pack.specs.Packs.{Pack, Rule, Verdict, accepted, refused, packOf, any, stringsLength}
 use Rattle.pack.specs.Guessing.{guessed}
 use Rattle.refusals.specs.Numbers.{numberOf}
 use Rattle.refusals.specs.declared.Refusal.{Refusal}
@@ -30,7 +29,7 @@ use Rattle.choices.specs.Texts.{Text}
 use Rattle.choices.specs.Apply.{Entry}
 use Rattle.phoneme_builder.specs.Sets.{Spelling, refusal, texts}
 use Rattle.phoneme_builder.specs.Passes.{firstMatch, wordOf, joined}
-use Rattle.engine.specs.Spelling.{Spelt, bad, good, Steps, spelledName}
+use Rattle.engine.specs.Spelling.{Spelt, unspelt, speltAs, Steps, spelledName}
 use Rattle.engine.specs.declared.call.Settings.{Settings}
 use Rattle.engine.specs.declared.call.Start.{Start}
 use Rattle.engine.specs.declared.call.Start.the-variants.{Guessed, Given}
@@ -67,18 +66,18 @@ unfoldable pub languageOf : Pack → LanguageSet → ℕ
 languageOf p g = languageBy (singleOf g) (namePlace any (p .names))
 
 -- "lists in order: for each language rules, approx, exact, then common approx, common exact"
-unfoldable pub listOf : Pack → ℕ → List Rule
-listOf p k = getD (p .lists) k []
+unfoldable pub listNumbered : Pack → ℕ → List Rule
+listNumbered p k = getD (p .lists) k []
 
 unfoldable pub speltBy : Spelling → Spelt
-speltBy (refusal k) = bad k
-speltBy (texts l flag) = good (joined (map (λ (e : Entry). e .text) l)) flag
+speltBy (refusal k) = unspelt k
+speltBy (texts l flag) = speltAs (joined (map (λ (e : Entry). e .text) l)) flag
 
 -- a word by the lists of a language, of the pack's n; the names' bytes stand in s behind the count
 unfoldable pub wordBy : List ℕ → Pack → ℕ → ℕ → ℕ → LanguageSet → Text → Spelt
 wordBy s p rules limit l g w =
-    speltBy (wordOf limit (take (textBytes (p .names)) (drop 1 s)) (firstMatch (listOf p (3 * l))) (firstMatch (listOf p (3 * length (p .names) + rules)))
-    (firstMatch (listOf p (3 * l + 1 + rules))) g w)
+    speltBy (wordOf limit (take (stringsLength (p .names)) (drop 1 s)) (firstMatch (listNumbered p (3 * l))) (firstMatch (listNumbered p (3 * length (p .names) + rules)))
+    (firstMatch (listNumbered p (3 * l + 1 + rules))) g w)
 
 -- the steps below a name
 unfoldable pub stepsBy : List ℕ → Pack → NameType → ℕ → Bool → ℕ → Steps
@@ -106,33 +105,33 @@ spelledBy c start low = spelledName c (startSet start (c .guess low)) (spaced lo
 -- ---- a call
 
 -- what a call comes to, before the room of its buffer is looked at: a refusal and its place, or a text and the flag
-pub data Outcome : Type 0 where
-  refusedBy : Refusal → ℕ → Outcome
-  key : Text → Bool → Outcome
+pub data CallOutcome : Type 0 where
+  refusedBy : Refusal → ℕ → CallOutcome
+  key : Text → Bool → CallOutcome
 
-unfoldable pub outcomeOf : Spelt → Outcome
-outcomeOf (bad k) = refusedBy k 0
-outcomeOf (good t f) = key t f
+unfoldable pub outcomeOf : Spelt → CallOutcome
+outcomeOf (unspelt k) = refusedBy k 0
+outcomeOf (speltAs t f) = key t f
 
 -- a refusal at the place that was found
-unfoldable pub unless : Refusal → Found → Outcome → Outcome
+unfoldable pub unless : Refusal → Found → CallOutcome → CallOutcome
 unless why (At place) rest = refusedBy why place
 unless why Nothing rest = rest
 
-unfoldable pub onPack : Settings → Start → List ℕ → Text → Verdict → Outcome
+unfoldable pub onPack : Settings → Start → List ℕ → Text → Verdict → CallOutcome
 onPack c start s name (refused place) = refusedBy PackBroken place
 onPack c start s name (accepted p) =
     pick (haveLanguages (length (p .names)) start) (outcomeOf (spelledBy (stepsOf s p c) start (lowerText name))) (refusedBy NoSuchLanguage 0)
 
 -- the refusals of a name, 3, 1 and 2, and then the rest
-unfoldable pub lettersThen : Text → Outcome → Outcome
+unfoldable pub lettersThen : Text → CallOutcome → CallOutcome
 lettersThen name rest = pick (ltb 96 (length name)) (refusedBy NameTooLong 0) (unless NotUtf8 (firstIll name) (unless OutsideRange (firstOutside name) rest))
 
-unfoldable pub checkedThen : Settings → Start → Text → Outcome → Outcome
+unfoldable pub checkedThen : Settings → Start → Text → CallOutcome → CallOutcome
 checkedThen c start name rest = pick (settingsKnown c start) (lettersThen name rest) (refusedBy SettingUnknown 0)
 
 -- "Spelling checks in the order 4, 3, 1, 2, 5, 6; then 7 and 8 as the Rust's order of work meets them"
-unfoldable pub callOf : Settings → Start → List ℕ → Text → Outcome
+unfoldable pub callOf : Settings → Start → List ℕ → Text → CallOutcome
 callOf c start s name = checkedThen c start name (onPack c start s name (packOf s))
 
 -- ---- the paper's numbers of an answer: code, place and flag
@@ -151,25 +150,20 @@ abbrev pub refusedAs : ℕ → ℕ → Numbers
 refusedAs code place = record { code = code; place = place; flag = false }
 
 -- what a call comes to in a buffer of so many bytes; "9 last", its place "length needed, 4294967295 if more"
-unfoldable pub numbersIn : Outcome → ℕ → Numbers
+unfoldable pub numbersIn : CallOutcome → ℕ → Numbers
 numbersIn (refusedBy why place) room = refusedAs (numberOf why) place
 numbersIn (key t f) room = pick (leb (length t) room) (doneAs (length t) f) (refusedAs (numberOf NoRoom) (min (length t) 4294967295))
 
-unfoldable pub numbersOf : Spelled → Numbers
-numbersOf (Done written flag) = doneAs written flag
-numbersOf (Refused why place) = refusedAs (numberOf why) place
+unfoldable pub spelledNumbers : Spelled → Numbers
+spelledNumbers (Done written flag) = doneAs written flag
+spelledNumbers (Refused why place) = refusedAs (numberOf why) place
 
 -- "A refusal .. writes nothing; a success leaves bytes after the answer unchanged."
-unfoldable pub filledBy : Outcome → List ℕ → List ℕ
+unfoldable pub filledBy : CallOutcome → List ℕ → List ℕ
 filledBy (refusedBy why place) out = out
 filledBy (key t f) out = pick (leb (length t) (length out)) (sets out 0 t) out
 
 -- the promise of a call: one result, and one content of the lent buffer
-pub record SpellIs (x : Outcome) (out : List ℕ) (r : Spelled) (out′ : List ℕ) : Type 0 where
-  pub result : numbersOf r ≡ numbersIn x (length out)
+pub record SpellIs (x : CallOutcome) (out : List ℕ) (r : Spelled) (out′ : List ℕ) : Type 0 where
+  pub result : spelledNumbers r ≡ numbersIn x (length out)
   pub buffer : out′ ≡ filledBy x out
-
--- the answer that has these numbers
-unfoldable pub toldOf : Outcome → ℕ → Spelled
-toldOf (refusedBy why place) room = Refused why place
-toldOf (key t f) room = pick (leb (length t) room) (Done (length t) f) (Refused NoRoom (min (length t) 4294967295))

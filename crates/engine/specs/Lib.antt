@@ -1,5 +1,5 @@
 pub mod Spelling
 pub mod Calls
-pub mod Walks
+pub mod Contracts
 pub mod Lines
-pub mod Fitting
+pub mod LineContracts

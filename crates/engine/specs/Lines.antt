@@ -10,7 +10,7 @@ use Rattle.base.specs.Pick.{pick}
 use Rattle.texts.specs.Parts.{placeOf, has}
 use Rattle.choices.specs.Texts.{Text}
 use Rattle.refusals.specs.declared.Refusal.the-variants.{NoRoom}
-use Rattle.engine.specs.Calls.{Outcome, refusedBy, key, Numbers, numbersOf}
+use Rattle.engine.specs.Calls.{CallOutcome, refusedBy, key, Numbers, spelledNumbers}
 use Rattle.engine.specs.declared.lines.Lines.{Lines}
 use Rattle.engine.specs.declared.lines.Lines.the-variants as lines
 use Rattle.engine.specs.declared.spelling.Spelled.the-variants.{Done, Refused}
@@ -39,9 +39,9 @@ unfoldable pub refusalLine : Numbers → Text
 refusalLine n = decimal (n .code) ++ ((32 ∷ []) ++ (decimal (n .place) ++ 10 ∷ []))
 
 -- a name's line where there is room enough: its answer's, or its refusal's
-unfoldable pub wholeLine : Outcome → Text
-wholeLine (refusedBy why place) = refusalLine (numbersOf (Refused why place))
-wholeLine (key t f) = answerLine (numbersOf (Done (length t) f)) t
+unfoldable pub wholeLine : CallOutcome → Text
+wholeLine (refusedBy why place) = refusalLine (spelledNumbers (Refused why place))
+wholeLine (key t f) = answerLine (spelledNumbers (Done (length t) f)) t
 
 -- ---- its room
 
@@ -50,21 +50,21 @@ abbrev pub most : ℕ
 most = 4294967295
 
 -- a buffer of so many bytes holds a line
-unfoldable pub holds : ℕ → Text → Bool
-holds size line = leb (length line) (min size most)
+unfoldable pub holdsLine : ℕ → Text → Bool
+holdsLine size line = leb (length line) (min size most)
 
 -- "length needed": that of the whole line, not of the answer alone
-unfoldable pub needed : Outcome → ℕ
+unfoldable pub needed : CallOutcome → ℕ
 needed x = min (length (wholeLine x)) most
 
 -- "answer .. longer than the output buffer": the line of 9 where the buffer does not hold the line with the answer
-unfoldable pub lineOf : ℕ → Outcome → Text
-lineOf size (refusedBy why place) = wholeLine (refusedBy why place)
-lineOf size (key t f) = pick (holds size (wholeLine (key t f))) (wholeLine (key t f)) (refusalLine (numbersOf (Refused NoRoom (needed (key t f)))))
+unfoldable pub lineWith : ℕ → CallOutcome → Text
+lineWith size (refusedBy why place) = wholeLine (refusedBy why place)
+lineWith size (key t f) = pick (holdsLine size (wholeLine (key t f))) (wholeLine (key t f)) (refusalLine (spelledNumbers (Refused NoRoom (needed (key t f)))))
 
 -- the line of a name, by the calls for names
-unfoldable pub lineFor : (Text → Outcome) → ℕ → Text → Text
-lineFor call size name = lineOf size (call name)
+unfoldable pub lineFor : (Text → CallOutcome) → ℕ → Text → Text
+lineFor call size name = lineWith size (call name)
 
 -- ---- the lines of a block
 
@@ -95,7 +95,7 @@ takeLines f size (name ∷ names) =
     pick (leb (length (f name)) size) (andTaken (suc (length name)) (f name) (takeLines f (size - length (f name)) names)) noneTaken
 
 -- what is printed for a block, into a buffer of so many bytes
-unfoldable pub taken : (Text → Outcome) → List ℕ → ℕ → Taken
+unfoldable pub taken : (Text → CallOutcome) → List ℕ → ℕ → Taken
 taken call block size = takeLines (lineFor call size) (min size most) (wholeLines block)
 
 -- ---- the answer for a block, in the paper's numbers
@@ -117,14 +117,14 @@ abbrev pub noRoom : ℕ → BlockNumbers
 noRoom n = record { code = 9; first = n; second = 0 }
 
 -- 9 where there is a name and the buffer does not hold its line, which is that of 9 if the answer has no room
-unfoldable pub numbersBy : (Text → Outcome) → ℕ → List Text → Taken → BlockNumbers
+unfoldable pub numbersBy : (Text → CallOutcome) → ℕ → List Text → Taken → BlockNumbers
 numbersBy call size [] t = took t
-numbersBy call size (name ∷ names) t = pick (holds size (lineFor call size name)) (took t) (noRoom (needed (call name)))
+numbersBy call size (name ∷ names) t = pick (holdsLine size (lineFor call size name)) (took t) (noRoom (needed (call name)))
 
-unfoldable pub blockBy : (Text → Outcome) → List ℕ → ℕ → BlockNumbers
+unfoldable pub blockBy : (Text → CallOutcome) → List ℕ → ℕ → BlockNumbers
 blockBy call block size = numbersBy call size (wholeLines block) (taken call block size)
 
 -- the promise for a block: one result, and one content of the lent buffer
-pub record LinesIs (call : Text → Outcome) (block out : List ℕ) (r : Lines) (out′ : List ℕ) : Type 0 where
+pub record LinesIs (call : Text → CallOutcome) (block out : List ℕ) (r : Lines) (out′ : List ℕ) : Type 0 where
   pub result : blockNumbers r ≡ blockBy call block (length out)
   pub buffer : out′ ≡ sets out 0 (taken call block (length out) .text)

@@ -17,8 +17,8 @@ use Rattle.prefixes.specs.declared.prefixes.Prefix.the-variants.{Parted, Whole}
 
 -- an answer's text and flag, or a refusal (7 or 8)
 pub data Spelt : Type 0 where
-  bad : Refusal → Spelt
-  good : Text → Bool → Spelt
+  unspelt : Refusal → Spelt
+  speltAs : Text → Bool → Spelt
 
 -- what these steps rest on: guessing (step 1), a word spelled with a set (steps 6 to 9), and two of the settings
 pub record Steps : Type 0 where
@@ -34,16 +34,16 @@ or false b = b
 
 -- "`(`remainder`)-(`prefix joined to remainder`)`"; the joined one is spelled first, so its refusal goes before
 unfoldable pub both : Spelt → Spelt → Spelt
-both (good t f) (good u g) = good ((40 ∷ []) ++ (t ++ ((41 ∷ 45 ∷ 40 ∷ []) ++ (u ++ (41 ∷ []))))) (or g f)
-both (good t f) (bad k) = bad k
-both (bad j) (good u g) = bad j
-both (bad j) (bad k) = bad k
+both (speltAs t f) (speltAs u g) = speltAs ((40 ∷ []) ++ (t ++ ((41 ∷ 45 ∷ 40 ∷ []) ++ (u ++ (41 ∷ []))))) (or g f)
+both (speltAs t f) (unspelt k) = unspelt k
+both (unspelt j) (speltAs u g) = unspelt j
+both (unspelt j) (unspelt k) = unspelt k
 
 -- "joined by `-`"
 unfoldable pub hyphened : Spelt → Spelt → Spelt
-hyphened (good t f) (good u g) = good (t ++ ((45 ∷ []) ++ u)) (or f g)
-hyphened (good t f) (bad k) = bad k
-hyphened (bad j) y = bad j
+hyphened (speltAs t f) (speltAs u g) = speltAs (t ++ ((45 ∷ []) ++ u)) (or f g)
+hyphened (speltAs t f) (unspelt k) = unspelt k
+hyphened (unspelt j) y = unspelt j
 
 -- "each spelled afresh", in order
 unfoldable pub andWords : (Text → Spelt) → Spelt → List Text → Spelt
@@ -51,7 +51,7 @@ andWords afresh x [] = x
 andWords afresh x (w ∷ ws) = andWords afresh (hyphened x (afresh w)) ws
 
 unfoldable pub eachWord : (Text → Spelt) → List Text → Spelt
-eachWord afresh [] = good [] false
+eachWord afresh [] = speltAs [] false
 eachWord afresh (w ∷ ws) = andWords afresh (afresh w) ws
 
 -- step 5: with concat the words joined, else the only word untouched
@@ -78,7 +78,7 @@ nameBy c afresh g s = byPrefix (partedAs (c .kind) s) afresh s (byWords c afresh
 
 -- "Each is shorter than the name it came from", so the length is fuel enough: without it nothing is spelled, which is never met
 unfoldable pub nameFrom : ℕ → Steps → LanguageSet → Text → Spelt
-nameFrom zero c g s = good [] false
+nameFrom zero c g s = speltAs [] false
 nameFrom (suc f) c g s = nameBy c (λ (t : Text). nameFrom f c (c .guess t) t) g s
 
 -- the name s, its hyphens now spaces, with the set g

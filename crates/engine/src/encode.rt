@@ -5,13 +5,14 @@ ghost use mathlib.Core.List.{_∷_};
 ghost use Prim.Native.Nat.{_+_, _≤_, _<_, min};
 ghost use lib.ListN.{length};
 ghost use Rattle.base.specs.Pick.{pick};
-ghost use Rattle.languages.specs.Sets.{singleOf, BitsBelow};
+ghost use Rattle.languages.specs.Sets.{singleOf};
 ghost use Rattle.name_parts.specs.Words.{oneWord, wordsOf};
-ghost use Rattle.name_parts.specs.Writing.{cap, Put};
-ghost use Rattle.pack.specs.Guessing.{guessedAt};
+ghost use Rattle.name_parts.specs.Contracts.{cap, Put};
 ghost use Rattle.engine.specs.Spelling.{partedAs, or, spelledName, onePart, eachWord, afreshBy};
 ghost use Rattle.engine.specs.Calls.{languageBy};
-ghost use Rattle.engine.specs.Walks.{Ready, Scratch, stepsAt, startAt, listsOf, EndedIs, Told, ToldWhole, bothOf, HyphenAt};
+ghost use Rattle.engine.specs.Contracts.{CallReady, Scratch, stepsAt, startAt, listNumbers, EndedIs, NameTold, ToldWhole, bothOf, HyphenAt};
+ghost use Rattle.languages.specs.Contracts.{BitsBelow};
+ghost use Rattle.pack.specs.Contracts.{guessedAt};
 use crate::call::Call;
 use crate::call::afresh;
 use languages::LanguageSet;
@@ -51,7 +52,7 @@ fn language_of(set: LanguageSet, any: usize) -> usize
 
 fn lists_of(call: Call, l: usize) -> Lists
     requires { ⌜ (l < call .languages) × (call .languages ≤ 32) × (call .rules < 2) ⌝ }
-    ensures { λ r. ⌜ r ≡ listsOf call l ⌝ }
+    ensures { λ r. ⌜ r ≡ listNumbers call l ⌝ }
 {
     let n = call.languages;
     let k = call.rules;
@@ -141,7 +142,7 @@ fn spell_word(
     at: usize,
 ) -> Ends
     requires { ⌜ Scratch (length (now store)) (length (now marks)) ⌝ }
-    requires { ⌜ Ready (now pack) (now places) call ⌝ }
+    requires { ⌜ CallReady (now pack) (now places) call ⌝ }
     requires { ⌜ BitsBelow (call .languages) set ⌝ }
     ensures { λ r. ⌜ ToldWhole (stepsAt (now (pack .entry)) call .word set (now (word .entry))) (now (out .entry)) (now (out .exit)) at r ⌝ }
 {
@@ -179,7 +180,7 @@ pub(crate) fn spell_plain(
     at: usize,
 ) -> Ends
     requires { ⌜ Scratch (length (now store)) (length (now marks)) ⌝ }
-    requires { ⌜ Ready (now pack) (now places) call ⌝ }
+    requires { ⌜ CallReady (now pack) (now places) call ⌝ }
     requires { ⌜ length (now name) ≤ 96 ⌝ }
     ensures { λ r. ⌜ ToldWhole (onePart (stepsAt (now (pack .entry)) call) (startAt (now (pack .entry)) call (now (name .entry))) (now (name .entry))) (now (out .entry)) (now (out .exit)) at r ⌝ }
 {
@@ -270,10 +271,10 @@ pub(crate) fn spell_name(
     at: usize,
 ) -> Ends
     requires { ⌜ Scratch (length (now store)) (length (now marks)) ⌝ }
-    requires { ⌜ Ready (now pack) (now places) call ⌝ }
+    requires { ⌜ CallReady (now pack) (now places) call ⌝ }
     requires { ⌜ length (now name) ≤ 96 ⌝ }
     requires { ⌜ at ≤ cap ⌝ }
-    ensures { λ r. ⌜ Told (spelledName (stepsAt (now (pack .entry)) call) (startAt (now (pack .entry)) call (now (name .entry))) (now (name .entry))) (now (out .entry)) (now (out .exit)) at r ⌝ }
+    ensures { λ r. ⌜ NameTold (spelledName (stepsAt (now (pack .entry)) call) (startAt (now (pack .entry)) call (now (name .entry))) (now (name .entry))) (now (out .entry)) (now (out .exit)) at r ⌝ }
 {
     let kind = call.kind;
     match part_of(kind, name) {
@@ -310,11 +311,11 @@ fn spell_words(
     at: usize,
 ) -> Ends
     requires { ⌜ Scratch (length (now store)) (length (now marks)) ⌝ }
-    requires { ⌜ Ready (now pack) (now places) call ⌝ }
+    requires { ⌜ CallReady (now pack) (now places) call ⌝ }
     requires { ⌜ length (now name) ≤ 96 ⌝ }
     requires { ⌜ at ≤ cap ⌝ }
     requires { ⌜ oneWord (now name) ≡ false ⌝ }
-    ensures { λ r. ⌜ Told (eachWord (afreshBy (stepsAt (now (pack .entry)) call)) (wordsOf (now (name .entry)))) (now (out .entry)) (now (out .exit)) at r ⌝ }
+    ensures { λ r. ⌜ NameTold (eachWord (afreshBy (stepsAt (now (pack .entry)) call)) (wordsOf (now (name .entry)))) (now (out .entry)) (now (out .exit)) at r ⌝ }
 {
     let again = afresh(call);
     let mut all = Ends {

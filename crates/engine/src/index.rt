@@ -3,7 +3,7 @@ ghost use mathlib.Core.Path.{_≡_};
 ghost use Prim.Native.Nat.{_%_, _<_};
 ghost use lib.ListN.{length, getD};
 ghost use Rattle.pack.specs.Packs.{listCount};
-ghost use Rattle.engine.specs.Walks.{packIn, ByTable, Placed, CanNote, notedIn, Indexed};
+ghost use Rattle.engine.specs.Contracts.{packIn, ByTable, ListsPlaced, CanNote, notedIn, Indexed};
 use pack::RuleAt;
 
 // Rule i of a list stands at `at`: the first of the rules of the row's entry b, or the last so far.
@@ -31,7 +31,7 @@ fn kind_at(pack: &[u8], at: usize) -> usize
 
 // The rules of list k noted in its row, each by the first byte of its pattern.
 fn index_list(pack: &[u8], table: &mut [usize], k: usize)
-    requires { ⌜ Placed (now pack) (now table) k ⌝ }
+    requires { ⌜ ListsPlaced (now pack) (now table) k ⌝ }
     requires { ⌜ (k < 98) × (k < listCount (length (packIn (now pack) .names))) ⌝ }
     ensures { λ r. ⌜ Indexed (now (pack .entry)) (now (table .entry)) (now (table .exit)) k ⌝ }
 {
@@ -65,7 +65,7 @@ fn index_list(pack: &[u8], table: &mut [usize], k: usize)
 
 // The lists at the table's first places, each noted in its row.
 pub(crate) fn index_lists(pack: &[u8], table: &mut [usize], lists: usize)
-    requires { ⌜ Placed (now pack) (now table) 0 ⌝ }
+    requires { ⌜ ListsPlaced (now pack) (now table) 0 ⌝ }
     requires { ⌜ lists ≡ listCount (length (packIn (now pack) .names)) ⌝ }
     ensures { λ r. ⌜ ByTable (now (pack .entry)) (now (table .exit)) lists ⌝ }
 {

@@ -7,7 +7,7 @@ ghost use Rattle.base.specs.Pick.{pick};
 ghost use Rattle.name_parts.specs.Words.{oneWord};
 ghost use Rattle.engine.specs.Spelling.{spelledName, partedAs};
 ghost use Rattle.engine.specs.Calls.{lettersThen, checkedThen, callOf, SpellIs};
-ghost use Rattle.engine.specs.Walks.{DeskIs, Ready, Scratch, stepsAt, startAt, ToldWhole, FoundIs, answeredBy, wholeAnd, KeptIs};
+ghost use Rattle.engine.specs.Contracts.{DeskIs, CallReady, Scratch, stepsAt, startAt, ToldWhole, FoundIs, answeredBy, wholeAnd, HeldApartIs};
 use crate::call::Call;
 use crate::call::Desk;
 use crate::call::Settings;
@@ -116,7 +116,7 @@ fn is_single(call: Call, name: &[u8]) -> bool
 
 // An answer held apart, written where it fits. False where it fits, but is too long to be held apart.
 fn keep(a: Ends, apart: &[u8], out: &mut [u8]) -> bool
-    ensures { λ r. ⌜ KeptIs a (now (apart .entry)) (now (out .entry)) (now (out .exit)) r ⌝ }
+    ensures { λ r. ⌜ HeldApartIs a (now (apart .entry)) (now (out .entry)) (now (out .exit)) r ⌝ }
 {
     let n = a.at;
     if a.fine {
@@ -143,7 +143,7 @@ fn spell_lowered(
     out: &mut [u8],
 ) -> Ends
     requires { ⌜ Scratch (length (now store)) (length (now marks)) ⌝ }
-    requires { ⌜ Ready (now pack) (now places) call ⌝ }
+    requires { ⌜ CallReady (now pack) (now places) call ⌝ }
     requires { ⌜ length (now name) ≤ 96 ⌝ }
     ensures { λ r. ⌜ ToldWhole (spelledName (stepsAt (now (pack .entry)) call) (startAt (now (pack .entry)) call (now (name .entry))) (now (name .entry))) (now (out .entry)) (now (out .exit)) 0 r ⌝ }
 {

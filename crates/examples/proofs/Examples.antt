@@ -2,7 +2,7 @@
 use mathlib.Core.Path.{refl}
 use Rattle.base.specs.Pick.{pick, and}
 use Rattle.letters.specs.Utf8.{within, lowSecond, highSecond, code2, code3, code4, decode2, decode3, decode4, decodeBytes, decodeAt}
-use Rattle.letters.specs.Reading.{piecesOn, piecesFrom, piecesOf, codesIn, codesOf}
+use Rattle.letters.specs.Reading.{symbolsOn, symbolsFrom, symbolsOf, codesIn, codesOf}
 use Rattle.letters.specs.Order.{orderOf, sameText}
 use Rattle.texts.specs.Parts.{tail, front, firstIs, lastIs, placeOf, has, prefixOf, suffixOf}
 use Rattle.languages.specs.Sets.{narrowed, merged, isEmpty}
@@ -12,19 +12,19 @@ use Rattle.phonemes.specs.Expressions.{onFirst, cutAt, inside, extra, piecesIn,
 use Rattle.choices.specs.Texts.{byOrder}
 use Rattle.choices.specs.Apply.{insert, under, candidates, enter, apply}
 use Rattle.phoneme_builder.specs.Sets.{sorted, allShort, appended}
-use Rattle.phoneme_builder.specs.Passes.{offered, flagged, applied as onApplied, after, unmatched, run}
-use Rattle.examples.specs.Table.{told, expression, left, applied, appending, partsBy, partsOf, table, AllSame}
+use Rattle.phoneme_builder.specs.Passes.{offered, flagged, applied as onApplied, afterLetter, unmatched, run}
+use Rattle.examples.specs.Table.{told, expression, left, applying, appending, partsBy, partsOf, table, AllSame}
 use Rattle.prefixes.specs.Prefixes.{prefixesOf, fits as fitsSpace, firstFit, splitOf}
 use Rattle.name_parts.specs.Joining.{joinedName}
 
 -- 01, Examples 1 to 12
 pub examples : AllSame table
 unfolding
-    pick and within lowSecond highSecond code2 code3 code4 decode2 decode3 decode4 decodeBytes decodeAt piecesOn piecesFrom piecesOf codesIn codesOf
+    pick and within lowSecond highSecond code2 code3 code4 decode2 decode3 decode4 decodeBytes decodeAt symbolsOn symbolsFrom symbolsOf codesIn codesOf
     orderOf sameText tail front firstIs lastIs placeOf has prefixOf suffixOf narrowed merged isEmpty strings stringsOf namePlace bitAt languageBit
     literalForm boxForm withoutCaret withoutDollar boxInner boxed formIn formOf leftForm memberOf codeAt firstChar codeOf backChar wholeChar orElse lastChar charFits fits
     onFirst cutAt inside extra piecesIn allOf formedPiece formed boxOf withBits namesMask pieceMask isListed textOf maskSet setOf checkedOf
-    byOrder insert under candidates enter apply sorted allShort appended offered flagged onApplied after unmatched run
+    byOrder insert under candidates enter apply sorted allShort appended offered flagged onApplied afterLetter unmatched run
     prefixesOf fitsSpace firstFit splitOf joinedName partsBy partsOf
-    told expression left applied appending table
+    told expression left applying appending table
 examples = (refl, (refl, (refl, (refl, (refl, (refl, (refl, (refl, (refl, (refl, (refl, (refl, (refl, (refl, (refl, (refl, (refl, tt)))))))))))))))))

@@ -19,20 +19,20 @@ use Rattle.choices.specs.Apply.{Entry, start}
 use Rattle.phoneme_builder.specs.Passes.{offered, rule, letter, Ran, ran, run}
 
 -- what an example shows
-pub data Answer : Type 0 where
-  refusal : ℕ → Answer
-  alternatives : List (record { text : List ℕ; set : LanguageSet }) → Answer
-  fitting : Bool → Answer
-  languages : LanguageSet → Answer
-  spellings : Ran → Answer
-  parts : List ℕ → List ℕ → Answer
-  unparted : Answer
+pub data Shown : Type 0 where
+  refusal : ℕ → Shown
+  alternatives : List (record { text : List ℕ; set : LanguageSet }) → Shown
+  fitting : Bool → Shown
+  languages : LanguageSet → Shown
+  spellings : Ran → Shown
+  parts : List ℕ → List ℕ → Shown
+  unparted : Shown
 
 pub record Row : Type 0 where
-  pub computed : Answer
-  pub expected : Answer
+  pub computed : Shown
+  pub expected : Shown
 
-abbrev pub row : Answer → Answer → Row
+abbrev pub row : Shown → Shown → Row
 row c e = record { computed = c; expected = e }
 
 -- the names de, fr, each behind its length byte: de is bit 0, fr bit 1
@@ -43,32 +43,32 @@ abbrev pub alternative : List ℕ → LanguageSet → record { text : List ℕ; 
 alternative t s = record { text = t; set = s }
 
 -- an expression's alternatives, or 14 or 16
-unfoldable pub told : Expression → List ℕ → Answer
+unfoldable pub told : Expression → List ℕ → Shown
 told (Good n) e = alternatives (map (λ (a : List ℕ). alternative (textOf a) (setOf names a)) (piecesIn e))
 told Malformed e = refusal 14
 told Stranger e = refusal 16
 
-unfoldable pub expression : List ℕ → Answer
+unfoldable pub expression : List ℕ → Shown
 expression e = told (checkedOf names e) e
 
 -- a left context against the text before a place
-unfoldable pub left : List ℕ → List ℕ → Answer
+unfoldable pub left : List ℕ → List ℕ → Shown
 left c before = fitting (fits (leftForm c) before)
 
 -- an expression applied to one empty text with Any: the texts, and the flag by the limit
-unfoldable pub applied : ℕ → List ℕ → Answer
-applied limit e = spellings (run false limit (rule (offered names e) ∷ []) (start Any))
+unfoldable pub applying : ℕ → List ℕ → Shown
+applying limit e = spellings (run false limit (rule (offered names e) ∷ []) (start Any))
 
 -- a character that no rule of a final pass matches; the limit, here 5, has no part in it
-unfoldable pub appending : List ℕ → List Entry → Answer
+unfoldable pub appending : List ℕ → List Entry → Shown
 appending c l = spellings (run true 5 (letter c ∷ []) l)
 
 -- a Generic name's remainder and joined name
-unfoldable pub partsBy : Prefix → List ℕ → Answer
+unfoldable pub partsBy : Prefix → List ℕ → Shown
 partsBy (Parted keep skip) s = parts (drop skip s) (joinedName keep skip s)
 partsBy Whole s = unparted
 
-unfoldable pub partsOf : List ℕ → Answer
+unfoldable pub partsOf : List ℕ → Shown
 partsOf s = partsBy (splitOf s) s
 
 abbrev pub entry : List ℕ → LanguageSet → Entry
@@ -93,9 +93,9 @@ table =
     ∷ row (left (91 ∷ 97 ∷ 45 ∷ 99 ∷ 93 ∷ []) (98 ∷ [])) (fitting false)
     ∷ row (languages (narrowed Any (SomeLanguages 2))) (languages (SomeLanguages 2))
     ∷ row (languages (merged Any (SomeLanguages 2))) (languages Any)
-    ∷ row (applied 5 choice) (spellings (ran (entry (97 ∷ []) Any ∷ entry (98 ∷ []) (SomeLanguages 2) ∷ []) false))
-    ∷ row (applied 1 choice) (spellings (ran (entry (98 ∷ []) (SomeLanguages 2) ∷ []) true))
-    ∷ row (applied 0 choice) (spellings (ran [] true))
+    ∷ row (applying 5 choice) (spellings (ran (entry (97 ∷ []) Any ∷ entry (98 ∷ []) (SomeLanguages 2) ∷ []) false))
+    ∷ row (applying 1 choice) (spellings (ran (entry (98 ∷ []) (SomeLanguages 2) ∷ []) true))
+    ∷ row (applying 0 choice) (spellings (ran [] true))
     ∷ row (appending (122 ∷ []) (entry (97 ∷ []) Any ∷ entry (97 ∷ 98 ∷ []) Any ∷ []))
     (spellings (ran (entry (97 ∷ 98 ∷ 122 ∷ []) Any ∷ entry (97 ∷ 122 ∷ []) Any ∷ []) false))
     ∷ row (partsOf (100 ∷ 101 ∷ 32 ∷ 108 ∷ 97 ∷ 32 ∷ 99 ∷ 114 ∷ 117 ∷ 122 ∷ [])) (parts (108 ∷ 97 ∷ 32 ∷ 99 ∷ 114 ∷ 117 ∷ 122 ∷ []) (100 ∷ 101 ∷ 108 ∷ 97 ∷ 32 ∷ 99 ∷ 114 ∷ 117 ∷ 122 ∷ []))

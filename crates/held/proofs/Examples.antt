@@ -4,9 +4,9 @@ use mathlib.Core.List.{List, [], _∷_}
 use Prim.Native.Nat.{ℕ, _/_}
 use Rattle.base.specs.Pick.{pick}
 use Rattle.refusals.specs.declared.Refusal.the-variants.{FileMissing, LineUnreadable, IncludeTooDeep}
-use Rattle.held.specs.Met.{Met, end, rule, file, empty, isNil, add, extend, held, spread, or, brings, since, entries, lastEntry, from}
-use Rattle.held.specs.Files.{passed, include, bad, Content, missing, lines, refused, before, onRead, onContent, readLines, follow, readListed}
-use Rattle.held.specs.Tables.{noteIn, staysIn, noted, kept, insert, keysFrom, atPlace, keyBytes}
+use Rattle.held.specs.Met.{Met, end, rule, file, noRules, bringsNone, add, extend, held, spread, entries}
+use Rattle.held.specs.Files.{passed, include, badLine, Content, noContent, lines, notRead, before, onRead, onContent, readLines, follow, readListed}
+use Rattle.held.specs.Contracts.{noteIn, staysIn, noted, kept, insertNumber, keysFrom, atPlace, keyBytes, eitherOf, brings, since, lastEntry, from}
 
 tens : ℕ → ℕ
 tens r = r / 10
@@ -15,12 +15,12 @@ tens r = r / 10
 example : Met ℕ
 example = rule 21 (rule 11 (file (rule 12 (file (rule 13 end) (rule 14 end))) (rule 31 (rule 15 end))))
 
-example-held : spread (held tens empty example) 5 0 ≡ 13 ∷ 14 ∷ 15 ∷ 21 ∷ 31 ∷ []
-unfolding example tens pick empty isNil add extend held spread
+example-held : spread (held tens noRules example) 5 0 ≡ 13 ∷ 14 ∷ 15 ∷ 21 ∷ 31 ∷ []
+unfolding example tens pick noRules bringsNone add extend held spread
 example-held = refl
 
 example-since : since tens 1 [] example ≡ 13 ∷ 14 ∷ 15 ∷ []
-unfolding example tens pick or brings since
+unfolding example tens pick eitherOf brings since
 example-since = refl
 
 -- the last entry into a file that brings 1 is the second
@@ -43,7 +43,7 @@ example-kept = refl
 
 -- and the numbers by which they are put in order: places 1, 2, 4, 0 and 3
 example-keys : keysFrom tens 0 [] (21 ∷ 13 ∷ 14 ∷ 31 ∷ 15 ∷ []) ≡ 4097 ∷ 4098 ∷ 4100 ∷ 8192 ∷ 12291 ∷ []
-unfolding tens pick insert keysFrom
+unfolding tens pick insertNumber keysFrom
 example-keys = refl
 
 example-bytes : keyBytes (λ r. r ∷ []) (21 ∷ 13 ∷ 14 ∷ 31 ∷ 15 ∷ []) (4097 ∷ 4098 ∷ 4100 ∷ 8192 ∷ 12291 ∷ []) ≡ 13 ∷ 14 ∷ 15 ∷ 21 ∷ 31 ∷ []
@@ -54,14 +54,14 @@ example-bytes = refl
 itself : List ℕ → Content ℕ
 itself name = lines 1 (include name ∷ [])
 
-example-deep : readListed itself 0 (passed 3 ∷ include [] ∷ []) ≡ refused IncludeTooDeep 1 1
+example-deep : readListed itself 0 (passed 3 ∷ include [] ∷ []) ≡ notRead IncludeTooDeep 1 1
 unfolding itself pick before onRead onContent readLines follow readListed
 example-deep = refl
 
 -- a file that is missing, in line 4 of file 7
 nobody : List ℕ → Content ℕ
-nobody name = missing
+nobody name = noContent
 
-example-missing : readListed nobody 7 (passed 3 ∷ include [] ∷ bad LineUnreadable ∷ []) ≡ refused FileMissing 4 7
+example-missing : readListed nobody 7 (passed 3 ∷ include [] ∷ badLine LineUnreadable ∷ []) ≡ notRead FileMissing 4 7
 unfolding nobody pick before onRead onContent readLines follow readListed
 example-missing = refl

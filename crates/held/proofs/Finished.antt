@@ -8,15 +8,16 @@ use native.Mathlib.Decide.{ℕ-discrete}
 use native.Mathlib.Omega.{arith}
 use lib.ListN.{length, length-append}
 use borrow.Author.Tests.{eqb-true, ne-eqb, eq-eqb}
-use Rattle.base.specs.Pick.{pick, pick-true, pick-false, pick-all}
-use Rattle.held.specs.Met.{Met, end, rule, file, Map, empty, isNil, add, extend, held, brings, spread, codes, finished, entries}
-use Rattle.held.specs.Tables.{noted, kept, staysIn, All, Apart, Each, Within}
+use Rattle.base.specs.Pick.{pick}
+use Rattle.held.specs.Met.{Met, end, rule, file, Map, noRules, bringsNone, add, extend, held, spread, codes, finished, entries}
+use Rattle.held.specs.Contracts.{noted, kept, staysIn, All, KeysApart, Each, Within, brings}
 use Rattle.held.proofs.Laws.{or-left, or-right, held-brings}
 use Rattle.held.proofs.Places.{noted-apart, noted-all}
 use Rattle.held.proofs.Kept.{under, under-append, kept-held}
+use Rattle.base.proofs.PickLaws.{pick-true, pick-false, pick-all}
 
-nil-some : {R : Type 0} (l : List R) → isNil l ≡ false → 0 < length l
-unfolding isNil
+nil-some : {R : Type 0} (l : List R) → bringsNone l ≡ false → 0 < length l
+unfolding bringsNone
 nil-some [] e = absurd (false≢true (sym e))
 nil-some (r ∷ l) e = omega arith
 
@@ -67,10 +68,10 @@ module _ {R : Type 0} (first : R → ℕ) where
   pick-only c false a b p q = q refl
 
   held-only : (t : Met R) (m : Map R) → ((c : ℕ) → Only c (m c)) → (c : ℕ) → Only c (held first m t c)
-  unfolding held add extend empty
+  unfolding held add extend noRules
   held-only end m o c = o c
   held-only (rule r t) m o c = held-only t (add first m r) (λ d. pick-only d _ _ _ (λ p. only-append d (m d) (r ∷ []) (o d) (eqb-true _ _ p, tt)) (λ p. o d)) c
-  held-only (file i t) m o c = let w = held-only i empty (λ d. tt) in held-only t (extend m (held first empty i)) (λ d. pick-only d _ _ _ (λ p. o d) (λ p. w d)) c
+  held-only (file i t) m o c = let w = held-only i noRules (λ d. tt) in held-only t (extend m (held first noRules i)) (λ d. pick-only d _ _ _ (λ p. o d) (λ p. w d)) c
 
   from-below : (a b : ℕ) (l : List R) → a ≤ b → From b l → From a l
   from-below a b [] h f = tt
@@ -101,13 +102,13 @@ module _ {R : Type 0} (first : R → ℕ) where
     spread-from (suc k) a = from-append a (m a) (spread m k (suc a)) (o a) (from-below a (suc a) (spread m k (suc a)) (omega arith) (spread-from k (suc a)))
 
   -- "by first character and then file order"
-  pub finished-under : (t : Met R) (c : ℕ) → c < codes → under first c (finished first t) ≡ held first empty t c
-  unfolding finished empty
-  finished-under t c h = spread-under (held first empty t) (held-only t empty (λ d. tt)) codes 0 c (omega arith) (omega arith)
+  pub finished-under : (t : Met R) (c : ℕ) → c < codes → under first c (finished first t) ≡ held first noRules t c
+  unfolding finished noRules
+  finished-under t c h = spread-under (held first noRules t) (held-only t noRules (λ d. tt)) codes 0 c (omega arith) (omega arith)
 
   pub finished-from : (t : Met R) → From 0 (finished first t)
-  unfolding finished empty
-  finished-from t = spread-from (held first empty t) (held-only t empty (λ d. tt)) codes 0
+  unfolding finished noRules
+  finished-from t = spread-from (held first noRules t) (held-only t noRules (λ d. tt)) codes 0
 
   -- ---- a list by its first characters
 
@@ -182,15 +183,15 @@ module _ {R : Type 0} (first : R → ℕ) where
   each-both P Q S (file i t) h p q = (each-both P Q S i h (p .0) (q .0), each-both P Q S t h (p .1) (q .1))
 
   -- numbers of characters that grow, something being held of each
-  apart-spread : (m : Map R) (k a b : ℕ) (vs : List ℕ) → b ≤ a + k → Apart a vs → All (λ v. (v / 512 < b) × (isNil (m (v / 512)) ≡ false)) vs → length vs ≤ length (spread m k a)
-  unfolding spread Apart All
+  apart-spread : (m : Map R) (k a b : ℕ) (vs : List ℕ) → b ≤ a + k → KeysApart a vs → All (λ v. (v / 512 < b) × (bringsNone (m (v / 512)) ≡ false)) vs → length vs ≤ length (spread m k a)
+  unfolding spread KeysApart All
   apart-spread m zero a b [] h p q = omega arith
   apart-spread m zero a b (v ∷ vs) h p q = absurd (omega (arith, p .0, q .0 .0))
   apart-spread m (suc k) a b [] h p q = omega arith
   apart-spread m (suc k) a b (v ∷ vs) h p q = elim (ℕ-discrete (v / 512) a) [
     | yes e ↦
         let w = apart-spread m k (suc a) b vs (omega arith) (rw e at (p .1)) (q .1) in
-        let s : isNil (m a) ≡ false = rw e at (q .0 .1) in
+        let s : bringsNone (m a) ≡ false = rw e at (q .0 .1) in
         omega (arith, nil-some (m a) s, length-append (m a) (spread m k (suc a)))
     | no e ↦
         let w = apart-spread m k (suc a) b (v ∷ vs) (omega arith) (omega (arith, p .0), p .1) q in
@@ -201,7 +202,7 @@ module _ {R : Type 0} (first : R → ℕ) where
     -- the finished list, by the rules that stay
     pub finished-kept : finished first t ≡ Sorted (kept first (noted first 0 0 [] t) 0 [] t) codes 0
     unfolding finished
-    finished-kept = spread-same (held first empty t) (λ c. under first c (kept first (noted first 0 0 [] t) 0 [] t)) codes 0 (λ c x y. sym (kept-held first c t short))
+    finished-kept = spread-same (held first noRules t) (λ c. under first c (kept first (noted first 0 0 [] t) 0 [] t)) codes 0 (λ c x y. sym (kept-held first c t short))
 
     module _ (within : Within first t) where
       pub kept-within : All (λ r. first r < codes) (kept first (noted first 0 0 [] t) 0 [] t)
@@ -214,10 +215,10 @@ module _ {R : Type 0} (first : R → ℕ) where
 
       -- no more numbers are noted
       pub length-noted : length (noted first 0 0 [] t) ≤ length (finished first t)
-      unfolding All Apart finished
+      unfolding All KeysApart finished
       length-noted =
-          apart-spread (held first empty t) codes 0 codes (noted first 0 0 [] t) (omega arith) (noted-apart first t 0 0 [] (omega arith) (omega arith) tt)
+          apart-spread (held first noRules t) codes 0 codes (noted first 0 0 [] t) (omega arith) (noted-apart first t 0 0 [] (omega arith) (omega arith) tt)
           (noted-all first _ t 0 0 [] (omega arith) (omega arith)
-          (each-both (λ r. first r < codes) (λ r. isNil (held first empty t (first r)) ≡ false) _ t
+          (each-both (λ r. first r < codes) (λ r. bringsNone (held first noRules t (first r)) ≡ false) _ t
           (λ r x y k l. let e : (512 * first r + k) / 512 ≡ first r = omega arith in rw e (x, y)) within
-          (each-brings (λ c. isNil (held first empty t c) ≡ false) t (λ c b. held-brings first c t empty b))) tt)
+          (each-brings (λ c. bringsNone (held first noRules t c) ≡ false) t (λ c b. held-brings first c t noRules b))) tt)

@@ -9,11 +9,12 @@ use native.Mathlib.Decide.{decLt, decLe, ℕ-discrete}
 use native.Mathlib.Omega.{arith}
 use lib.Dec.{eqb, leb, ltb}
 use borrow.Author.Tests.{lt-ltb, le-ltb, le-leb, lt-leb, eq-eqb, ne-eqb, eqb-true}
-use Rattle.base.specs.Pick.{pick, pick-true, pick-false}
-use Rattle.held.specs.Met.{Met, end, rule, file, empty, held, brings, entries, lastEntry, from}
-use Rattle.held.specs.Tables.{noteIn, staysIn, noted, kept}
+use Rattle.base.specs.Pick.{pick}
+use Rattle.held.specs.Met.{Met, end, rule, file, noRules, held, entries}
+use Rattle.held.specs.Contracts.{noteIn, staysIn, noted, kept, brings, lastEntry, from}
 use Rattle.held.proofs.Laws.{or-true, or-left, or-right}
 use Rattle.held.proofs.Entry.{held-from}
+use Rattle.base.proofs.PickLaws.{pick-true, pick-false}
 
 -- ---- what the first table tells of c: the entry and one, or 0
 
@@ -192,7 +193,7 @@ module _ {R : Type 0} (first : R → ℕ) (c : ℕ) where
       ∙ append-assoc (under first c rs) (from first c l (n + 1) i) (from first c l (n + 1 + entries i) t)
 
   -- THE LAW of the tables: of each first character the rules that stay are those that are held
-  pub kept-held : (t : Met R) → entries t ≤ 256 → under first c (kept first (noted first 0 0 [] t) 0 [] t) ≡ held first empty t c
+  pub kept-held : (t : Met R) → entries t ≤ 256 → under first c (kept first (noted first 0 0 [] t) 0 [] t) ≡ held first noRules t c
   unfolding under told
   kept-held t h =
       kept-from (lastEntry first c 0 0 0 t) (noted first 0 0 [] t) t 0 [] (λ p m.

@@ -8,24 +8,25 @@ use native.Mathlib.Omega.{arith}
 use lib.Dec.{eqb}
 use lib.ListN.{length}
 use borrow.Author.Tests.{lt-ltb, le-ltb}
-use Rattle.base.specs.Pick.{pick, pick-true, pick-false}
-use Rattle.held.specs.Met.{Met, Map, spread, codes, finished, entries}
-use Rattle.held.specs.Tables.{noted, kept, insert, keysFrom, atPlace, keyBytes, bytesOf, All, Bounded, Rising, Within}
+use Rattle.base.specs.Pick.{pick}
+use Rattle.held.specs.Met.{Met, Map, spread, codes, finished, entries, bytesOfAll}
+use Rattle.held.specs.Contracts.{noted, kept, insertNumber, keysFrom, atPlace, keyBytes, All, Bounded, Rising, Within}
 use Rattle.held.proofs.Places.{all-insert, rising-insert, insert-length, bounded-insert}
 use Rattle.held.proofs.Kept.{under, under-append}
 use Rattle.held.proofs.Finished.{From, under-there, sorted-is, finished-kept, kept-within}
+use Rattle.base.proofs.PickLaws.{pick-true, pick-false}
 
 abbrev char : ℕ → ℕ
 char k = k / 4096
 
 -- ---- a number goes in: behind those of its character, and among no others
 
-put-low : (v x : ℕ) (ks : List ℕ) → x < v → insert v (x ∷ ks) ≡ x ∷ insert v ks
-unfolding insert
+put-low : (v x : ℕ) (ks : List ℕ) → x < v → insertNumber v (x ∷ ks) ≡ x ∷ insertNumber v ks
+unfolding insertNumber
 put-low v x ks h = pick-true _ _ _ (lt-ltb x v h)
 
-put-here : (v x : ℕ) (ks : List ℕ) → v ≤ x → insert v (x ∷ ks) ≡ v ∷ x ∷ ks
-unfolding insert
+put-here : (v x : ℕ) (ks : List ℕ) → v ≤ x → insertNumber v (x ∷ ks) ≡ v ∷ x ∷ ks
+unfolding insertNumber
 put-here v x ks h = pick-false _ _ _ (le-ltb x v h)
 
 all-more : {A : Type 0} (P Q : A → Type 0) (l : List A) → ((x : A) → P x → Q x) → All P l → All Q l
@@ -51,8 +52,8 @@ module _ (c j : ℕ) (small : j < 4096) where
       let q = a .0 in
       under-there char c k ks (λ e. omega arith) ∙ none k ks (omega arith) (o .1) (a .1)
 
-  put : (d x : ℕ) (ks : List ℕ) → Rising x ks → All (λ k. k % 4096 < j) ks → under char c (insert (4096 * d + j) ks) ≡ under char c (ks ++ ((4096 * d + j) ∷ []))
-  unfolding insert Rising All
+  put : (d x : ℕ) (ks : List ℕ) → Rising x ks → All (λ k. k % 4096 < j) ks → under char c (insertNumber (4096 * d + j) ks) ≡ under char c (ks ++ ((4096 * d + j) ∷ []))
+  unfolding insertNumber Rising All
   put d x [] o a = refl
   put d x (k ∷ ks) o a = elim (decLt k (4096 * d + j)) [
     | yes p ↦ rw (put-low (4096 * d + j) k ks p) (under-cons c k _ _ (put d k ks (o .1) (a .1)))
@@ -79,16 +80,16 @@ module _ {R : Type 0} (first : R → ℕ) where
   under-keys c j ks [] h o a = ap (under char c) (sym (append-nil ks))
   under-keys c j ks (r ∷ rs) h o a =
       let v = 4096 * first r + j in
-      under-keys c (suc j) (insert v ks) rs (omega arith) (rising-insert 0 v ks (omega arith) o) (all-insert _ v ks (omega arith) (all-more _ _ ks (λ x p. omega arith) a))
-      ∙ under-append char c (insert v ks) (keysMet (suc j) rs)
+      under-keys c (suc j) (insertNumber v ks) rs (omega arith) (rising-insert 0 v ks (omega arith) o) (all-insert _ v ks (omega arith) (all-more _ _ ks (λ x p. omega arith) a))
+      ∙ under-append char c (insertNumber v ks) (keysMet (suc j) rs)
       ∙ ap (λ (l : List ℕ). l ++ under char c (keysMet (suc j) rs)) (put c j (omega arith) (first r) 0 ks o a)
       ∙ sym (under-append char c (ks ++ (v ∷ [])) (keysMet (suc j) rs))
       ∙ ap (under char c) (append-assoc ks (v ∷ []) (keysMet (suc j) rs))
 
   -- and lead to the rules of that character
   met-bytes : (f : R → List ℕ) (all : List R) (c j : ℕ) (rs : List R) → j + length rs ≤ 4096 → ((i : ℕ) → atPlace f all (j + i) ≡ atPlace f rs i)
-      → keyBytes f all (under char c (keysMet j rs)) ≡ bytesOf f (under first c rs)
-  unfolding keysMet under keyBytes bytesOf atPlace pick
+      → keyBytes f all (under char c (keysMet j rs)) ≡ bytesOfAll f (under first c rs)
+  unfolding keysMet under keyBytes bytesOfAll atPlace pick
   met-bytes f all c j [] h p = refl
   met-bytes f all c j (r ∷ rs) h p =
       let e : char (4096 * first r + j) ≡ first r = omega arith in
@@ -98,8 +99,8 @@ module _ {R : Type 0} (first : R → ℕ) where
       rw e (go (eqb (first r) c) (ap (atPlace f all) q ∙ g)
       (met-bytes f all c (suc j) rs (omega arith) (λ i. let s : suc j + i ≡ j + suc i = omega arith in rw s (p (suc i)))))
     where
-      go : (b : Bool) → atPlace f all ((4096 * first r + j) % 4096) ≡ f r → keyBytes f all (under char c (keysMet (suc j) rs)) ≡ bytesOf f (under first c rs)
-          → keyBytes f all (pick b ((4096 * first r + j) ∷ under char c (keysMet (suc j) rs)) (under char c (keysMet (suc j) rs))) ≡ bytesOf f (pick b (r ∷ under first c rs) (under first c rs))
+      go : (b : Bool) → atPlace f all ((4096 * first r + j) % 4096) ≡ f r → keyBytes f all (under char c (keysMet (suc j) rs)) ≡ bytesOfAll f (under first c rs)
+          → keyBytes f all (pick b ((4096 * first r + j) ∷ under char c (keysMet (suc j) rs)) (under char c (keysMet (suc j) rs))) ≡ bytesOfAll f (pick b (r ∷ under first c rs) (under first c rs))
       go true x y = ap₂ _++_ x y
       go false x y = y
 
@@ -117,7 +118,7 @@ module _ {R : Type 0} (first : R → ℕ) where
   pub length-keys : (j : ℕ) (ks : List ℕ) (rs : List R) → length (keysFrom first j ks rs) ≡ length ks + length rs
   unfolding keysFrom
   length-keys j ks [] = omega arith
-  length-keys j ks (r ∷ rs) = omega (arith, length-keys (suc j) (insert (4096 * first r + j) ks) rs, insert-length (4096 * first r + j) ks)
+  length-keys j ks (r ∷ rs) = omega (arith, length-keys (suc j) (insertNumber (4096 * first r + j) ks) rs, insert-length (4096 * first r + j) ks)
 
   -- ---- the rules in order
 
@@ -126,13 +127,13 @@ module _ {R : Type 0} (first : R → ℕ) where
   key-append f all [] b = refl
   key-append f all (k ∷ a) b = ap (λ (l : List ℕ). atPlace f all (k % 4096) ++ l) (key-append f all a b) ∙ sym (append-assoc (atPlace f all (k % 4096)) (keyBytes f all a) (keyBytes f all b))
 
-  bytes-append : (f : R → List ℕ) (a b : List R) → bytesOf f (a ++ b) ≡ bytesOf f a ++ bytesOf f b
-  unfolding bytesOf
+  bytes-append : (f : R → List ℕ) (a b : List R) → bytesOfAll f (a ++ b) ≡ bytesOfAll f a ++ bytesOfAll f b
+  unfolding bytesOfAll
   bytes-append f [] b = refl
-  bytes-append f (r ∷ a) b = ap (λ (l : List ℕ). f r ++ l) (bytes-append f a b) ∙ sym (append-assoc (f r) (bytesOf f a) (bytesOf f b))
+  bytes-append f (r ∷ a) b = ap (λ (l : List ℕ). f r ++ l) (bytes-append f a b) ∙ sym (append-assoc (f r) (bytesOfAll f a) (bytesOfAll f b))
 
-  spread-bytes : (f : R → List ℕ) (all : List R) (m : Map ℕ) (w : Map R) (k a : ℕ) → ((c : ℕ) → keyBytes f all (m c) ≡ bytesOf f (w c)) → keyBytes f all (spread m k a) ≡ bytesOf f (spread w k a)
-  unfolding spread keyBytes bytesOf
+  spread-bytes : (f : R → List ℕ) (all : List R) (m : Map ℕ) (w : Map R) (k a : ℕ) → ((c : ℕ) → keyBytes f all (m c) ≡ bytesOfAll f (w c)) → keyBytes f all (spread m k a) ≡ bytesOfAll f (spread w k a)
+  unfolding spread keyBytes bytesOfAll
   spread-bytes f all m w zero a h = refl
   spread-bytes f all m w (suc k) a h =
       key-append f all (m a) (spread m k (suc a)) ∙ ap₂ _++_ (h a) (spread-bytes f all m w k (suc a) h) ∙ sym (bytes-append f (w a) (spread w k (suc a)))
@@ -145,7 +146,7 @@ module _ {R : Type 0} (first : R → ℕ) where
   -- THE LAW of the order: who walks the numbers writes the finished list
   pub finished-keys : (f : R → List ℕ) (t : Met R) → entries t ≤ 256 → Within first t
       → let rs = kept first (noted first 0 0 [] t) 0 [] t in
-      length rs ≤ 4096 → keyBytes f rs (keysFrom first 0 [] rs) ≡ bytesOf f (finished first t)
+      length rs ≤ 4096 → keyBytes f rs (keysFrom first 0 [] rs) ≡ bytesOfAll f (finished first t)
   unfolding Rising All Bounded
   finished-keys f t short within h =
       let rs = kept first (noted first 0 0 [] t) 0 [] t in
@@ -155,4 +156,4 @@ module _ {R : Type 0} (first : R → ℕ) where
       (all-more _ _ ks (λ k p. omega arith) (bounded-keys 0 [] rs (omega arith) (kept-within first t short within) tt))))
       ∙ spread-bytes f rs (λ c. under char c ks) (λ c. under first c rs) codes 0
       (λ c. ap (keyBytes f rs) (under-keys c 0 [] rs (omega arith) tt tt) ∙ met-bytes f rs c 0 rs (omega arith) (λ i. ap (atPlace f rs) (z i)))
-      ∙ ap (bytesOf f) (sym (finished-kept first t short))
+      ∙ ap (bytesOfAll f) (sym (finished-kept first t short))

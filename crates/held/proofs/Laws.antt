@@ -4,34 +4,36 @@ use mathlib.Core.Bool.{Bool, true, false, false≢true}
 use mathlib.Core.List.{List, [], _∷_, _++_}
 use mathlib.Core.Logic.{_⊎_, inl, inr, ⊎-elim}
 use Prim.Native.Nat.{ℕ}
-use Rattle.base.specs.Pick.{pick, pick-true, pick-false}
-use Rattle.held.specs.Met.{Met, end, rule, file, Map, empty, isNil, add, extend, held, or, brings, since}
+use Rattle.base.specs.Pick.{pick}
+use Rattle.held.specs.Met.{Met, end, rule, file, Map, noRules, bringsNone, add, extend, held}
+use Rattle.base.proofs.PickLaws.{pick-true, pick-false}
+use Rattle.held.specs.Contracts.{eitherOf, brings, since}
 
-pub or-false : (a b : Bool) → or a b ≡ false → (a ≡ false) × (b ≡ false)
-unfolding or
+pub or-false : (a b : Bool) → eitherOf a b ≡ false → (a ≡ false) × (b ≡ false)
+unfolding eitherOf
 or-false true b e = absurd (false≢true (sym e))
 or-false false b e = (refl, e)
 
-behind-some : {R : Type 0} (l : List R) (r : R) → isNil (l ++ (r ∷ [])) ≡ false
-unfolding isNil
+behind-some : {R : Type 0} (l : List R) (r : R) → bringsNone (l ++ (r ∷ [])) ≡ false
+unfolding bringsNone
 behind-some [] r = refl
 behind-some (x ∷ l) r = refl
 
-pub or-true : (a b : Bool) → or a b ≡ true → (a ≡ true) ⊎ (b ≡ true)
-unfolding or
+pub or-true : (a b : Bool) → eitherOf a b ≡ true → (a ≡ true) ⊎ (b ≡ true)
+unfolding eitherOf
 or-true true b e = inl refl
 or-true false b e = inr e
 
-pub or-left : (a b : Bool) → a ≡ true → or a b ≡ true
-unfolding or
+pub or-left : (a b : Bool) → a ≡ true → eitherOf a b ≡ true
+unfolding eitherOf
 or-left a b p = rw p refl
 
-pub or-right : (a b : Bool) → b ≡ true → or a b ≡ true
-unfolding or
+pub or-right : (a b : Bool) → b ≡ true → eitherOf a b ≡ true
+unfolding eitherOf
 or-right true b p = refl
 or-right false b p = p
 
-pick-some : {R : Type 0} (t : Bool) (a b : List R) → (t ≡ true → isNil a ≡ false) → (t ≡ false → isNil b ≡ false) → isNil (pick t a b) ≡ false
+pick-some : {R : Type 0} (t : Bool) (a b : List R) → (t ≡ true → bringsNone a ≡ false) → (t ≡ false → bringsNone b ≡ false) → bringsNone (pick t a b) ≡ false
 unfolding pick
 pick-some true a b p q = p refl
 pick-some false a b p q = q refl
@@ -39,13 +41,13 @@ pick-some false a b p q = q refl
 module _ {R : Type 0} (first : R → ℕ) (c : ℕ) where
   -- where c is not met nothing of c changes
   pub held-same : (t : Met R) (m : Map R) → brings first c t ≡ false → held first m t c ≡ m c
-  unfolding held brings add extend empty isNil pick
+  unfolding held brings add extend noRules bringsNone pick
   held-same end m e = refl
   held-same (rule r t) m e = let w = or-false _ _ e in held-same t (add first m r) (w .1) ∙ rw (w .0) refl
   held-same (file i t) m e =
       let w = or-false _ _ e in
-      let q : held first empty i c ≡ [] = held-same i empty (w .0) in
-      held-same t (extend m (held first empty i)) (w .1) ∙ rw q refl
+      let q : held first noRules i c ≡ [] = held-same i noRules (w .0) in
+      held-same t (extend m (held first noRules i)) (w .1) ∙ rw q refl
 
   pub since-same : (t : Met R) (now : List R) → brings first c t ≡ false → since first c now t ≡ now
   unfolding since brings pick
@@ -56,29 +58,29 @@ module _ {R : Type 0} (first : R → ℕ) (c : ℕ) where
       rw (w .0) (ap (λ (l : List R). since first c l t) (since-same i now (w .0)) ∙ since-same t now (w .1))
 
   -- what is there is not taken away
-  held-some : (t : Met R) (m : Map R) → isNil (m c) ≡ false → isNil (held first m t c) ≡ false
+  held-some : (t : Met R) (m : Map R) → bringsNone (m c) ≡ false → bringsNone (held first m t c) ≡ false
   unfolding held add extend
   held-some end m e = e
   held-some (rule r t) m e = held-some t (add first m r) (pick-some _ _ _ (λ p. behind-some (m c) r) (λ p. e))
-  held-some (file i t) m e = held-some t (extend m (held first empty i)) (pick-some _ _ _ (λ p. e) (λ p. p))
+  held-some (file i t) m e = held-some t (extend m (held first noRules i)) (pick-some _ _ _ (λ p. e) (λ p. p))
 
   -- a file that brings c holds some of it
-  pub held-brings : (t : Met R) (m : Map R) → brings first c t ≡ true → isNil (held first m t c) ≡ false
+  pub held-brings : (t : Met R) (m : Map R) → brings first c t ≡ true → bringsNone (held first m t c) ≡ false
   unfolding held brings add extend
   held-brings end m e = absurd (false≢true e)
   held-brings (rule r t) m e =
       ⊎-elim (λ p. held-some t (add first m r) (rw (pick-true _ _ _ p) (behind-some (m c) r))) (λ p. held-brings t (add first m r) p) (or-true _ _ e)
   held-brings (file i t) m e =
-      ⊎-elim (λ p. let q = held-brings i empty p in held-some t (extend m (held first empty i)) (rw (pick-false _ _ _ q) q)) (λ p. held-brings t (extend m (held first empty i)) p) (or-true _ _ e)
+      ⊎-elim (λ p. let q = held-brings i noRules p in held-some t (extend m (held first noRules i)) (rw (pick-false _ _ _ q) q)) (λ p. held-brings t (extend m (held first noRules i)) p) (or-true _ _ e)
 
   -- THE LAW: what is held under c are the rules of c met since the last entry into a file that brings c
   pub held-since : (t : Met R) (m : Map R) → held first m t c ≡ since first c (m c) t
-  unfolding held since add extend empty isNil
+  unfolding held since add extend noRules bringsNone
   held-since end m = refl
   held-since (rule r t) m = held-since t (add first m r)
   held-since (file i t) m =
-      held-since t (extend m (held first empty i)) ∙ ap (λ (l : List R). since first c l t) (go (brings first c i) refl (held-since i empty))
+      held-since t (extend m (held first noRules i)) ∙ ap (λ (l : List R). since first c l t) (go (brings first c i) refl (held-since i noRules))
     where
-      go : (b : Bool) → brings first c i ≡ b → held first empty i c ≡ since first c [] i → extend m (held first empty i) c ≡ since first c (pick (brings first c i) [] (m c)) i
-      go true p ih = pick-false _ _ _ (held-brings i empty p) ∙ ih ∙ rw (pick-true _ [] (m c) p) refl
-      go false p ih = pick-true _ _ _ (ap isNil (held-same i empty p)) ∙ sym (since-same i (m c) p) ∙ rw (pick-false _ [] (m c) p) refl
+      go : (b : Bool) → brings first c i ≡ b → held first noRules i c ≡ since first c [] i → extend m (held first noRules i) c ≡ since first c (pick (brings first c i) [] (m c)) i
+      go true p ih = pick-false _ _ _ (held-brings i noRules p) ∙ ih ∙ rw (pick-true _ [] (m c) p) refl
+      go false p ih = pick-true _ _ _ (ap bringsNone (held-same i noRules p)) ∙ sym (since-same i (m c) p) ∙ rw (pick-false _ [] (m c) p) refl

@@ -2,7 +2,7 @@
 // name has.
 ghost use Prim.Native.Nat.{_≤_, _<_};
 ghost use lib.ListN.{length};
-ghost use Rattle.keys.specs.Waiting.{Waits};
+ghost use Rattle.keys.specs.Contracts.{Waits};
 
 // The bytes of the buffer from `from` up to `have` wait to be answered. `open` is false once the input has ended, and
 // then only whole lines wait.

@@ -7,7 +7,7 @@ mod input;
 ghost use mathlib.Core.Path.{_≡_};
 ghost use Prim.Native.Nat.{_≤_, _-_};
 ghost use lib.ListN.{length};
-ghost use Rattle.keys.specs.Waiting.{Waits, Within};
+ghost use Rattle.keys.specs.Contracts.{Waits, Within};
 use beider_morse::Lines;
 use beider_morse::Settings;
 use beider_morse::Start;

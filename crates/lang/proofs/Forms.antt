@@ -7,7 +7,7 @@ use native.Mathlib.Omega.{arith}
 use lib.Dec.{eqb}
 use lib.ListN.{length, take, drop}
 use borrow.Author.Tests.{lt-ltb, le-ltb, eq-eqb, ne-eqb, ltb-true, ltb-false}
-use Rattle.base.specs.Pick.{and, and-rest, and-none, and-first}
+use Rattle.base.specs.Pick.{and}
 use Rattle.letters.specs.Utf8.{decodeAt}
 use Rattle.letters.specs.Reading as letters
 use Rattle.letters.specs.declared.utf8.Step.{Step}
@@ -15,8 +15,9 @@ use Rattle.letters.specs.declared.utf8.Step.the-variants.{Char, Ill, End}
 use Rattle.letters.proofs.ReadingLaws.{Walk, walk-start, walk-on, walk-stop, walk-ill, walk-end, step-less}
 use Rattle.texts.specs.Parts.{firstIs, placeOf, has}
 use Rattle.texts.proofs.Laws.{place-most}
-use Rattle.lang.specs.Patterns.{opening, plain, boxPlain, withoutCaret, middle, insideOf, boxOf, charPiece, pieceAt, lengthAt, piecesOf, allBoxPlain, listed, good, allGood, blankless, framed, inForms}
+use Rattle.lang.specs.Patterns.{opening, plain, boxPlain, withoutCaret, middle, insideOf, boxPiece, charPiece, pieceAt, lengthAt, patternPieces, allBoxPlain, listedBox, goodPiece, allGood, blankless, framed, inForms}
 use Rattle.lang.proofs.Pieces.{piece-box, piece-char, next-within, next-less, next-pieces, pieces-none, first-in}
+use Rattle.base.proofs.PickLaws.{and-rest, and-none, and-first}
 
 -- ---- the characters of a box, as far as place p
 
@@ -24,31 +25,31 @@ pub record Listing (l : List ℕ) (p : ℕ) : Type 0 where
   pub some : 0 < length l
   pub walk : Walk Bool allBoxPlain l p
 
-pub listed-none : (l : List ℕ) → length l ≡ 0 → false ≡ listed l
-unfolding listed
+pub listed-none : (l : List ℕ) → length l ≡ 0 → false ≡ listedBox l
+unfolding listedBox
 listed-none l e = and-none _ _ _ (le-ltb 0 (length l) (omega arith)) refl
 
 pub listing-start : (l : List ℕ) → (length l ≡ 0 → ⊥) → Listing l 0
 listing-start l h = record { some = omega arith; walk = walk-start Bool allBoxPlain l }
 
 module _ {l : List ℕ} {p : ℕ} (w : Listing l p) (r : Step) (e : r ≡ decodeAt l p) where
-  whole : (b : Bool) → allBoxPlain (letters.piecesOf l) ≡ b → b ≡ listed l
-  unfolding listed
+  whole : (b : Bool) → allBoxPlain (letters.symbolsOf l) ≡ b → b ≡ listedBox l
+  unfolding listedBox
   whole b q = and-rest _ _ _ (lt-ltb 0 (length l) (w .some)) (sym q)
 
   pub listing-next : (k n : ℕ) (t : Bool) → r ≡ Char k n → t ≡ boxPlain k → t ≡ true → Listing l (p + n)
   unfolding allBoxPlain and
   listing-next k n t q f g = record { some = w .some; walk = walk-on (w .walk) k n (sym e ∙ q) (λ m. simp (sym f ∙ g)) }
 
-  pub listing-stop : (k n : ℕ) (t : Bool) → r ≡ Char k n → t ≡ boxPlain k → t ≡ false → false ≡ listed l
+  pub listing-stop : (k n : ℕ) (t : Bool) → r ≡ Char k n → t ≡ boxPlain k → t ≡ false → false ≡ listedBox l
   unfolding allBoxPlain
   listing-stop k n t q f g = whole false (walk-stop (w .walk) k n false (sym e ∙ q) (λ m. and-first _ _ (sym f ∙ g)))
 
-  pub listing-ill : r ≡ Ill → false ≡ listed l
+  pub listing-ill : r ≡ Ill → false ≡ listedBox l
   unfolding allBoxPlain
   listing-ill q = whole false (walk-ill (w .walk) false (sym e ∙ q) (λ m. refl))
 
-  pub listing-done : r ≡ End → true ≡ listed l
+  pub listing-done : r ≡ End → true ≡ listedBox l
   unfolding allBoxPlain
   listing-done q = whole true (walk-end (w .walk) (sym e ∙ q))
 
@@ -57,25 +58,25 @@ pub ruleset listing-laws = (listed-none, listing-start, listing-next, listing-st
 -- ---- a piece
 
 module _ (l : List ℕ) (r : Step) (e : r ≡ decodeAt l 0) where
-  pub good-char : (k n : ℕ) (t : Bool) → r ≡ Char k n → t ≡ plain k → t ≡ good (charPiece (decodeAt l 0))
-  unfolding good charPiece
-  good-char k n t q f = f ∙ sym (ap (λ (x : Step). good (charPiece x)) (sym e ∙ q))
+  pub good-char : (k n : ℕ) (t : Bool) → r ≡ Char k n → t ≡ plain k → t ≡ goodPiece (charPiece (decodeAt l 0))
+  unfolding goodPiece charPiece
+  good-char k n t q f = f ∙ sym (ap (λ (x : Step). goodPiece (charPiece x)) (sym e ∙ q))
 
-  pub good-ill : r ≡ Ill → false ≡ good (charPiece (decodeAt l 0))
-  unfolding good charPiece
-  good-ill q = sym (ap (λ (x : Step). good (charPiece x)) (sym e ∙ q))
+  pub good-ill : r ≡ Ill → false ≡ goodPiece (charPiece (decodeAt l 0))
+  unfolding goodPiece charPiece
+  good-ill q = sym (ap (λ (x : Step). goodPiece (charPiece x)) (sym e ∙ q))
 
-  pub good-end : r ≡ End → false ≡ good (charPiece (decodeAt l 0))
-  unfolding good charPiece
-  good-end q = sym (ap (λ (x : Step). good (charPiece x)) (sym e ∙ q))
+  pub good-end : r ≡ End → false ≡ goodPiece (charPiece (decodeAt l 0))
+  unfolding goodPiece charPiece
+  good-end q = sym (ap (λ (x : Step). goodPiece (charPiece x)) (sym e ∙ q))
 
 module _ (l : List ℕ) (t : Bool) (e : t ≡ firstIs opening l) (r : Bool) where
-  pub good-box : (x y : List ℕ) → t ≡ true → x ≡ insideOf (take (length l - 1) (drop 1 l)) → y ≡ withoutCaret x → r ≡ listed y → r ≡ good (pieceAt l)
-  unfolding good boxOf
-  good-box x y p f g h = h ∙ ap listed g ∙ ap good (piece-box l t e x p f)
+  pub good-box : (x y : List ℕ) → t ≡ true → x ≡ insideOf (take (length l - 1) (drop 1 l)) → y ≡ withoutCaret x → r ≡ listedBox y → r ≡ goodPiece (pieceAt l)
+  unfolding goodPiece boxPiece
+  good-box x y p f g h = h ∙ ap listedBox g ∙ ap goodPiece (piece-box l t e x p f)
 
-  pub good-other : t ≡ false → r ≡ good (charPiece (decodeAt l 0)) → r ≡ good (pieceAt l)
-  good-other p h = h ∙ ap good (piece-char l t e p)
+  pub good-other : t ≡ false → r ≡ goodPiece (charPiece (decodeAt l 0)) → r ≡ goodPiece (pieceAt l)
+  good-other p h = h ∙ ap goodPiece (piece-char l t e p)
 
 pub ruleset good-laws = (first-in, good-char, good-ill, good-end, good-box, good-other)
 
@@ -83,21 +84,21 @@ pub ruleset good-laws = (first-in, good-char, good-ill, good-end, good-box, good
 
 pub record Passing (t : List ℕ) (q : ℕ) : Type 0 where
   pub within : q ≤ length t
-  pub is : allGood (piecesOf t) ≡ allGood (piecesOf (drop q t))
+  pub is : allGood (patternPieces t) ≡ allGood (patternPieces (drop q t))
 
 pub passing-start : (t : List ℕ) → Passing t 0
 passing-start t = record { within = zero-le; is = refl }
 
 module _ {t : List ℕ} {q : ℕ} (w : Passing t q) where
-  pub passing-next : (n : ℕ) (r : Bool) → q < length t → r ≡ good (pieceAt (take (length t - q) (drop q t))) → r ≡ true → n ≡ lengthAt (take (length t - q) (drop q t)) → Passing t (q + n)
+  pub passing-next : (n : ℕ) (r : Bool) → q < length t → r ≡ goodPiece (pieceAt (take (length t - q) (drop q t))) → r ≡ true → n ≡ lengthAt (take (length t - q) (drop q t)) → Passing t (q + n)
   unfolding allGood and
   passing-next n r h e p f = record { within = next-within t q n h f; is = w .is ∙ ap allGood (next-pieces t q n h f) ∙ simp (sym e ∙ p) }
 
-  pub passing-stop : (r : Bool) → q < length t → r ≡ good (pieceAt (take (length t - q) (drop q t))) → r ≡ false → false ≡ allGood (piecesOf t)
+  pub passing-stop : (r : Bool) → q < length t → r ≡ goodPiece (pieceAt (take (length t - q) (drop q t))) → r ≡ false → false ≡ allGood (patternPieces t)
   unfolding allGood
   passing-stop r h e p = sym (w .is ∙ ap allGood (next-pieces t q _ h refl) ∙ and-first _ _ (sym e ∙ p))
 
-  pub passing-done : length t ≤ q → true ≡ allGood (piecesOf t)
+  pub passing-done : length t ≤ q → true ≡ allGood (patternPieces t)
   unfolding allGood
   passing-done h = sym (w .is ∙ ap allGood (pieces-none t q h))
 
@@ -132,9 +133,9 @@ pub ruleset blank-laws = (blank-tab, blank-space)
 
 pub ruleset framed-laws = (not-yes, not-no)
 
-pub forms-yes : (p x : List ℕ) (f r : Bool) → f ≡ framed p → f ≡ true → x ≡ middle p → r ≡ allGood (piecesOf x) → r ≡ inForms p
+pub forms-yes : (p x : List ℕ) (f r : Bool) → f ≡ framed p → f ≡ true → x ≡ middle p → r ≡ allGood (patternPieces x) → r ≡ inForms p
 unfolding inForms
-forms-yes p x f r e q g h = and-rest _ _ _ (sym e ∙ q) (h ∙ ap (λ (y : List ℕ). allGood (piecesOf y)) g)
+forms-yes p x f r e q g h = and-rest _ _ _ (sym e ∙ q) (h ∙ ap (λ (y : List ℕ). allGood (patternPieces y)) g)
 
 pub forms-no : (p : List ℕ) (f : Bool) → f ≡ framed p → f ≡ false → false ≡ inForms p
 unfolding inForms

@@ -9,17 +9,18 @@ use lib.Dec.{eqb}
 use lib.ListN.{length, take, drop, take-append-drop, length-drop}
 use borrow.Author.Tests.{eqb-true}
 use native.Mathlib.Omega.{arith}
-use Rattle.base.specs.Pick.{pick, and, pick-true, pick-false, pick-inv, pick-all, and-yes, and-inv}
+use Rattle.base.specs.Pick.{pick, and}
 use Rattle.letters.specs.Reading.{codesOf}
 use Rattle.texts.specs.Parts.{firstIs, lastIs, placeOf, has}
 use Rattle.letters.specs.Utf8.{encode, decodeAt}
 use Rattle.letters.specs.declared.utf8.Step.{Step}
 use Rattle.letters.specs.declared.utf8.Step.the-variants.{Char, Ill, End}
 use Rattle.letters.proofs.Utf8Laws.{char-at}
-use Rattle.lang.specs.Patterns.{caret, dollar, opening, closing, Piece, exactly, box, stray, withoutCaret, withoutDollar, middle, insideOf, boxLength, boxOf, charPiece, charLength, pieceAt, lengthAt, listed, good, piecesIn, piecesOf, allGood, framed, inForms, takes, fitsAt, fitsAnywhere, matchesIn, matchesOf}
+use Rattle.lang.specs.Patterns.{caret, dollar, opening, closing, Piece, exactly, box, stray, withoutCaret, withoutDollar, middle, insideOf, boxLength, boxPiece, charPiece, charLength, pieceAt, lengthAt, listedBox, goodPiece, patternPiecesIn, patternPieces, allGood, framed, inForms, takes, fitsAt, fitsAnywhere, matchesIn, matchesOf}
 use Rattle.lang.proofs.Pieces.{piece-bytes, pieces-cons}
 use Rattle.lang.proofs.Forms.{listed-none}
 use Rattle.lang.proofs.Fits.{has-nil, has-cons, anywhere-here}
+use Rattle.base.proofs.PickLaws.{pick-true, pick-false, pick-inv, pick-all, and-yes, and-inv}
 
 -- the pieces take these characters, one each
 pub data Taken : List Piece → List ℕ → Type 0 where
@@ -113,7 +114,7 @@ finds false xs end cs m = rw (m .whole) (anywhere xs end (m .before) (m .hit ++ 
 
 -- a pattern matches a name exactly when there is such a match
 abbrev pub Matches : List ℕ → List ℕ → Type 0
-Matches p name = Match (firstIs caret p) (piecesOf (middle p)) (lastIs dollar p) (codesOf name)
+Matches p name = Match (firstIs caret p) (patternPieces (middle p)) (lastIs dollar p) (codesOf name)
 
 pub matches-means : (p name : List ℕ) → matchesOf p name ≡ true → Matches p name
 unfolding matchesOf
@@ -126,7 +127,7 @@ means-matches p name m = finds _ _ _ _ m
 -- ---- the patterns without a piece: `^` and `$` fit every name, `^$` the empty one alone
 
 computing : Unit {0}
-unfolding matchesOf matchesIn inForms framed allGood piecesOf piecesIn middle withoutCaret withoutDollar firstIs lastIs has placeOf pick and
+unfolding matchesOf matchesIn inForms framed allGood patternPieces patternPiecesIn middle withoutCaret withoutDollar firstIs lastIs has placeOf pick and
 computing = tt
 
 module _ (name : List ℕ) where
@@ -204,24 +205,24 @@ unfolding withoutCaret firstIs pick
 last-same [] = refl
 last-same (x ∷ xs) = last-step x xs (eqb x caret) refl
 
-empty-box : listed (withoutCaret []) ≡ false
+empty-box : listedBox (withoutCaret []) ≡ false
 unfolding withoutCaret firstIs pick
 empty-box = sym (listed-none [] refl)
 
-box-by : (t : List ℕ) (b : Bool) → has closing t ≡ b → listed (withoutCaret (insideOf t)) ≡ true → insideOf t ++ (closing ∷ []) ≡ take (boxLength t) t
+box-by : (t : List ℕ) (b : Bool) → has closing t ≡ b → listedBox (withoutCaret (insideOf t)) ≡ true → insideOf t ++ (closing ∷ []) ≡ take (boxLength t) t
 unfolding insideOf boxLength
 box-by t true q e = rw (pick-true _ (take (placeOf closing t) t) [] q, pick-true _ (placeOf closing t + 1) (length t) q) (sym (place-is closing t q))
-box-by t false q e = absurd (false≢true (sym (ap (λ (l : List ℕ). listed (withoutCaret l)) (pick-false _ _ _ q) ∙ empty-box) ∙ e))
+box-by t false q e = absurd (false≢true (sym (ap (λ (l : List ℕ). listedBox (withoutCaret l)) (pick-false _ _ _ q) ∙ empty-box) ∙ e))
 
-box-back : (t : List ℕ) → listed (withoutCaret (insideOf t)) ≡ true → bytesOf (boxOf (insideOf t)) ≡ take (1 + boxLength t) (opening ∷ t)
-unfolding boxOf bytesOf
+box-back : (t : List ℕ) → listedBox (withoutCaret (insideOf t)) ≡ true → bytesOf (boxPiece (insideOf t)) ≡ take (1 + boxLength t) (opening ∷ t)
+unfolding boxPiece bytesOf
 box-back t e =
     let z : 1 + boxLength t ≡ suc (boxLength t) = omega arith in
     ap (λ (l : List ℕ). opening ∷ (l ++ (closing ∷ []))) (caret-back (insideOf t)) ∙ ap (λ (l : List ℕ). opening ∷ l) (box-by t (has closing t) refl e)
     ∙ ap (λ (n : ℕ). take n (opening ∷ t)) (sym z)
 
-char-back : (l : List ℕ) (r : Step) → decodeAt l 0 ≡ r → good (charPiece r) ≡ true → bytesOf (charPiece r) ≡ take (charLength r) l
-unfolding good charPiece charLength bytesOf
+char-back : (l : List ℕ) (r : Step) → decodeAt l 0 ≡ r → goodPiece (charPiece r) ≡ true → bytesOf (charPiece r) ≡ take (charLength r) l
+unfolding goodPiece charPiece charLength bytesOf
 char-back l (Char k n) q e = char-at l 0 k n q .bytes
 char-back l Ill q e = absurd (false≢true e)
 char-back l End q e = absurd (false≢true e)
@@ -231,20 +232,20 @@ unfolding firstIs
 first-back b [] q = absurd (false≢true q)
 first-back b (x ∷ l) q = ap (λ (y : ℕ). y ∷ l) (sym (eqb-true x b q))
 
-piece-by : (l : List ℕ) (b : Bool) → firstIs opening l ≡ b → good (pieceAt l) ≡ true → bytesOf (pieceAt l) ≡ take (lengthAt l) l
-unfolding pieceAt lengthAt good boxOf
+piece-by : (l : List ℕ) (b : Bool) → firstIs opening l ≡ b → goodPiece (pieceAt l) ≡ true → bytesOf (pieceAt l) ≡ take (lengthAt l) l
+unfolding pieceAt lengthAt goodPiece boxPiece
 piece-by l true q e =
-    let p = pick-true (firstIs opening l) (boxOf (insideOf (drop 1 l))) (charPiece (decodeAt l 0)) q in
-    ap bytesOf p ∙ box-back (drop 1 l) (sym (ap good p) ∙ e) ∙ ap₂ (λ (n : ℕ) (m : List ℕ). take n m) (sym (pick-true _ _ _ q)) (first-back opening l q)
+    let p = pick-true (firstIs opening l) (boxPiece (insideOf (drop 1 l))) (charPiece (decodeAt l 0)) q in
+    ap bytesOf p ∙ box-back (drop 1 l) (sym (ap goodPiece p) ∙ e) ∙ ap₂ (λ (n : ℕ) (m : List ℕ). take n m) (sym (pick-true _ _ _ q)) (first-back opening l q)
 piece-by l false q e =
-    let p = pick-false (firstIs opening l) (boxOf (insideOf (drop 1 l))) (charPiece (decodeAt l 0)) q in
-    ap bytesOf p ∙ char-back l (decodeAt l 0) refl (sym (ap good p) ∙ e) ∙ ap (λ (n : ℕ). take n l) (sym (pick-false _ _ _ q))
+    let p = pick-false (firstIs opening l) (boxPiece (insideOf (drop 1 l))) (charPiece (decodeAt l 0)) q in
+    ap bytesOf p ∙ char-back l (decodeAt l 0) refl (sym (ap goodPiece p) ∙ e) ∙ ap (λ (n : ℕ). take n l) (sym (pick-false _ _ _ q))
 
-none-back : bytesOfAll (piecesOf []) ≡ []
-unfolding bytesOfAll piecesOf piecesIn
+none-back : bytesOfAll (patternPieces []) ≡ []
+unfolding bytesOfAll patternPieces patternPiecesIn
 none-back = refl
 
-all-back : (f : ℕ) (l : List ℕ) → length l ≤ f → allGood (piecesOf l) ≡ true → bytesOfAll (piecesOf l) ≡ l
+all-back : (f : ℕ) (l : List ℕ) → length l ≤ f → allGood (patternPieces l) ≡ true → bytesOfAll (patternPieces l) ≡ l
 unfolding allGood bytesOfAll
 all-back zero [] h e = none-back
 all-back zero (x ∷ l) h e = absurd (omega arith)
@@ -259,8 +260,8 @@ all-back (suc f) (x ∷ l) h e =
     ∙ ap₂ (λ (u v : List ℕ). u ++ v) (piece-by (x ∷ l) (firstIs opening (x ∷ l)) refl (w .0)) (all-back f (drop n (x ∷ l)) (omega arith) (w .1))
     ∙ take-append-drop n (x ∷ l)
 
-pub forms-back : (p : List ℕ) → inForms p ≡ true → pick (firstIs caret p) (caret ∷ []) [] ++ (bytesOfAll (piecesOf (middle p)) ++ pick (lastIs dollar p) (dollar ∷ []) []) ≡ p
+pub forms-back : (p : List ℕ) → inForms p ≡ true → pick (firstIs caret p) (caret ∷ []) [] ++ (bytesOfAll (patternPieces (middle p)) ++ pick (lastIs dollar p) (dollar ∷ []) []) ≡ p
 unfolding inForms middle
 forms-back p e =
-    let w = and-inv (framed p) (allGood (piecesOf (middle p))) e in
+    let w = and-inv (framed p) (allGood (patternPieces (middle p))) e in
     rw (all-back (length (middle p)) (middle p) (omega arith) (w .1), ← last-same p, dollar-back (withoutCaret p), caret-back p)

@@ -8,14 +8,14 @@ use native.Mathlib.Omega.{arith}
 use lib.ListN.{length, take, drop, length-drop, drop-of-length-le}
 use lib.Seq.{take-all, drop-drop}
 use borrow.Author.Tests.{lt-ltb, le-ltb, ltb-true}
-use Rattle.base.specs.Pick.{pick-true, pick-false}
 use Rattle.letters.specs.Utf8.{decodeAt}
 use Rattle.letters.specs.declared.utf8.Step.{Step}
 use Rattle.letters.specs.declared.utf8.Step.the-variants.{Char, Ill, End}
 use Rattle.letters.proofs.Utf8Laws.{char-at, end-at}
 use Rattle.texts.specs.Parts.{firstIs, lastIs, placeOf, has}
 use Rattle.texts.proofs.Laws.{first-none, last-none, place-most}
-use Rattle.lang.specs.Patterns.{caret, dollar, opening, closing, Piece, withoutCaret, withoutDollar, middle, insideOf, boxLength, boxOf, charPiece, charLength, pieceAt, lengthAt, piecesIn, piecesOf}
+use Rattle.lang.specs.Patterns.{caret, dollar, opening, closing, Piece, withoutCaret, withoutDollar, middle, insideOf, boxLength, boxPiece, charPiece, charLength, pieceAt, lengthAt, patternPiecesIn, patternPieces}
+use Rattle.base.proofs.PickLaws.{pick-true, pick-false}
 
 -- ---- a text that begins or ends with a byte has one
 
@@ -123,9 +123,9 @@ module _ (l : List ℕ) (t : Bool) (e : t ≡ firstIs opening l) where
   pub length-fits : (n : ℕ) → t ≡ true → n ≡ boxLength (take (length l - 1) (drop 1 l)) → 1 + n ≤ length l
   length-fits n p f = omega (arith, first-in l opening t e p, box-most (drop 1 l), f ∙ ap boxLength (rest-all l 1), length-drop 1 l)
 
-  pub piece-box : (x : List ℕ) → t ≡ true → x ≡ insideOf (take (length l - 1) (drop 1 l)) → boxOf x ≡ pieceAt l
+  pub piece-box : (x : List ℕ) → t ≡ true → x ≡ insideOf (take (length l - 1) (drop 1 l)) → boxPiece x ≡ pieceAt l
   unfolding pieceAt
-  piece-box x p f = ap boxOf (f ∙ ap insideOf (rest-all l 1)) ∙ sym (pick-true _ _ _ (sym e ∙ p))
+  piece-box x p f = ap boxPiece (f ∙ ap insideOf (rest-all l 1)) ∙ sym (pick-true _ _ _ (sym e ∙ p))
 
   pub piece-char : t ≡ false → charPiece (decodeAt l 0) ≡ pieceAt l
   unfolding pieceAt
@@ -155,8 +155,8 @@ pub piece-bytes : (l : List ℕ) → 0 < length l → Bytes l (lengthAt l)
 piece-bytes l h = bytes-by l (firstIs opening l) refl h
 
 -- any fuel that is enough
-enough : (f g : ℕ) (l : List ℕ) → length l ≤ f → length l ≤ g → piecesIn f l ≡ piecesIn g l
-unfolding piecesIn
+enough : (f g : ℕ) (l : List ℕ) → length l ≤ f → length l ≤ g → patternPiecesIn f l ≡ patternPiecesIn g l
+unfolding patternPiecesIn
 enough zero zero l h k = refl
 enough zero (suc g) [] h k = refl
 enough zero (suc g) (x ∷ l) h k = absurd (omega arith)
@@ -168,8 +168,8 @@ enough (suc f) (suc g) (x ∷ l) h k =
     let less = length-drop (lengthAt (x ∷ l)) (x ∷ l) in
     ap (λ (m : List Piece). pieceAt (x ∷ l) ∷ m) (enough f g (drop (lengthAt (x ∷ l)) (x ∷ l)) (omega arith) (omega arith))
 
-pub pieces-cons : (l : List ℕ) → 0 < length l → piecesOf l ≡ pieceAt l ∷ piecesOf (drop (lengthAt l) l)
-unfolding piecesOf piecesIn
+pub pieces-cons : (l : List ℕ) → 0 < length l → patternPieces l ≡ pieceAt l ∷ patternPieces (drop (lengthAt l) l)
+unfolding patternPieces patternPiecesIn
 pieces-cons [] h = absurd (omega arith)
 pieces-cons (x ∷ l) h =
     let b = piece-bytes (x ∷ l) h in
@@ -177,9 +177,9 @@ pieces-cons (x ∷ l) h =
     let rest = drop (lengthAt (x ∷ l)) (x ∷ l) in
     ap (λ (m : List Piece). pieceAt (x ∷ l) ∷ m) (enough (length l) (length rest) rest (omega arith) (omega arith))
 
-pub pieces-none : (t : List ℕ) (q : ℕ) → length t ≤ q → piecesOf (drop q t) ≡ []
-unfolding piecesOf piecesIn
-pieces-none t q h = ap piecesOf (drop-of-length-le t h)
+pub pieces-none : (t : List ℕ) (q : ℕ) → length t ≤ q → patternPieces (drop q t) ≡ []
+unfolding patternPieces patternPiecesIn
+pieces-none t q h = ap patternPieces (drop-of-length-le t h)
 
 -- the piece at q, of n bytes, as the code cuts the rest off
 module _ (t : List ℕ) (q n : ℕ) (h : q < length t) (e : n ≡ lengthAt (take (length t - q) (drop q t))) where
@@ -195,5 +195,5 @@ module _ (t : List ℕ) (q n : ℕ) (h : q < length t) (e : n ≡ lengthAt (take
   pub next-less : length t - (q + n) < length t - q
   next-less = omega (arith, bytes .some)
 
-  pub next-pieces : piecesOf (drop q t) ≡ pieceAt (take (length t - q) (drop q t)) ∷ piecesOf (drop (q + n) t)
+  pub next-pieces : patternPieces (drop q t) ≡ pieceAt (take (length t - q) (drop q t)) ∷ patternPieces (drop (q + n) t)
   next-pieces = pieces-cons (drop q t) (omega (arith, length-drop q t)) ∙ rw (rest-all t q, here, drop-drop (lengthAt (drop q t)) q t)

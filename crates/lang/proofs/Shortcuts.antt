@@ -16,7 +16,7 @@ use lib.Pow.{shl-exact, pow-pos}
 use lib.Seq.{drop-nil, drop-cons, drop-drop, getD-take, getD-drop}
 use borrow.Author.Tests.{eq-eqb, ne-eqb, leb-true, ltb-false, eqb-true, eqb-false}
 use Rattle.base.proofs.Bits.{or-assoc, and-or, and-over-or}
-use Rattle.base.specs.Pick.{pick, and, pick-true, pick-false, pick-inv, and-inv, and-first}
+use Rattle.base.specs.Pick.{pick, and}
 use Rattle.letters.specs.Utf8.{decodeAt, encode}
 use Rattle.letters.specs.Reading.{codesOf}
 use Rattle.letters.specs.declared.utf8.Step.{Step}
@@ -24,10 +24,11 @@ use Rattle.letters.specs.declared.utf8.Step.the-variants.{Char, Ill, End}
 use Rattle.letters.proofs.Utf8Laws.{decode-one, char-at, char-drop, char-length, ill-in, encode-one, encode-two, encode-three, encode-four}
 use Rattle.letters.proofs.CodesLaws.{codes-char, codes-ill, codes-end}
 use Rattle.texts.specs.Parts.{firstIs, lastIs, placeOf, has}
-use Rattle.lang.specs.Patterns.{caret, dollar, opening, closing, Piece, boxLength, charPiece, pieceAt, lengthAt, charLength, piecesOf, middle, takes, fitsAt, fitsAnywhere, matchesIn, matchesOf}
-use Rattle.lang.specs.Shortcuts.{otherwise, bitOf, signatureOf, hasBit, mayIn, mayMatch}
+use Rattle.lang.specs.Patterns.{caret, dollar, opening, closing, Piece, boxLength, charPiece, pieceAt, lengthAt, charLength, patternPieces, middle, takes, fitsAt, fitsAnywhere, matchesIn, matchesOf}
+use Rattle.lang.specs.Contracts.{otherwise, bitOf, signatureOf, hasBit, mayIn, mayMatch}
 use Rattle.lang.proofs.Pieces.{pieces-cons, piece-char, piece-bytes, rest-all, next-less}
 use Rattle.lang.proofs.Fits.{has-cons}
+use Rattle.base.proofs.PickLaws.{pick-true, pick-false, pick-inv, and-inv, and-first}
 
 -- ---- a place
 
@@ -50,7 +51,7 @@ takes-not t b End e h l = refl
 
 module _ (t name : List ℕ) (end : Bool) (from : ℕ) (b : ℕ) (i : from < length name) (a : b ≡ getD name from 0) where
   -- t has a byte, which is neither `[` nor b
-  passed-by : 0 < length t → (getD t 0 0 ≡ opening → ⊥) → (getD t 0 0 ≡ b → ⊥) → b ≤ 0x7F → false ≡ fitsAt (piecesOf t) end (codesOf (drop from name))
+  passed-by : 0 < length t → (getD t 0 0 ≡ opening → ⊥) → (getD t 0 0 ≡ b → ⊥) → b ≤ 0x7F → false ≡ fitsAt (patternPieces t) end (codesOf (drop from name))
   unfolding fitsAt
   passed-by h o n l =
       let low : getD name from 0 ≤ 0x7F = omega arith in
@@ -65,7 +66,7 @@ past true b e = absurd (false≢true e)
 past false b e = (refl, e)
 
 pub place-passed : (t name : List ℕ) (end : Bool) (from : ℕ) (r : Bool) → from < length name → r ≡ otherwise t (getD name from 0) → r ≡ true
-    → false ≡ fitsAt (piecesOf t) end (codesOf (drop from name))
+    → false ≡ fitsAt (patternPieces t) end (codesOf (drop from name))
 unfolding otherwise
 place-passed t name end from r i e q =
     let b = getD name from 0 in
@@ -241,7 +242,7 @@ module _ (bits x : ℕ) (l : List ℕ) (c : ℕ) (a : In bits (encode c)) where
   piece-passed true o t h = front-passed bits x l (first-yes x l opening o) ∙ h
   piece-passed false o t h = char-passed (decodeAt (x ∷ l) 0) refl o (rw o at t) (rw o at h)
 
-fits-may : (f bits : ℕ) (t : List ℕ) → length t ≤ f → (end : Bool) (cs : List ℕ) → Covers bits cs → fitsAt (piecesOf t) end cs ≡ true → mayIn bits false t ≡ true
+fits-may : (f bits : ℕ) (t : List ℕ) → length t ≤ f → (end : Bool) (cs : List ℕ) → Covers bits cs → fitsAt (patternPieces t) end cs ≡ true → mayIn bits false t ≡ true
 unfolding mayIn fitsAt
 fits-may zero bits [] h end cs a e = refl
 fits-may zero bits (x ∷ l) h end cs a e = absurd (omega arith)
@@ -253,13 +254,13 @@ fits-may (suc f) bits (x ∷ l) h end (c ∷ cs) (more i a) e =
     let w = and-inv (takes (pieceAt (x ∷ l)) c) _ (rw (pieces-cons (x ∷ l) (omega arith)) at e) in
     piece-passed bits x l c i (firstIs opening (x ∷ l)) refl (w .0) (fits-may f bits (drop (lengthAt (x ∷ l)) (x ∷ l)) (omega arith) end cs a (w .1))
 
-anywhere-may : (bits : ℕ) (t : List ℕ) (end : Bool) (cs : List ℕ) → Covers bits cs → fitsAnywhere (piecesOf t) end cs ≡ true → mayIn bits false t ≡ true
+anywhere-may : (bits : ℕ) (t : List ℕ) (end : Bool) (cs : List ℕ) → Covers bits cs → fitsAnywhere (patternPieces t) end cs ≡ true → mayIn bits false t ≡ true
 unfolding fitsAnywhere
 anywhere-may bits t end [] a e = fits-may (length t) bits t (omega arith) end [] a e
 anywhere-may bits t end (c ∷ cs) (more i a) e =
     ⊎-elim (λ w. fits-may (length t) bits t (omega arith) end (c ∷ cs) (more i a) (w .0)) (λ w. anywhere-may bits t end cs a (w .1)) (pick-inv _ _ _ _ e)
 
-may-by : (bits : ℕ) (start : Bool) (t : List ℕ) (end : Bool) (cs : List ℕ) → Covers bits cs → matchesIn start (piecesOf t) end cs ≡ true → mayIn bits false t ≡ true
+may-by : (bits : ℕ) (start : Bool) (t : List ℕ) (end : Bool) (cs : List ℕ) → Covers bits cs → matchesIn start (patternPieces t) end cs ≡ true → mayIn bits false t ≡ true
 unfolding matchesIn pick
 may-by bits true t end cs a e = fits-may (length t) bits t (omega arith) end cs a e
 may-by bits false t end cs a e = anywhere-may bits t end cs a e
@@ -272,7 +273,7 @@ may-not p name h = by (matchesIn _ _ _ _) refl
     all : Covers (signatureOf name) (codesOf name)
     all = covers-from (signatureOf name) name (signature-in name) (suc (length name)) 0 (omega arith)
 
-    by : (t : Bool) → matchesIn (firstIs caret p) (piecesOf (middle p)) (lastIs dollar p) (codesOf name) ≡ t → matchesIn (firstIs caret p) (piecesOf (middle p)) (lastIs dollar p) (codesOf name) ≡ false
+    by : (t : Bool) → matchesIn (firstIs caret p) (patternPieces (middle p)) (lastIs dollar p) (codesOf name) ≡ t → matchesIn (firstIs caret p) (patternPieces (middle p)) (lastIs dollar p) (codesOf name) ≡ false
     by true e = absurd (false≢true (sym h ∙ may-by (signatureOf name) _ (middle p) _ (codesOf name) all e))
     by false e = e
 

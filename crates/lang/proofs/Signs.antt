@@ -9,10 +9,11 @@ use lib.Dec.{T, eqb, ltb, ltb→lt}
 use lib.ListN.{replicate, length-replicate}
 use types.Run.{OneOf}
 use borrow.Author.Tests.{ne-eqb}
-use Rattle.base.specs.Pick.{pick, and, and-no, pick-false}
+use Rattle.base.specs.Pick.{pick, and}
 use Rattle.base.proofs.Table.{every, at}
 use Rattle.texts.specs.Parts.{placeOf, has}
 use Rattle.lang.specs.Patterns.{signs, plain, boxSigns, boxPlain}
+use Rattle.base.proofs.PickLaws.{and-no, pick-false}
 
 -- what holds from lo on, n numbers long, by one computed test
 computed : (f : ℕ → Bool) (lo n k : ℕ) → T (every (λ i x. f (lo + i)) 0 (replicate n 0)) → lo ≤ k → k < lo + n → T (f k)

@@ -64,8 +64,8 @@ unfoldable pub boxLength : List ℕ → ℕ
 boxLength l = pick (has closing l) (placeOf closing l + 1) (length l)
 
 -- "perhaps negated by a first `^`"
-unfoldable pub boxOf : List ℕ → Piece
-boxOf inside = box (firstIs caret inside) (withoutCaret inside)
+unfoldable pub boxPiece : List ℕ → Piece
+boxPiece inside = box (firstIs caret inside) (withoutCaret inside)
 
 unfoldable pub charPiece : Step → Piece
 charPiece (Char k n) = exactly k
@@ -79,40 +79,40 @@ charLength End = 0
 
 -- the piece at the front, and its bytes
 unfoldable pub pieceAt : List ℕ → Piece
-pieceAt l = pick (firstIs opening l) (boxOf (insideOf (drop 1 l))) (charPiece (decodeAt l 0))
+pieceAt l = pick (firstIs opening l) (boxPiece (insideOf (drop 1 l))) (charPiece (decodeAt l 0))
 
 unfoldable pub lengthAt : List ℕ → ℕ
 lengthAt l = pick (firstIs opening l) (1 + boxLength (drop 1 l)) (charLength (decodeAt l 0))
 
 -- each piece has at least one byte, so a fuel of the length is enough
-unfoldable pub piecesIn : ℕ → List ℕ → List Piece
-piecesIn zero l = []
-piecesIn (suc f) [] = []
-piecesIn (suc f) (x ∷ l) = pieceAt (x ∷ l) ∷ piecesIn f (drop (lengthAt (x ∷ l)) (x ∷ l))
+unfoldable pub patternPiecesIn : ℕ → List ℕ → List Piece
+patternPiecesIn zero l = []
+patternPiecesIn (suc f) [] = []
+patternPiecesIn (suc f) (x ∷ l) = pieceAt (x ∷ l) ∷ patternPiecesIn f (drop (lengthAt (x ∷ l)) (x ∷ l))
 
-unfoldable pub piecesOf : List ℕ → List Piece
-piecesOf l = piecesIn (length l) l
+unfoldable pub patternPieces : List ℕ → List Piece
+patternPieces l = patternPiecesIn (length l) l
 
 -- ---- the forms
 
 -- each is a character that a box may hold
-unfoldable pub allBoxPlain : List letters.Piece → Bool
+unfoldable pub allBoxPlain : List letters.Symbol → Bool
 allBoxPlain [] = true
-allBoxPlain (letters.letter p k ∷ l) = and (boxPlain k) (allBoxPlain l)
-allBoxPlain (letters.stray p b ∷ l) = false
+allBoxPlain (letters.symbol p k ∷ l) = and (boxPlain k) (allBoxPlain l)
+allBoxPlain (letters.strayByte p b ∷ l) = false
 
 -- "one or more such characters"
-unfoldable pub listed : List ℕ → Bool
-listed l = and (ltb 0 (length l)) (allBoxPlain (letters.piecesOf l))
+unfoldable pub listedBox : List ℕ → Bool
+listedBox l = and (ltb 0 (length l)) (allBoxPlain (letters.symbolsOf l))
 
-unfoldable pub good : Piece → Bool
-good (exactly k) = plain k
-good (box negated l) = listed l
-good stray = false
+unfoldable pub goodPiece : Piece → Bool
+goodPiece (exactly k) = plain k
+goodPiece (box negated l) = listedBox l
+goodPiece stray = false
 
 unfoldable pub allGood : List Piece → Bool
 allGood [] = true
-allGood (x ∷ xs) = and (good x) (allGood xs)
+allGood (x ∷ xs) = and (goodPiece x) (allGood xs)
 
 -- "holds no blank"; "blanks are space, tab": a CR before LF ends a line, so it stands in no pattern
 unfoldable pub blankless : List ℕ → Bool
@@ -123,7 +123,7 @@ unfoldable pub framed : List ℕ → Bool
 framed p = and (leb 1 (length p)) (and (leb (length p) 255) (and (not (firstIs 47 p)) (and (not (firstIs 35 p)) (blankless p))))
 
 unfoldable pub inForms : List ℕ → Bool
-inForms p = and (framed p) (allGood (piecesOf (middle p)))
+inForms p = and (framed p) (allGood (patternPieces (middle p)))
 
 -- ---- matching
 
@@ -151,4 +151,4 @@ matchesIn start xs end cs = pick start (fitsAt xs end cs) (fitsAnywhere xs end c
 
 -- whatever its pieces are: whether it is within the forms is `inForms`
 unfoldable pub matchesOf : List ℕ → List ℕ → Bool
-matchesOf p name = matchesIn (firstIs caret p) (piecesOf (middle p)) (lastIs dollar p) (codesOf name)
+matchesOf p name = matchesIn (firstIs caret p) (patternPieces (middle p)) (lastIs dollar p) (codesOf name)

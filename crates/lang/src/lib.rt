@@ -5,8 +5,8 @@ ghost use lib.ListN.{drop};
 ghost use Rattle.letters.specs.Reading.{codesOf};
 ghost use Rattle.letters.specs.Utf8.{decodeAt};
 ghost use Rattle.texts.specs.Parts.{has};
-ghost use Rattle.lang.specs.Shortcuts.{otherwise, signatureOf, hasBit, mayIn, mayMatch};
-ghost use Rattle.lang.specs.Patterns.{plain, boxPlain, withoutCaret, withoutDollar, middle, blankless, framed, insideOf, boxLength, boxOf, charPiece, charLength, pieceAt, lengthAt, piecesOf, listed, good, allGood, inForms, takes, fitsAt, fitsAnywhere, matchesOf};
+ghost use Rattle.lang.specs.Contracts.{otherwise, signatureOf, hasBit, mayIn, mayMatch};
+ghost use Rattle.lang.specs.Patterns.{plain, boxPlain, withoutCaret, withoutDollar, middle, blankless, framed, insideOf, boxLength, boxPiece, charPiece, charLength, pieceAt, lengthAt, patternPieces, listedBox, goodPiece, allGood, inForms, takes, fitsAt, fitsAnywhere, matchesOf};
 use letters::Step;
 
 // Whether the character is none of `\ . + * ? ( ) | [ ] { } ^ $`.
@@ -99,7 +99,7 @@ fn piece_len(l: &[u8]) -> usize
 
 // Whether l is one or more characters that a box may hold.
 fn is_listed(l: &[u8]) -> bool
-    ensures { λ r. ⌜ r ≡ listed (now (l .entry)) ⌝ }
+    ensures { λ r. ⌜ r ≡ listedBox (now (l .entry)) ⌝ }
 {
     if l.len() == 0 {
         return false;
@@ -126,7 +126,7 @@ fn is_listed(l: &[u8]) -> bool
 
 // Whether the character at the front of l is plain.
 fn is_good_char(l: &[u8]) -> bool
-    ensures { λ r. ⌜ r ≡ good (charPiece (decodeAt (now (l .entry)) 0)) ⌝ }
+    ensures { λ r. ⌜ r ≡ goodPiece (charPiece (decodeAt (now (l .entry)) 0)) ⌝ }
 {
     match letters::decode(l, 0) {
         Step::Char { code, len: _ } => is_plain(code),
@@ -137,7 +137,7 @@ fn is_good_char(l: &[u8]) -> bool
 
 // Whether the piece at the front of l is within the forms.
 fn is_good(l: &[u8]) -> bool
-    ensures { λ r. ⌜ r ≡ good (pieceAt (now (l .entry))) ⌝ }
+    ensures { λ r. ⌜ r ≡ goodPiece (pieceAt (now (l .entry))) ⌝ }
 {
     if texts::first_is(l, b'[') {
         is_listed(without_caret(inside_of(&l[1..l.len()])))
@@ -148,7 +148,7 @@ fn is_good(l: &[u8]) -> bool
 
 // Whether each piece of t is within the forms.
 fn all_good(t: &[u8]) -> bool
-    ensures { λ r. ⌜ r ≡ allGood (piecesOf (now (t .entry))) ⌝ }
+    ensures { λ r. ⌜ r ≡ allGood (patternPieces (now (t .entry))) ⌝ }
 {
     let mut q: usize = 0;
     while q < t.len() {
@@ -227,7 +227,7 @@ fn has_char(l: &[u8], k: u32) -> bool
 
 // Whether the box with this inside takes the character.
 fn box_takes(inside: &[u8], k: u32) -> bool
-    ensures { λ r. ⌜ r ≡ takes (boxOf (now (inside .entry))) k ⌝ }
+    ensures { λ r. ⌜ r ≡ takes (boxPiece (now (inside .entry))) k ⌝ }
 {
     if texts::first_is(inside, b'^') {
         !has_char(without_caret(inside), k)
@@ -260,7 +260,7 @@ fn piece_takes(l: &[u8], k: u32) -> bool
 
 // Whether the pieces of t fit the name from the place `from` on, up to its end where `end`.
 fn fits_at(t: &[u8], end: bool, name: &[u8], from: usize) -> bool
-    ensures { λ r. ⌜ r ≡ fitsAt (piecesOf (now (t .entry))) end (codesOf (drop from (now (name .entry)))) ⌝ }
+    ensures { λ r. ⌜ r ≡ fitsAt (patternPieces (now (t .entry))) end (codesOf (drop from (now (name .entry)))) ⌝ }
 {
     let mut q: usize = 0;
     let mut at = from;
@@ -305,7 +305,7 @@ fn is_otherwise(t: &[u8], b: u8) -> bool
 
 // The same as `fits_at`, and most places are passed by their first byte.
 fn fits_from(t: &[u8], end: bool, name: &[u8], from: usize) -> bool
-    ensures { λ r. ⌜ r ≡ fitsAt (piecesOf (now (t .entry))) end (codesOf (drop from (now (name .entry)))) ⌝ }
+    ensures { λ r. ⌜ r ≡ fitsAt (patternPieces (now (t .entry))) end (codesOf (drop from (now (name .entry)))) ⌝ }
 {
     if from < name.len() {
         if is_otherwise(t, name[from]) {
@@ -317,7 +317,7 @@ fn fits_from(t: &[u8], end: bool, name: &[u8], from: usize) -> bool
 
 // Whether the pieces of t fit the name from some place on.
 fn fits_anywhere(t: &[u8], end: bool, name: &[u8]) -> bool
-    ensures { λ r. ⌜ r ≡ fitsAnywhere (piecesOf (now (t .entry))) end (codesOf (now (name .entry))) ⌝ }
+    ensures { λ r. ⌜ r ≡ fitsAnywhere (patternPieces (now (t .entry))) end (codesOf (now (name .entry))) ⌝ }
 {
     let mut at: usize = 0;
     loop {

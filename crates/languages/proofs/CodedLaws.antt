@@ -6,8 +6,8 @@ use lib.Bits.{bitAnd, bitOr, and-block, or-block, and-mask, and-comm, or-comm, a
 use lib.Dec.{eqb}
 use borrow.Author.Tests.{lt-ltb, le-ltb}
 use Rattle.base.specs.Pick.{pick}
-use Rattle.languages.specs.Sets.{narrowed, merged, isEmpty, BitsBelow}
-use Rattle.languages.specs.Coded.{coded, decoded, IsCode}
+use Rattle.languages.specs.Sets.{narrowed, merged, isEmpty}
+use Rattle.languages.specs.Contracts.{coded, decoded, IsCode, BitsBelow}
 use Rattle.languages.specs.declared.sets.LanguageSet.{LanguageSet}
 use Rattle.languages.specs.declared.sets.LanguageSet.the-variants.{Any, NoLanguages, SomeLanguages}
 use Rattle.languages.proofs.Laws.{narrow-below, merge-below}

@@ -12,11 +12,11 @@ use lib.ListN.{length, getD, take, drop, length-append}
 use lib.Seq.{take-append-seam, drop-append-seam}
 use lib.Pow.{pow-lt, pow-mono}
 use borrow.Author.Tests.{eqb-true, ltb-true, ltb-false, leb-true, leb-false, le-leb}
-use Rattle.base.specs.Pick.{pick, pick-true, and-inv}
+use Rattle.base.specs.Pick.{pick}
 use Rattle.base.proofs.Bits.{single-is}
 use Rattle.letters.specs.Order.{sameText}
-use Rattle.languages.specs.Sets.{narrowed, merged, singleOf, without, BitsBelow}
-use Rattle.languages.specs.Names.{languageName, strings, stringsOf, namePlace, bitAt, languageBit, stringAt}
+use Rattle.languages.specs.Sets.{narrowed, merged, singleOf, without}
+use Rattle.languages.specs.Names.{languageName, strings, stringsOf, namePlace, bitAt, languageBit}
 use Rattle.languages.specs.declared.sets.LanguageSet.{LanguageSet}
 use Rattle.languages.specs.declared.sets.LanguageSet.the-variants.{Any, NoLanguages, SomeLanguages}
 use Rattle.languages.specs.declared.sets.Single.{Single}
@@ -25,6 +25,8 @@ use Rattle.languages.specs.declared.names.Listed.{Listed}
 use Rattle.languages.specs.declared.names.Listed.the-variants.{Bit, Unlisted}
 use Rattle.languages.specs.declared.names.Next.{Next}
 use Rattle.languages.specs.declared.names.Next.the-variants.{Whole, Cut}
+use Rattle.base.proofs.PickLaws.{pick-true, and-inv}
+use Rattle.languages.specs.Contracts.{stringAt, BitsBelow}
 
 -- ---- sets with bits of the first n languages only
 

@@ -12,12 +12,14 @@ use lib.Pow.{shl-exact}
 use lib.ListN.{length, getD, take, drop, drop-of-length-le, length-drop}
 use lib.Seq.{drop-cons, drop-drop}
 use borrow.Author.Tests.{lt-ltb, le-ltb, ltb-true, ltb-false, leb-true}
-use Rattle.base.specs.Pick.{pick, and, pick-yes, pick-no, pick-true, pick-false}
+use Rattle.base.specs.Pick.{pick, and}
 use Rattle.letters.specs.Order.{sameText}
-use Rattle.languages.specs.Names.{isLetter, allLetters, strings, stringsOf, namePlace, bitAt, languageBit, stringAt}
+use Rattle.languages.specs.Names.{isLetter, allLetters, strings, stringsOf, namePlace, bitAt, languageBit}
 use Rattle.languages.specs.declared.names.Listed.the-variants.{Bit, Unlisted}
 use Rattle.languages.specs.declared.names.Next.{Next}
 use Rattle.languages.specs.declared.names.Next.the-variants.{Whole, Cut}
+use Rattle.base.proofs.PickLaws.{pick-yes, pick-no, pick-true, pick-false}
+use Rattle.languages.specs.Contracts.{stringAt}
 
 -- ---- all letters: what is left from i on decides
 pub record Letters (s : List ℕ) (i : ℕ) : Type 0 where

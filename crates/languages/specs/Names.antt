@@ -1,15 +1,13 @@
 -- Language names, and the bit of a listed one (01, Language sets; Bundle and pack).
-use Prim.Native.Nat.{ℕ, zero, suc, _+_, _-_, _^_, min}
+use Prim.Native.Nat.{ℕ, zero, suc, _^_, min}
 use mathlib.Core.Bool.{Bool, true, false}
 use mathlib.Core.List.{List, [], _∷_}
 use lib.Dec.{ltb, leb}
-use lib.ListN.{length, getD, take, drop}
+use lib.ListN.{length, take, drop}
 use Rattle.base.specs.Pick.{pick, and}
 use Rattle.letters.specs.Order.{sameText}
 use Rattle.languages.specs.declared.names.Listed.{Listed}
 use Rattle.languages.specs.declared.names.Listed.the-variants.{Bit, Unlisted}
-use Rattle.languages.specs.declared.names.Next.{Next}
-use Rattle.languages.specs.declared.names.Next.the-variants.{Whole, Cut}
 
 -- a letter `a` to `z`
 unfoldable pub isLetter : ℕ → Bool
@@ -49,10 +47,3 @@ bitAt place places = pick (ltb place places) (Bit (2 ^ place)) Unlisted
 -- at most 32 listed languages, kept as a bit each, lowest bit for the first name (01, Language sets)
 unfoldable pub languageBit : List ℕ → List ℕ → Listed
 languageBit s name = bitAt (namePlace name (stringsOf s)) (min 32 (length (stringsOf s)))
-
--- where the string at a place starts and ends
-unfoldable pub stringAt : List ℕ → ℕ → Next
-stringAt s at =
-    pick (ltb at (length s))
-    (pick (leb (getD s at 0) (length s - (at + 1))) (Whole (at + 1) (at + 1 + getD s at 0)) Cut)
-    Cut

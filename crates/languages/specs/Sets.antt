@@ -1,7 +1,6 @@
 -- Language sets (01, Language sets): a set is Any, None, or Some of at most 32 listed languages, kept as a bit each.
 -- `NoLanguages` is the paper's None, and `SomeLanguages m` its Some with the bits of m.
-use Prim.{Unit}
-use Prim.Native.Nat.{ℕ, _-_, _^_, _<_}
+use Prim.Native.Nat.{ℕ, _-_, _^_}
 use mathlib.Core.Bool.{Bool, true, false}
 use lib.Bits.{bitAnd, bitOr}
 use lib.Count.{ones, trailingZeros}
@@ -49,9 +48,3 @@ singleOf (SomeLanguages x) = pick (eqb (ones x) 1) (Language (trailingZeros 32 x
 -- subtracting is and with complement (01, Forms we want to see)
 unfoldable pub without : ℕ → ℕ → ℕ
 without x y = bitAnd x ((2 ^ 32 - 1) - y)
-
--- only bits of the first n languages: "listed bits only" (01, Bundle and pack)
-unfoldable pub BitsBelow : ℕ → LanguageSet → Type 0
-BitsBelow n Any = Unit {0}
-BitsBelow n NoLanguages = Unit {0}
-BitsBelow n (SomeLanguages x) = x < 2 ^ n

@@ -1,7 +1,8 @@
 // Language names, and the bit of a name by its place in a list.
 ghost use mathlib.Core.Path.{_≡_};
-ghost use Rattle.languages.specs.Names.{isLetter, allLetters, languageName, stringAt, languageBit};
+ghost use Rattle.languages.specs.Names.{isLetter, allLetters, languageName, languageBit};
 ghost use Rattle.languages.specs.Numbers.{listedNumbers};
+ghost use Rattle.languages.specs.Contracts.{stringAt};
 
 // The bit of a name that a list holds.
 pub enum Listed {

@@ -1,5 +1,5 @@
 // Sets of languages, a bit for each listed one: narrowing is `&`, merging is `|`, subtracting is `&` with the complement.
-ghost use Rattle.languages.specs.Coded.{coded};
+ghost use Rattle.languages.specs.Contracts.{coded};
 ghost use mathlib.Core.Path.{_≡_};
 ghost use Rattle.languages.specs.Numbers.{setNumbers};
 ghost use Rattle.languages.specs.Sets.{narrowed, merged, isEmpty, isSingle, singleOf, without};

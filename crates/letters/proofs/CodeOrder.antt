@@ -9,9 +9,9 @@ use native.Mathlib.Omega.{arith}
 use lib.Dec.{ltb}
 use lib.ListN.{length, drop, drop-of-length-le}
 use borrow.Author.Tests.{lt-ltb, le-ltb}
-use Rattle.base.specs.Pick.{pick, pick-true, pick-false}
+use Rattle.base.specs.Pick.{pick}
 use Rattle.letters.specs.Utf8.{encode}
-use Rattle.letters.specs.Reading.{Piece, letter, stray, piecesOf, codesIn, codesOf, illIn, firstIll}
+use Rattle.letters.specs.Reading.{Symbol, symbol, strayByte, symbolsOf, codesIn, codesOf, illIn, firstIll}
 use Rattle.letters.specs.Order.{orderOf}
 use Rattle.letters.specs.declared.order.Order.{Order}
 use Rattle.letters.specs.declared.order.Order.the-variants.{Less, Equal, Greater}
@@ -19,6 +19,7 @@ use Rattle.letters.specs.declared.utf8.Found.{Found}
 use Rattle.letters.specs.declared.utf8.Found.the-variants.{At, Nothing}
 use Rattle.letters.proofs.Utf8Laws.{char-at, char-drop, end-at, encode-one, encode-two, encode-three, encode-four}
 use Rattle.letters.proofs.ReadingLaws.{Pieces, end, one, bad, pieces-of}
+use Rattle.base.proofs.PickLaws.{pick-true, pick-false}
 
 -- ---- bytes that decide
 
@@ -123,7 +124,7 @@ data Spells : List ℕ → List ℕ → Type 0 where
   none : Spells [] []
   more : {k : ℕ} {s cs : List ℕ} → k < 0x200000 → Spells s cs → Spells (encode k ++ s) (k ∷ cs)
 
-spells : {s : List ℕ} {p : ℕ} {l : List Piece} → Pieces s p l → illIn l ≡ Nothing → Spells (drop p s) (codesIn l)
+spells : {s : List ℕ} {p : ℕ} {l : List Symbol} → Pieces s p l → illIn l ≡ Nothing → Spells (drop p s) (codesIn l)
 unfolding illIn codesIn
 spells {s} {p} (end e) h = rw (drop-of-length-le s (end-at s p e)) none
 spells {s} {p} (one {k = k} {n = n} e r) h = rw (char-drop s p k n e) (more (char-at s p k n e .four) (spells r h))

@@ -8,12 +8,13 @@ use lib.ListN.{length, getD, drop, length-drop}
 use lib.Seq.{getD-drop}
 use borrow.Author.Tests.{lt-ltb, le-ltb}
 use native.Mathlib.Decide.{decLt}
-use Rattle.base.specs.Pick.{pick, pick-true, pick-false}
+use Rattle.base.specs.Pick.{pick}
 use Rattle.letters.specs.Utf8.{decodeAt, decodeBytes}
-use Rattle.letters.specs.Reading.{Piece, letter, stray, piecesOn, piecesFrom, piecesOf, codesIn, codesOf}
+use Rattle.letters.specs.Reading.{Symbol, symbol, strayByte, symbolsOn, symbolsFrom, symbolsOf, codesIn, codesOf}
 use Rattle.letters.specs.declared.utf8.Step.{Step}
 use Rattle.letters.specs.declared.utf8.Step.the-variants.{Char, Ill, End}
 use Rattle.letters.proofs.ReadingLaws.{Pieces, end, one, bad, pieces-from, char-left, ill-left, end-left}
+use Rattle.base.proofs.PickLaws.{pick-true, pick-false}
 
 -- what stands at q of the rest from p on stands at p + q of the whole
 pub decode-drop : (s : List ℕ) (p q : ℕ) → decodeAt (drop p s) q ≡ decodeAt s (p + q)
@@ -28,35 +29,35 @@ decode-drop s p q =
     ]
 
 -- the code points from a place on do not depend on what stands before it
-shift-on : (x : Step) (s t : List ℕ) (p q : ℕ) (f g : ℕ → List Piece) → ((n : ℕ) → codesIn (f (q + n)) ≡ codesIn (g (p + q + n))) → codesIn (piecesOn x t q f) ≡ codesIn (piecesOn x s (p + q) g)
-unfolding piecesOn codesIn
+shift-on : (x : Step) (s t : List ℕ) (p q : ℕ) (f g : ℕ → List Symbol) → ((n : ℕ) → codesIn (f (q + n)) ≡ codesIn (g (p + q + n))) → codesIn (symbolsOn x t q f) ≡ codesIn (symbolsOn x s (p + q) g)
+unfolding symbolsOn codesIn
 shift-on (Char k n) s t p q f g h = ap (λ (l : List ℕ). k ∷ l) (h n)
 shift-on Ill s t p q f g h = h 1
 shift-on End s t p q f g h = refl
 
-shift : (f : ℕ) (s : List ℕ) (p q : ℕ) → codesIn (piecesFrom f (drop p s) q) ≡ codesIn (piecesFrom f s (p + q))
-unfolding piecesFrom
+shift : (f : ℕ) (s : List ℕ) (p q : ℕ) → codesIn (symbolsFrom f (drop p s) q) ≡ codesIn (symbolsFrom f s (p + q))
+unfolding symbolsFrom
 shift zero s p q = refl
 shift (suc f) s p q =
-    ap (λ (x : Step). codesIn (piecesOn x (drop p s) q (piecesFrom f (drop p s)))) (decode-drop s p q)
-    ∙ shift-on (decodeAt s (p + q)) s (drop p s) p q (piecesFrom f (drop p s)) (piecesFrom f s) (λ n. shift f s p (q + n) ∙ ap (λ (m : ℕ). codesIn (piecesFrom f s m)) (omega arith))
+    ap (λ (x : Step). codesIn (symbolsOn x (drop p s) q (symbolsFrom f (drop p s)))) (decode-drop s p q)
+    ∙ shift-on (decodeAt s (p + q)) s (drop p s) p q (symbolsFrom f (drop p s)) (symbolsFrom f s) (λ n. shift f s p (q + n) ∙ ap (λ (m : ℕ). codesIn (symbolsFrom f s m)) (omega arith))
 
 -- what stands from p on is one list
-unique : {s : List ℕ} {p : ℕ} {l m : List Piece} → Pieces s p l → Pieces s p m → l ≡ m
+unique : {s : List ℕ} {p : ℕ} {l m : List Symbol} → Pieces s p l → Pieces s p m → l ≡ m
 unique r (end e) = end-left r e
-unique r (one {p = p} {k = k} e q) = let w = char-left r e in w .1 ∙ ap (λ (t : List Piece). letter p k ∷ t) (unique (w .2) q)
-unique {s} r (bad {p = p} e q) = let w = ill-left r e in w .1 ∙ ap (λ (t : List Piece). stray p (getD s p 0) ∷ t) (unique (w .2) q)
+unique r (one {p = p} {k = k} e q) = let w = char-left r e in w .1 ∙ ap (λ (t : List Symbol). symbol p k ∷ t) (unique (w .2) q)
+unique {s} r (bad {p = p} e q) = let w = ill-left r e in w .1 ∙ ap (λ (t : List Symbol). strayByte p (getD s p 0) ∷ t) (unique (w .2) q)
 
 -- the code points from p on, by any trace
-pub codes-by : {s : List ℕ} {p : ℕ} {l : List Piece} → Pieces s p l → codesOf (drop p s) ≡ codesIn l
-unfolding codesOf piecesOf
+pub codes-by : {s : List ℕ} {p : ℕ} {l : List Symbol} → Pieces s p l → codesOf (drop p s) ≡ codesIn l
+unfolding codesOf symbolsOf
 codes-by {s} {p} r =
     shift (length (drop p s)) s p 0
-    ∙ ap (λ (m : ℕ). codesIn (piecesFrom (length (drop p s)) s m)) (omega arith)
+    ∙ ap (λ (m : ℕ). codesIn (symbolsFrom (length (drop p s)) s m)) (omega arith)
     ∙ ap codesIn (unique (pieces-from (length (drop p s)) s p (omega (arith, length-drop p s))) r)
 
 module _ (s : List ℕ) (p : ℕ) where
-  here : Pieces s p (piecesFrom (length s) s p)
+  here : Pieces s p (symbolsFrom (length s) s p)
   here = pieces-from (length s) s p (omega arith)
 
   pub codes-char : (k n : ℕ) → decodeAt s p ≡ Char k n → codesOf (drop p s) ≡ k ∷ codesOf (drop (p + n) s)

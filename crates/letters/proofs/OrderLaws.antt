@@ -10,10 +10,11 @@ use lib.Dec.{eqb}
 use lib.ListN.{length, drop, getD, drop-of-length-le}
 use lib.Seq.{drop-cons}
 use borrow.Author.Tests.{lt-ltb, le-ltb, eq-eqb, ne-eqb}
-use Rattle.base.specs.Pick.{pick, and, and-no}
+use Rattle.base.specs.Pick.{pick, and}
 use Rattle.letters.specs.Order.{orderOf, sameText}
 use Rattle.letters.specs.declared.order.Order.{Order}
 use Rattle.letters.specs.declared.order.Order.the-variants.{Less, Equal, Greater}
+use Rattle.base.proofs.PickLaws.{and-no}
 
 -- f of what is left from index i on is f of the whole
 pub record Left (A : Type 0) (f : List ℕ → List ℕ → A) (a b : List ℕ) (i : ℕ) : Type 0 where

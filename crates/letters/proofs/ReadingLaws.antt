@@ -5,23 +5,24 @@ use mathlib.Core.List.{List, [], _∷_, _++_}
 use Prim.Native.Nat.{ℕ, zero, suc, _+_, _-_, _≤_, _<_, zero-le}
 use native.Mathlib.Omega.{arith}
 use lib.ListN.{length, getD, drop}
-use Rattle.base.specs.Pick.{pick, pick-true, pick-false}
+use Rattle.base.specs.Pick.{pick}
 use Rattle.letters.specs.Utf8.{decodeAt, encode}
-use Rattle.letters.specs.Reading.{Piece, letter, stray, piecesOn, piecesFrom, piecesOf, codesIn, codesOf, illIn, firstIll, inRange, outsideIn, firstOutside}
+use Rattle.letters.specs.Reading.{Symbol, symbol, strayByte, symbolsOn, symbolsFrom, symbolsOf, codesIn, codesOf, illIn, firstIll, inRange, outsideIn, firstOutside}
 use Rattle.letters.specs.declared.utf8.Step.{Step}
 use Rattle.letters.specs.declared.utf8.Step.the-variants.{Char, Ill, End}
 use Rattle.letters.specs.declared.utf8.Found.{Found}
 use Rattle.letters.specs.declared.utf8.Found.the-variants.{At, Nothing}
 use Rattle.letters.proofs.Utf8Laws.{char-at, ill-in, end-at}
+use Rattle.base.proofs.PickLaws.{pick-true, pick-false}
 
 -- l is what stands in s from p on
-pub data Pieces (s : List ℕ) : ℕ → List Piece → Type 0 where
+pub data Pieces (s : List ℕ) : ℕ → List Symbol → Type 0 where
   end : {p : ℕ} → decodeAt s p ≡ End → Pieces s p []
-  one : {p k n : ℕ} {l : List Piece} → decodeAt s p ≡ Char k n → Pieces s (p + n) l → Pieces s p (letter p k ∷ l)
-  bad : {p : ℕ} {l : List Piece} → decodeAt s p ≡ Ill → Pieces s (p + 1) l → Pieces s p (stray p (getD s p 0) ∷ l)
+  one : {p k n : ℕ} {l : List Symbol} → decodeAt s p ≡ Char k n → Pieces s (p + n) l → Pieces s p (symbol p k ∷ l)
+  bad : {p : ℕ} {l : List Symbol} → decodeAt s p ≡ Ill → Pieces s (p + 1) l → Pieces s p (strayByte p (getD s p 0) ∷ l)
 
-pieces-by : (s : List ℕ) (p : ℕ) (x : Step) (f : ℕ) → decodeAt s p ≡ x → length s - p ≤ suc f → ((q : ℕ) → length s - q ≤ f → Pieces s q (piecesFrom f s q)) → Pieces s p (piecesOn x s p (piecesFrom f s))
-unfolding piecesOn
+pieces-by : (s : List ℕ) (p : ℕ) (x : Step) (f : ℕ) → decodeAt s p ≡ x → length s - p ≤ suc f → ((q : ℕ) → length s - q ≤ f → Pieces s q (symbolsFrom f s q)) → Pieces s p (symbolsOn x s p (symbolsFrom f s))
+unfolding symbolsOn
 pieces-by s p (Char k n) f e h ih = let w = char-at s p k n e in one e (ih (p + n) (omega arith))
 pieces-by s p Ill f e h ih = let w = ill-in s p e in bad e (ih (p + 1) (omega arith))
 pieces-by s p End f e h ih = end e
@@ -31,60 +32,60 @@ past-end s p (Char k n) e h = let w = char-at s p k n e in absurd (omega arith)
 past-end s p Ill e h = let w = ill-in s p e in absurd (omega arith)
 past-end s p End e h = end e
 
-pub pieces-from : (f : ℕ) (s : List ℕ) (p : ℕ) → length s - p ≤ f → Pieces s p (piecesFrom f s p)
-unfolding piecesFrom
+pub pieces-from : (f : ℕ) (s : List ℕ) (p : ℕ) → length s - p ≤ f → Pieces s p (symbolsFrom f s p)
+unfolding symbolsFrom
 pieces-from zero s p h = past-end s p (decodeAt s p) refl (omega arith)
 pieces-from (suc f) s p h = pieces-by s p (decodeAt s p) f refl h (λ q g. pieces-from f s q g)
 
-pub pieces-of : (s : List ℕ) → Pieces s 0 (piecesOf s)
-unfolding piecesOf
+pub pieces-of : (s : List ℕ) → Pieces s 0 (symbolsOf s)
+unfolding symbolsOf
 pieces-of s = pieces-from (length s) s 0 (omega arith)
 
 -- ---- a walk that computes g of the pieces: g of what is left from p on is g of the whole
 
-pub record Walk (A : Type 0) (g : List Piece → A) (s : List ℕ) (p : ℕ) : Type 0 where
-  pub left : List Piece
+pub record Walk (A : Type 0) (g : List Symbol → A) (s : List ℕ) (p : ℕ) : Type 0 where
+  pub left : List Symbol
   pub pieces : Pieces s p left
   pub within : p ≤ length s
-  pub is : g (piecesOf s) ≡ g left
+  pub is : g (symbolsOf s) ≡ g left
 
-pub walk-start : (A : Type 0) (g : List Piece → A) (s : List ℕ) → Walk A g s 0
-walk-start A g s = record { left = piecesOf s; pieces = pieces-of s; within = zero-le; is = refl }
+pub walk-start : (A : Type 0) (g : List Symbol → A) (s : List ℕ) → Walk A g s 0
+walk-start A g s = record { left = symbolsOf s; pieces = pieces-of s; within = zero-le; is = refl }
 
 -- two steps at one place
 clash : {A : Type 0} → _≡_ {A = ℕ} 0 1 → A
 clash z = absurd (omega arith)
 
-pub char-left : {s : List ℕ} {p k n : ℕ} {l : List Piece} → Pieces s p l → decodeAt s p ≡ Char k n → (m : List Piece) × (l ≡ letter p k ∷ m) × Pieces s (p + n) m
+pub char-left : {s : List ℕ} {p k n : ℕ} {l : List Symbol} → Pieces s p l → decodeAt s p ≡ Char k n → (m : List Symbol) × (l ≡ symbol p k ∷ m) × Pieces s (p + n) m
 char-left (end e) q = clash (cc)
 char-left {n = n} (one {n = n′} {l = m} e r) q = let x : n′ ≡ n = cc in (m, cc, rw x at r)
 char-left (bad e r) q = clash (cc)
 
-pub ill-left : {s : List ℕ} {p : ℕ} {l : List Piece} → Pieces s p l → decodeAt s p ≡ Ill → (m : List Piece) × (l ≡ stray p (getD s p 0) ∷ m) × Pieces s (p + 1) m
+pub ill-left : {s : List ℕ} {p : ℕ} {l : List Symbol} → Pieces s p l → decodeAt s p ≡ Ill → (m : List Symbol) × (l ≡ strayByte p (getD s p 0) ∷ m) × Pieces s (p + 1) m
 ill-left (end e) q = clash (cc)
 ill-left (one e r) q = clash (cc)
 ill-left (bad {l = m} e r) q = (m, refl, r)
 
-pub end-left : {s : List ℕ} {p : ℕ} {l : List Piece} → Pieces s p l → decodeAt s p ≡ End → l ≡ []
+pub end-left : {s : List ℕ} {p : ℕ} {l : List Symbol} → Pieces s p l → decodeAt s p ≡ End → l ≡ []
 end-left (end e) q = refl
 end-left (one e r) q = clash (cc)
 end-left (bad e r) q = clash (cc)
 
-module _ {A : Type 0} {g : List Piece → A} {s : List ℕ} {p : ℕ} (w : Walk A g s p) where
+module _ {A : Type 0} {g : List Symbol → A} {s : List ℕ} {p : ℕ} (w : Walk A g s p) where
   -- a character that g passes over, one at which it is decided, an ill-formed sequence, the end
-  pub walk-on : (k n : ℕ) → decodeAt s p ≡ Char k n → ((m : List Piece) → g (letter p k ∷ m) ≡ g m) → Walk A g s (p + n)
+  pub walk-on : (k n : ℕ) → decodeAt s p ≡ Char k n → ((m : List Symbol) → g (symbol p k ∷ m) ≡ g m) → Walk A g s (p + n)
   walk-on k n e h =
       let c = char-left (w .pieces) e in
       let b = char-at s p k n e in
       record { left = c .0; pieces = c .2; within = b .end; is = w .is ∙ ap g (c .1) ∙ h (c .0) }
 
-  pub walk-stop : (k n : ℕ) (x : A) → decodeAt s p ≡ Char k n → ((m : List Piece) → g (letter p k ∷ m) ≡ x) → g (piecesOf s) ≡ x
+  pub walk-stop : (k n : ℕ) (x : A) → decodeAt s p ≡ Char k n → ((m : List Symbol) → g (symbol p k ∷ m) ≡ x) → g (symbolsOf s) ≡ x
   walk-stop k n x e h = let c = char-left (w .pieces) e in w .is ∙ ap g (c .1) ∙ h (c .0)
 
-  pub walk-ill : (x : A) → decodeAt s p ≡ Ill → ((m : List Piece) → g (stray p (getD s p 0) ∷ m) ≡ x) → g (piecesOf s) ≡ x
+  pub walk-ill : (x : A) → decodeAt s p ≡ Ill → ((m : List Symbol) → g (strayByte p (getD s p 0) ∷ m) ≡ x) → g (symbolsOf s) ≡ x
   walk-ill x e h = let c = ill-left (w .pieces) e in w .is ∙ ap g (c .1) ∙ h (c .0)
 
-  pub walk-end : decodeAt s p ≡ End → g (piecesOf s) ≡ g []
+  pub walk-end : decodeAt s p ≡ End → g (symbolsOf s) ≡ g []
   walk-end e = w .is ∙ ap g (end-left (w .pieces) e)
 
 -- ---- the first ill-formed sequence

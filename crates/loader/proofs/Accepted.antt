@@ -10,7 +10,7 @@ use lib.Dec.{leb}
 use lib.ListN.{length, take}
 use lib.Seq.{sets-eq, length-sets, take-at}
 use borrow.Author.Tests.{leb-true, le-leb}
-use Rattle.base.specs.Pick.{pick, pick-true, pick-inv, and-yes}
+use Rattle.base.specs.Pick.{pick}
 use Rattle.refusals.specs.declared.Refusal.{Refusal}
 use Rattle.refusals.specs.Numbers.{numberOf}
 use Rattle.refusals.proofs.NumberLaws.{number-one, number-some}
@@ -19,37 +19,39 @@ use Rattle.prefixes.specs.declared.prefixes.NameType.{NameType}
 use Rattle.prefixes.specs.declared.prefixes.NameType.the-variants.{Ashkenazi, Generic, Sephardic}
 use Rattle.pack.specs.Reading.{Read, cut, got}
 use Rattle.pack.specs.Packs.{Guess, Rule, Pack, accepted, packOf, all, guessesGood, ruleGood, listGood, listCount}
-use Rattle.pack_bytes.specs.Bytes.{namesBytes, packBytes, Each, none, more, GoodPack}
+use Rattle.pack_bytes.specs.Bytes.{namesBytes, packBytes}
 use Rattle.pack_bytes.proofs.Laws.{packed}
 use Rattle.bundles.specs.Bundles.{File, Found, missing, found, readBundle}
 use Rattle.rule_lists.specs.Outcomes as outcome
-use Rattle.rule_lists.specs.Lists.{prefixOf, listFiles, listsOf}
+use Rattle.rule_lists.specs.Lists.{typePrefix, listFiles, listsOf}
 use Rattle.rule_lists.proofs.WalkLaws.{GoodRead}
 use Rattle.rule_lists.proofs.FileLaws.{list-good}
 use Rattle.rule_lists.proofs.GoodLaws.{rule-good}
 use Rattle.loader.specs.Guesses.{guessesOf}
-use Rattle.loader.specs.Loading.{onType, onListed, namesOf, guessFile, listsIn, packIn, onBundle, loadOf, written, Numbers, doneAt, refusedAt, numbersOf, answer, filled, AnswerIs, LoadIs}
+use Rattle.loader.specs.Loading.{onType, onListed, namesOf, guessFile, listsIn, packFrom, onBundle, loadOf, written, LoadNumbers, doneAt, refusedAt, loadedNumbers, answer, filled, AnswerIs, LoadIs}
 use Rattle.loader.specs.declared.loading.Loaded.{Loaded}
 use Rattle.loader.specs.declared.loading.Loaded.the-variants.{Done, Refused}
 use Rattle.loader.proofs.FileLaws.{fine-is, then-fine}
 use Rattle.loader.proofs.LanguageLaws.{strings-names}
 use Rattle.loader.proofs.GuessLaws.{guesses-good}
 use Rattle.loader.proofs.LoadingLaws.{names-good, lists-counted}
+use Rattle.base.proofs.PickLaws.{pick-true, pick-inv, and-yes}
+use Rattle.pack_bytes.specs.Contracts.{Each, none, more, GoodPack}
 
 -- ---- no two answers have the same numbers, and so one answer and one content
 
 not-done : {A : Type 0} (w : Refusal) (p f n : ℕ) → refusedAt w p f ≡ doneAt n → A
-not-done w p f n e = let z : numberOf w ≡ 0 = ap (λ (m : Numbers). m .code) e in absurd (omega (arith, number-some w))
+not-done w p f n e = let z : numberOf w ≡ 0 = ap (λ (m : LoadNumbers). m .code) e in absurd (omega (arith, number-some w))
 
-pub numbers-one : (x y : Loaded) → numbersOf x ≡ numbersOf y → x ≡ y
-unfolding numbersOf
-numbers-one (Done n) (Done m) e = ap Done (ap (λ (k : Numbers). k .place) e)
+pub numbers-one : (x y : Loaded) → loadedNumbers x ≡ loadedNumbers y → x ≡ y
+unfolding loadedNumbers
+numbers-one (Done n) (Done m) e = ap Done (ap (λ (k : LoadNumbers). k .place) e)
 numbers-one (Done n) (Refused w p f) e = not-done w p f n (sym e)
 numbers-one (Refused w p f) (Done n) e = not-done w p f n e
 numbers-one (Refused w p f) (Refused v q g) e =
-    let why : w ≡ v = number-one w v (ap (λ (k : Numbers). k .code) e) in
-    let place : p ≡ q = ap (λ (k : Numbers). k .place) e in
-    let file : f ≡ g = ap (λ (k : Numbers). k .file) e in
+    let why : w ≡ v = number-one w v (ap (λ (k : LoadNumbers). k .code) e) in
+    let place : p ≡ q = ap (λ (k : LoadNumbers). k .place) e in
+    let file : f ≡ g = ap (λ (k : LoadNumbers). k .file) e in
     cc
 
 pub load-one : (ty : ℕ) (s : List ℕ) {out o o′ : List ℕ} {r r′ : Loaded} → LoadIs ty s out r o → LoadIs ty s out r′ o′ → (r ≡ r′) × (o ≡ o′)
@@ -60,10 +62,10 @@ load-one ty s x y = (numbers-one _ _ (x .result ∙ sym (y .result)), x .buffer 
 pub record PartsOf (kind : NameType) (fs : List File) (p : Pack) : Type 0 where
   pub names : namesOf kind fs ≡ outcome.fine (p .names)
   pub guesses : guessFile kind fs (namesBytes (p .names)) ≡ outcome.fine (p .guesses)
-  pub lists : listsOf (namesBytes (p .names)) fs (listFiles (prefixOf kind) (p .names)) ≡ outcome.fine (p .lists)
+  pub lists : listsOf (namesBytes (p .names)) fs (listFiles (typePrefix kind) (p .names)) ≡ outcome.fine (p .lists)
 
-parts-of : (kind : NameType) (fs : List File) (p : Pack) → packIn kind fs ≡ outcome.fine p → PartsOf kind fs p
-unfolding packIn listsIn
+parts-of : (kind : NameType) (fs : List File) (p : Pack) → packFrom kind fs ≡ outcome.fine p → PartsOf kind fs p
+unfolding packFrom listsIn
 parts-of kind fs p e =
     let a = then-fine _ _ p e in
     let b = then-fine _ _ p (a .2) in
@@ -78,7 +80,7 @@ pub record LoadedFrom (s : List ℕ) (p : Pack) : Type 0 where
   pub read : readBundle s ≡ got files rest
   pub parts : PartsOf kind files p
 
-good-bundle : (kind : NameType) (s : List ℕ) (p : Pack) (x : Read (List File)) → readBundle s ≡ x → onBundle x (packIn kind) ≡ outcome.fine p → LoadedFrom s p
+good-bundle : (kind : NameType) (s : List ℕ) (p : Pack) (x : Read (List File)) → readBundle s ≡ x → onBundle x (packFrom kind) ≡ outcome.fine p → LoadedFrom s p
 unfolding onBundle
 good-bundle kind s p cut r e = clash (cc)
 good-bundle kind s p (got fs q) r e = ⊎-elim (λ w. record { kind = kind; files = fs; rest = q; read = r; parts = parts-of kind fs p (w .1) }) (λ w. clash (cc (w .1))) (pick-inv _ _ _ _ e)
@@ -131,28 +133,28 @@ pub record Written (ty : ℕ) (s : List ℕ) (n : ℕ) (out′ : List ℕ) : Typ
 
 fits : (b out out′ : List ℕ) (n : ℕ) → doneAt n ≡ answer (outcome.fine b) (length out) → out′ ≡ filled (outcome.fine b) out → take n out′ ≡ b
 unfolding answer filled
-fits b out out′ n r h = ⊎-elim (λ w. yes-so (w .0) (ap (λ (m : Numbers). m .place) (w .1))) (λ w. not-done _ _ _ n (w .1)) (pick-inv _ _ _ _ (sym r))
+fits b out out′ n r h = ⊎-elim (λ w. yes-so (w .0) (ap (λ (m : LoadNumbers). m .place) (w .1))) (λ w. not-done _ _ _ n (w .1)) (pick-inv _ _ _ _ (sym r))
   where
     yes-so : leb (length b) (length out) ≡ true → length b ≡ n → take n out′ ≡ b
     yes-so t e = rw (h ∙ pick-true _ _ _ t ∙ sets-eq b out 0 (omega (arith, leb-true (length b) (length out) t))) (take-at b _ n e)
 
-written-by : (ty : ℕ) (s out out′ : List ℕ) (n : ℕ) (x : outcome.Outcome Pack) → loadOf ty s ≡ x → AnswerIs (written x) out (Done n) out′ → Written ty s n out′
-unfolding written answer numbersOf
+written-by : (ty : ℕ) (s out out′ : List ℕ) (n : ℕ) (x : outcome.Loading Pack) → loadOf ty s ≡ x → AnswerIs (written x) out (Done n) out′ → Written ty s n out′
+unfolding written answer loadedNumbers
 written-by ty s out out′ n (outcome.fine p) e a =
     let f : take n out′ ≡ packBytes p = fits (packBytes p) out out′ n (a .result) (a .buffer) in
     let v = loaded-from ty s p e in
     record { it = p; loads = e; front = f; accepts = rw f (packed p (good-pack (v .kind) (v .files) p (v .parts))) }
-written-by ty s out out′ n (outcome.refused c l f) e a = not-done c l f n (sym (a .result))
+written-by ty s out out′ n (outcome.notLoaded c l f) e a = not-done c l f n (sym (a .result))
 
 -- THE LAW: what `load` leaves where it is done is an accepted pack, and it is the definition's
 pub load-accepted : (ty : ℕ) (s out out′ : List ℕ) (n : ℕ) → LoadIs ty s out (Done n) out′ → Written ty s n out′
 load-accepted ty s out out′ n a = written-by ty s out out′ n (loadOf ty s) refl a
 
 -- for a program that takes the pack out of its buffer
-within-by : (x : outcome.Outcome (List ℕ)) (out out′ : List ℕ) (n : ℕ) → AnswerIs x out (Done n) out′ → n ≤ length out′
-unfolding answer filled numbersOf
-within-by (outcome.refused c l f) out out′ n a = not-done c l f n (sym (a .result))
-within-by (outcome.fine b) out out′ n a = ⊎-elim (λ w. yes-so (w .0) (ap (λ (m : Numbers). m .place) (w .1))) (λ w. not-done _ _ _ n (w .1)) (pick-inv _ _ _ _ (sym (a .result)))
+within-by : (x : outcome.Loading (List ℕ)) (out out′ : List ℕ) (n : ℕ) → AnswerIs x out (Done n) out′ → n ≤ length out′
+unfolding answer filled loadedNumbers
+within-by (outcome.notLoaded c l f) out out′ n a = not-done c l f n (sym (a .result))
+within-by (outcome.fine b) out out′ n a = ⊎-elim (λ w. yes-so (w .0) (ap (λ (m : LoadNumbers). m .place) (w .1))) (λ w. not-done _ _ _ n (w .1)) (pick-inv _ _ _ _ (sym (a .result)))
   where
     yes-so : leb (length b) (length out) ≡ true → length b ≡ n → n ≤ length out′
     yes-so t e =

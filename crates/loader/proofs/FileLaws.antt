@@ -6,33 +6,34 @@ use Prim.Native.Nat.{ℕ, zero, suc, _+_, _-_, _≤_, _<_}
 use native.Mathlib.Decide.{decLe}
 use native.Mathlib.Omega.{arith}
 use lib.ListN.{length}
-use Rattle.base.specs.Pick.{and-yes}
 use Rattle.refusals.specs.declared.Refusal.{Refusal}
 use Rattle.refusals.specs.declared.Refusal.the-variants.{LineUnreadable}
 use Rattle.name_parts.proofs.Laws.{clash}
 use Rattle.pack.specs.Packs.{all}
-use Rattle.pack_bytes.specs.Bytes.{Each, none, more}
-use Rattle.rules_parser.specs.Files.{itemAt, itemsAt, itemsOf}
+use Rattle.rules_parser.specs.Files.{itemAt, itemsOf}
 use Rattle.rules_parser.proofs.Laws.{passed-goes, passed-in, tells-goes, tells-in, items-start, items-end, items-passed, items-tells, items-wrong}
 use Rattle.rules_parser.specs.declared.lines.FileKind.{FileKind}
 use Rattle.rules_parser.specs.declared.lines.Told.{Told}
 use Rattle.rules_parser.specs.declared.files.Item.{Item}
 use Rattle.rules_parser.specs.declared.files.Item.the-variants.{Passed, Tells, Wrong}
-use Rattle.rule_lists.specs.Outcomes.{Outcome, fine, refused, andThen}
+use Rattle.rule_lists.specs.Outcomes.{Loading, fine, notLoaded, andLoad}
 use Rattle.loader.specs.Files.{Kept, keeps, fault, onKept, toldIn}
+use Rattle.base.proofs.PickLaws.{and-yes}
+use Rattle.pack_bytes.specs.Contracts.{Each, none, more}
+use Rattle.rules_parser.specs.Contracts.{itemsAt}
 
 pub fine-is : {A : Type 0} {x y : A} → fine x ≡ fine y → x ≡ y
 fine-is e = cc
 
 -- what goes on came to a value: so did what was before it
-pub then-fine : {A B : Type 0} (x : Outcome A) (k : A → Outcome B) (b : B) → andThen x k ≡ fine b → (a : A) × (x ≡ fine a) × (k a ≡ fine b)
-unfolding andThen
+pub then-fine : {A B : Type 0} (x : Loading A) (k : A → Loading B) (b : B) → andLoad x k ≡ fine b → (a : A) × (x ≡ fine a) × (k a ≡ fine b)
+unfolding andLoad
 then-fine (fine a) k b e = (a, refl, e)
-then-fine (refused c l f) k b e = clash (cc)
+then-fine (notLoaded c l f) k b e = clash (cc)
 
 module _ {A : Type 0} (meaning : Told → Kept A) (f : ℕ) (k : FileKind) (s : List ℕ) where
   -- what is said from the place p on, which is in line l
-  abbrev pub toldFrom : ℕ → ℕ → Outcome (List A)
+  abbrev pub toldFrom : ℕ → ℕ → Loading (List A)
   toldFrom l p = toldIn meaning f l (itemsAt k s p)
 
   pub told-start : toldFrom 1 0 ≡ toldIn meaning f 1 (itemsOf k s)
@@ -43,7 +44,7 @@ module _ {A : Type 0} (meaning : Told → Kept A) (f : ℕ) (k : FileKind) (s : 
     unfolding toldIn
     told-end h = ap (toldIn meaning f l) (items-end k s p h)
 
-    pub told-wrong : p < length s → itemAt k s p ≡ Wrong → toldFrom l p ≡ refused LineUnreadable l f
+    pub told-wrong : p < length s → itemAt k s p ≡ Wrong → toldFrom l p ≡ notLoaded LineUnreadable l f
     unfolding toldIn
     told-wrong h e = ap (toldIn meaning f l) (items-wrong k s p h e)
 
@@ -52,17 +53,17 @@ module _ {A : Type 0} (meaning : Told → Kept A) (f : ℕ) (k : FileKind) (s : 
     told-passed a n e = ap (toldIn meaning f l) (items-passed k s p a n e)
 
     module _ (t : Told) (n : ℕ) (e : itemAt k s p ≡ Tells t n) (x : Kept A) (m : meaning t ≡ x) where
-      told-tells : toldFrom l p ≡ onKept x (λ c. refused c l f) (λ a. andThen (toldFrom (l + 1) n) (λ rest. fine (a ∷ rest)))
+      told-tells : toldFrom l p ≡ onKept x (λ c. notLoaded c l f) (λ a. andLoad (toldFrom (l + 1) n) (λ rest. fine (a ∷ rest)))
       unfolding toldIn
       told-tells = ap (toldIn meaning f l) (items-tells k s p t n e)
-          ∙ ap (λ (y : Kept A). onKept y (λ c. refused c l f) (λ a. andThen (toldFrom (l + 1) n) (λ rest. fine (a ∷ rest)))) m
+          ∙ ap (λ (y : Kept A). onKept y (λ c. notLoaded c l f) (λ a. andLoad (toldFrom (l + 1) n) (λ rest. fine (a ∷ rest)))) m
 
-    pub told-fault : (t : Told) (n : ℕ) (c : Refusal) → itemAt k s p ≡ Tells t n → meaning t ≡ fault c → toldFrom l p ≡ refused c l f
+    pub told-fault : (t : Told) (n : ℕ) (c : Refusal) → itemAt k s p ≡ Tells t n → meaning t ≡ fault c → toldFrom l p ≡ notLoaded c l f
     unfolding onKept
     told-fault t n c e m = told-tells t n e _ m
 
     pub told-kept : (t : Told) (n : ℕ) (a : A) → itemAt k s p ≡ Tells t n → meaning t ≡ keeps a
-        → toldFrom l p ≡ andThen (toldFrom (l + 1) n) (λ rest. fine (a ∷ rest))
+        → toldFrom l p ≡ andLoad (toldFrom (l + 1) n) (λ rest. fine (a ∷ rest))
     unfolding onKept
     told-kept t n a e m = told-tells t n e _ m
 

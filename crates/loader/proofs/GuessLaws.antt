@@ -12,7 +12,7 @@ use lib.Pow.{pow-pos}
 use mir.Syntax.{w64}
 use mir.Val.{Fits, boolByte}
 use borrow.Author.Tests.{lt-ltb, le-ltb, ltb-false, leb-true, ne-eqb}
-use Rattle.base.specs.Pick.{pick, pick-true, pick-false, pick-all, and-yes, and-inv}
+use Rattle.base.specs.Pick.{pick}
 use Rattle.base.proofs.Bits.{and-or}
 use Rattle.refusals.specs.declared.Refusal.{Refusal}
 use Rattle.refusals.specs.declared.Refusal.the-variants.{LineUnreadable, OutsideForms, NameUnlisted, TooMuch}
@@ -22,11 +22,10 @@ use Rattle.languages.specs.declared.names.Listed.the-variants.{Bit, Unlisted}
 use Rattle.languages.proofs.Laws.{is-listed, bit-held}
 use Rattle.phonemes.specs.Expressions.{plus, onFirst, cutAt, withBits, namesMask}
 use Rattle.lang.specs.Patterns.{inForms}
-use Rattle.name_parts.specs.Writing.{Put, cap}
+use Rattle.name_parts.specs.Contracts.{Put, cap}
 use Rattle.name_parts.proofs.Laws.{clash, put-none, put-then, put-long, put-place}
 use Rattle.pack.specs.Packs.{Guess, guess, guessGood, guessesGood}
-use Rattle.pack_bytes.specs.Bytes.{textBytes, textPut, maskBytes, guessBytes, none, more}
-use Rattle.held.specs.Tables.{bytesOf}
+use Rattle.pack_bytes.specs.Bytes.{textBytes, maskBytes, guessBytes}
 use Rattle.rules_parser.specs.Fields.{partOf}
 use Rattle.rules_parser.proofs.NumberLaws.{item-one}
 use Rattle.rules_parser.specs.Files.{itemAt}
@@ -37,26 +36,29 @@ use Rattle.rules_parser.specs.declared.lines.Told.{Told}
 use Rattle.rules_parser.specs.declared.lines.Told.the-variants as told
 use Rattle.rules_parser.specs.declared.files.Item.{Item}
 use Rattle.rules_parser.specs.declared.files.Item.the-variants.{Passed, Tells, Wrong}
-use Rattle.rule_lists.specs.Outcomes.{Outcome, fine, refused, andThen}
+use Rattle.rule_lists.specs.Outcomes.{Loading, fine, notLoaded, andLoad}
 use Rattle.loader.specs.Files.{Kept, keeps, fault}
-use Rattle.loader.specs.Guesses.{acceptOf, withMask, judged, guessOf, guessesIn, counted, guessesOf}
-use Rattle.loader.specs.Walks.{judgment, judgedAs, guessPut, GuessesTold, GuessesAre}
+use Rattle.loader.specs.Guesses.{acceptOf, withMask, judgedGuess, guessOf, guessesIn, countedGuesses, guessesOf}
+use Rattle.loader.specs.Contracts.{judgment, judgedAs, guessPut, GuessesTold, GuessesAre}
 use Rattle.loader.specs.declared.guesses.Judged.{Judged}
 use Rattle.loader.specs.declared.guesses.Judged.the-variants.{Mask, Fault}
 use Rattle.loader.specs.declared.guesses.Guessed.{Guessed}
 use Rattle.loader.specs.declared.guesses.Guessed.the-variants.{Done, Refused}
 use Rattle.loader.proofs.FileLaws.{fine-is, then-fine, toldFrom, told-start, told-end, told-wrong, told-passed, told-fault, told-kept, each-told, each-all}
+use Rattle.base.proofs.PickLaws.{pick-true, pick-false, pick-all, and-yes, and-inv}
+use Rattle.held.specs.Met.{bytesOfAll}
+use Rattle.pack_bytes.specs.Contracts.{textPut, none, more}
 
 -- ---- a rule judged
 
 module _ (names pattern joined : List ℕ) where
   pub judge-long : 255 < length pattern → Fault TooMuch ≡ judgedAs names pattern joined
-  unfolding judgedAs judgment judged
+  unfolding judgedAs judgment judgedGuess
   judge-long h = sym (ap judgment (pick-true _ _ _ (lt-ltb 255 (length pattern) h)))
 
   module _ (h : length pattern ≤ 255) (t : Bool) (e : t ≡ inForms pattern) where
     judge-by : judgment (pick t (withMask true pattern (namesMask names (cutAt plus joined))) (fault OutsideForms)) ≡ judgedAs names pattern joined
-    unfolding judgedAs judged
+    unfolding judgedAs judgedGuess
     judge-by = ap judgment (rw (← e) (sym (pick-false _ _ _ (le-ltb 255 (length pattern) h))))
 
     pub judge-bad : t ≡ false → Fault OutsideForms ≡ judgedAs names pattern joined
@@ -112,28 +114,28 @@ put-bytes v m pattern h = ap (λ (n : ℕ). acceptOf v ∷ (maskBytes m ++ (n �
 
 -- ---- the loop: what is left of the file, written behind n rules
 
-unfoldable pub ToldFrom : ℕ → Outcome (List Guess) → List ℕ → ℕ → Guessed → List ℕ → Type 0
-ToldFrom n (fine gs) o at r o′ = (p : ℕ) × (r ≡ Done (n + length gs) p) × Put o o′ at p (bytesOf guessBytes gs)
-ToldFrom n (refused c l f) o at r o′ = r ≡ Refused c l f
+unfoldable pub ToldFrom : ℕ → Loading (List Guess) → List ℕ → ℕ → Guessed → List ℕ → Type 0
+ToldFrom n (fine gs) o at r o′ = (p : ℕ) × (r ≡ Done (n + length gs) p) × Put o o′ at p (bytesOfAll guessBytes gs)
+ToldFrom n (notLoaded c l f) o at r o′ = r ≡ Refused c l f
 
-from-start : (x : Outcome (List Guess)) (o : List ℕ) (at : ℕ) (r : Guessed) (o′ : List ℕ) → ToldFrom 0 x o at r o′ → GuessesTold x o at r o′
+from-start : (x : Loading (List Guess)) (o : List ℕ) (at : ℕ) (r : Guessed) (o′ : List ℕ) → ToldFrom 0 x o at r o′ → GuessesTold x o at r o′
 unfolding ToldFrom GuessesTold
 from-start (fine gs) o at r o′ w = (w .0, w .1 ∙ ap (λ (n : ℕ). Done n (w .0)) (zero-add (length gs)), w .2)
-from-start (refused c l f) o at r o′ w = w
+from-start (notLoaded c l f) o at r o′ w = w
 
-from-next : (n : ℕ) (g : Guess) (x : Outcome (List Guess)) (o o₁ : List ℕ) (at p : ℕ) (r : Guessed) (o′ : List ℕ) → Put o o₁ at p (guessBytes g)
-    → ToldFrom (n + 1) x o₁ p r o′ → ToldFrom n (andThen x (λ gs. fine (g ∷ gs))) o at r o′
-unfolding ToldFrom andThen bytesOf
+from-next : (n : ℕ) (g : Guess) (x : Loading (List Guess)) (o o₁ : List ℕ) (at p : ℕ) (r : Guessed) (o′ : List ℕ) → Put o o₁ at p (guessBytes g)
+    → ToldFrom (n + 1) x o₁ p r o′ → ToldFrom n (andLoad x (λ gs. fine (g ∷ gs))) o at r o′
+unfolding ToldFrom andLoad bytesOfAll
 from-next n g (fine gs) o o₁ at p r o′ y w =
     let size : n + 1 + length gs ≡ n + suc (length gs) = omega arith in
     (w .0, w .1 ∙ ap (λ (k : ℕ). Done k (w .0)) size, put-then y (w .2))
-from-next n g (refused c l f) o o₁ at p r o′ y w = w
+from-next n g (notLoaded c l f) o o₁ at p r o′ y w = w
 
 from-end : (n : ℕ) (o : List ℕ) (at : ℕ) → length o < cap → at ≤ cap → ToldFrom n (fine []) o at (Done n at) o
-unfolding ToldFrom bytesOf
+unfolding ToldFrom bytesOfAll
 from-end n o at h k = let size : n ≡ n + 0 = omega arith in (at, ap (λ (i : ℕ). Done i at) size, put-none o at h k)
 
-from-refused : (n : ℕ) (c : Refusal) (l f : ℕ) (o : List ℕ) (at : ℕ) → ToldFrom n (refused c l f) o at (Refused c l f) o
+from-refused : (n : ℕ) (c : Refusal) (l f : ℕ) (o : List ℕ) (at : ℕ) → ToldFrom n (notLoaded c l f) o at (Refused c l f) o
 unfolding ToldFrom
 from-refused n c l f o at = refl
 
@@ -161,7 +163,7 @@ writing-start names s f o at b h k = record {
 
 module _ {names s : List ℕ} {f : ℕ} {o₀ : List ℕ} {at₀ : ℕ} {o : List ℕ} {at n p l : ℕ} (w : Writing names s f o₀ at₀ o at n p l) where
   -- what is left comes to a refusal
-  stops : (c : Refusal) → toldFrom (guessOf names s) f Guesses s l p ≡ refused c l f → GuessesAre names s f o₀ at₀ (Refused c l f) o
+  stops : (c : Refusal) → toldFrom (guessOf names s) f Guesses s l p ≡ notLoaded c l f → GuessesAre names s f o₀ at₀ (Refused c l f) o
   stops c e = w .is _ o (rw e (from-refused n c l f o at))
 
   pub writing-long : length o ≡ length o₀
@@ -229,17 +231,17 @@ module _ {names s : List ℕ} {f : ℕ} {o₀ : List ℕ} {at₀ : ℕ} {o : Lis
 
       module _ (a b : Text) (v : Bool) (g : t ≡ told.Guess a b v) (pattern joined : List ℕ) (ea : pattern ≡ partOf s a) (eb : joined ≡ partOf s b)
           (j : Judged) (ej : j ≡ judgedAs names pattern joined) where
-        judged-here : (y : Kept Guess) → judged names v pattern joined ≡ y → guessOf names s t ≡ y
+        judged-here : (y : Kept Guess) → judgedGuess names v pattern joined ≡ y → guessOf names s t ≡ y
         unfolding guessOf
-        judged-here y z = ap (guessOf names s) g ∙ ap₂ (judged names v) (sym ea) (sym eb) ∙ z
+        judged-here y z = ap (guessOf names s) g ∙ ap₂ (judgedGuess names v) (sym ea) (sym eb) ∙ z
 
         pub writing-fault : (c : Refusal) → j ≡ Fault c → GuessesAre names s f o₀ at₀ (Refused c l f) o
-        unfolding judgedAs judged
+        unfolding judgedAs judgedGuess
         writing-fault c z = faulty c (judged-here _ (fault-by v pattern _ _ _ c (sym ej ∙ z)))
 
         module _ (m : ℕ) (z : j ≡ Mask m) where
-          kept : (ltb 255 (length pattern) ≡ false) × (judged names v pattern joined ≡ keeps (guess (acceptOf v) m pattern))
-          unfolding judgedAs judged
+          kept : (ltb 255 (length pattern) ≡ false) × (judgedGuess names v pattern joined ≡ keeps (guess (acceptOf v) m pattern))
+          unfolding judgedAs judgedGuess
           kept = mask-by v pattern _ _ _ m (sym ej ∙ z)
 
           pub writing-kept : (o₁ : List ℕ) (r : ℕ) → Put o o₁ at r (guessPut v m pattern) → Writing names s f o₀ at₀ o₁ r (n + 1) i (l + 1)
@@ -313,7 +315,7 @@ accept-good false = refl
 -- a line that is kept
 kept-good : (names s : List ℕ) (p : ℕ) (t : Told) (n : ℕ) (g : Guess) → itemAt Guesses s p ≡ Tells t n → guessOf names s t ≡ keeps g
     → guessGood (length (stringsOf names)) g ≡ true
-unfolding guessOf judged guessGood
+unfolding guessOf judgedGuess guessGood
 kept-good names s p (told.Rule a b c d) n g e k = clash (cc)
 kept-good names s p (told.Include a) n g e k = clash (cc)
 kept-good names s p (told.Name a) n g e k = clash (cc)
@@ -324,7 +326,7 @@ kept-good names s p (told.Guess a b v) n g e k =
     rw (← i .3) (and-yes _ _ (accept-good v) (and-yes _ _ more
     (and-yes _ _ (lt-ltb _ _ (mask-held names _ (i .0) (i .2))) (and-yes _ _ (guess-pattern s p a b v n e) (i .1)))))
 
-counted-inv : (t : Bool) (gs hs : List Guess) → pick t (fine gs) (refused TooMuch 0 0) ≡ fine hs → (t ≡ true) × (gs ≡ hs)
+counted-inv : (t : Bool) (gs hs : List Guess) → pick t (fine gs) (notLoaded TooMuch 0 0) ≡ fine hs → (t ≡ true) × (gs ≡ hs)
 unfolding pick
 counted-inv true gs hs e = (refl, fine-is e)
 counted-inv false gs hs e = clash (cc)
@@ -332,7 +334,7 @@ counted-inv false gs hs e = clash (cc)
 -- `names` is the bytes of the languages xs, each behind its length byte
 module _ (names : List ℕ) (xs : List (List ℕ)) (listed : stringsOf names ≡ xs) (f : ℕ) (s : List ℕ) (gs : List Guess) (e : guessesOf names f s ≡ fine gs) where
   pub guesses-good : guessesGood (length xs) gs ≡ true
-  unfolding guessesOf guessesIn counted guessesGood
+  unfolding guessesOf guessesIn countedGuesses guessesGood
   guesses-good =
       let w = then-fine _ _ gs e in
       let c = counted-inv _ (w .0) gs (w .2) in

@@ -4,45 +4,46 @@ use mathlib.Core.List.{List, [], _∷_, _++_}
 use Prim.Native.Nat.{ℕ, zero, suc, _-_, _≤_, _<_}
 use lib.ListN.{length, take, drop}
 use borrow.Author.Tests.{le-leb, lt-leb}
-use Rattle.base.specs.Pick.{pick-true, pick-false}
 use Rattle.refusals.specs.declared.Refusal.{Refusal}
 use Rattle.refusals.specs.declared.Refusal.the-variants.{FileMissing, TooMuch}
-use Rattle.name_parts.specs.Writing.{Put}
+use Rattle.name_parts.specs.Contracts.{Put}
 use Rattle.prefixes.specs.declared.prefixes.NameType.{NameType}
 use Rattle.prefixes.specs.declared.prefixes.NameType.the-variants.{Ashkenazi, Generic, Sephardic}
 use Rattle.name_parts.proofs.Laws.{clash, put-then}
 use Rattle.pack.specs.Packs.{Guess}
 use Rattle.pack_bytes.specs.Bytes.{countBytes}
-use Rattle.bundles.specs.Bundles.{filesOf, fileNamed}
-use Rattle.bundles.specs.Places.{numbersOf, fileAt}
+use Rattle.bundles.specs.Bundles.{fileNamed}
+use Rattle.bundles.specs.PlaceContracts.{fileNumbers, fileAt}
 use Rattle.bundles.specs.declared.FileAt.{FileAt}
 use Rattle.bundles.specs.declared.FileAt.the-variants as file-at
 use Rattle.bundles.proofs.Laws.{missing-is, found-is, found-order, found-within}
-use Rattle.rule_lists.specs.Outcomes.{Outcome, fine, refused, andThen}
-use Rattle.rule_lists.specs.Lists.{prefixOf}
-use Rattle.loader.specs.Guesses.{guessesIn, counted, guessesOf}
+use Rattle.rule_lists.specs.Outcomes.{Loading, fine, notLoaded, andLoad}
+use Rattle.rule_lists.specs.Lists.{typePrefix}
+use Rattle.loader.specs.Guesses.{guessesIn, countedGuesses, guessesOf}
 use Rattle.loader.specs.Loading.{onType, langPart, onListed, guessFile}
-use Rattle.loader.specs.Walks.{kindOf, GuessesTold, GuessesAre, frontBytes}
+use Rattle.loader.specs.Contracts.{typeNumbered, GuessesTold, GuessesAre, frontBytes}
 use Rattle.loader.specs.declared.loading.Kind.the-variants.{Is, Unknown}
 use Rattle.loader.specs.declared.guesses.Guessed.{Guessed}
 use Rattle.loader.specs.declared.guesses.Guessed.the-variants.{Done, Refused}
+use Rattle.base.proofs.PickLaws.{pick-true, pick-false}
+use Rattle.bundles.specs.Contracts.{filesOf}
 
 -- ---- the type's number
 
-pub kind-ashkenazi : (n : ℕ) → n ≡ 0 → Is Ashkenazi ≡ kindOf n
-unfolding kindOf onType
+pub kind-ashkenazi : (n : ℕ) → n ≡ 0 → Is Ashkenazi ≡ typeNumbered n
+unfolding typeNumbered onType
 kind-ashkenazi n e = rw e refl
 
-pub kind-generic : (n : ℕ) → n ≡ 1 → Is Generic ≡ kindOf n
-unfolding kindOf onType
+pub kind-generic : (n : ℕ) → n ≡ 1 → Is Generic ≡ typeNumbered n
+unfolding typeNumbered onType
 kind-generic n e = rw e refl
 
-pub kind-sephardic : (n : ℕ) → n ≡ 2 → Is Sephardic ≡ kindOf n
-unfolding kindOf onType
+pub kind-sephardic : (n : ℕ) → n ≡ 2 → Is Sephardic ≡ typeNumbered n
+unfolding typeNumbered onType
 kind-sephardic n e = rw e refl
 
-pub kind-unknown : (n : ℕ) → (n ≡ 0 → ⊥) → (n ≡ 1 → ⊥) → (n ≡ 2 → ⊥) → Unknown ≡ kindOf n
-unfolding kindOf onType
+pub kind-unknown : (n : ℕ) → (n ≡ 0 → ⊥) → (n ≡ 1 → ⊥) → (n ≡ 2 → ⊥) → Unknown ≡ typeNumbered n
+unfolding typeNumbered onType
 kind-unknown zero a b c = absurd (a refl)
 kind-unknown (suc zero) a b c = absurd (b refl)
 kind-unknown (suc (suc zero)) a b c = absurd (c refl)
@@ -54,18 +55,18 @@ pub ruleset kind-laws = (kind-ashkenazi, kind-generic, kind-sephardic, kind-unkn
 
 module _ (kind : NameType) (part s : List ℕ) (r : FileAt) where
   abbrev Named : List ℕ → Type 0
-  Named name = numbersOf r ≡ fileAt s name
+  Named name = fileNumbers r ≡ fileAt s name
 
-  pub file-ashkenazi : kind ≡ Ashkenazi → Named (97 ∷ 115 ∷ 104 ∷ part) → Named (prefixOf kind ++ part)
-  unfolding prefixOf
+  pub file-ashkenazi : kind ≡ Ashkenazi → Named (97 ∷ 115 ∷ 104 ∷ part) → Named (typePrefix kind ++ part)
+  unfolding typePrefix
   file-ashkenazi e w = rw e w
 
-  pub file-generic : kind ≡ Generic → Named (103 ∷ 101 ∷ 110 ∷ part) → Named (prefixOf kind ++ part)
-  unfolding prefixOf
+  pub file-generic : kind ≡ Generic → Named (103 ∷ 101 ∷ 110 ∷ part) → Named (typePrefix kind ++ part)
+  unfolding typePrefix
   file-generic e w = rw e w
 
-  pub file-sephardic : kind ≡ Sephardic → Named (115 ∷ 101 ∷ 112 ∷ part) → Named (prefixOf kind ++ part)
-  unfolding prefixOf
+  pub file-sephardic : kind ≡ Sephardic → Named (115 ∷ 101 ∷ 112 ∷ part) → Named (typePrefix kind ++ part)
+  unfolding typePrefix
   file-sephardic e w = rw e w
 
 pub ruleset file-laws = (file-ashkenazi, file-generic, file-sephardic)
@@ -79,20 +80,20 @@ module _ (o o₁ o₂ o₃ : List ℕ) (p q r : ℕ) where
 
 -- ---- the guessing file
 
-done-by : (x : Outcome (List Guess)) (o : List ℕ) (at n p : ℕ) (o′ : List ℕ) → GuessesTold x o at (Done n p) o′
-    → ((n ≤ 4096 → GuessesTold (andThen x counted) o at (Done n p) o′) × (4096 < n → GuessesTold (andThen x counted) o at (Refused TooMuch 0 0) o′))
-unfolding GuessesTold andThen counted
+done-by : (x : Loading (List Guess)) (o : List ℕ) (at n p : ℕ) (o′ : List ℕ) → GuessesTold x o at (Done n p) o′
+    → ((n ≤ 4096 → GuessesTold (andLoad x countedGuesses) o at (Done n p) o′) × (4096 < n → GuessesTold (andLoad x countedGuesses) o at (Refused TooMuch 0 0) o′))
+unfolding GuessesTold andLoad countedGuesses
 done-by (fine gs) o at n p o′ w =
     let size : n ≡ length gs = let e = w .1 in cc in
-    (λ h. rw (pick-true _ (fine gs) (refused TooMuch 0 0) (le-leb (length gs) 4096 (rw size at h))) w, λ h. rw (pick-false _ (fine gs) (refused TooMuch 0 0) (lt-leb (length gs) 4096 (rw size at h))) refl)
-done-by (refused c l f) o at n p o′ w = clash (cc)
+    (λ h. rw (pick-true _ (fine gs) (notLoaded TooMuch 0 0) (le-leb (length gs) 4096 (rw size at h))) w, λ h. rw (pick-false _ (fine gs) (notLoaded TooMuch 0 0) (lt-leb (length gs) 4096 (rw size at h))) refl)
+done-by (notLoaded c l f) o at n p o′ w = clash (cc)
 
-refused-by : (x : Outcome (List Guess)) (o : List ℕ) (at : ℕ) (c : Refusal) (l f : ℕ) (o′ : List ℕ) → GuessesTold x o at (Refused c l f) o′ → GuessesTold (andThen x counted) o at (Refused c l f) o′
-unfolding GuessesTold andThen
+refused-by : (x : Loading (List Guess)) (o : List ℕ) (at : ℕ) (c : Refusal) (l f : ℕ) (o′ : List ℕ) → GuessesTold x o at (Refused c l f) o′ → GuessesTold (andLoad x countedGuesses) o at (Refused c l f) o′
+unfolding GuessesTold andLoad
 refused-by (fine gs) o at c l f o′ w = let e = w .1 in clash (cc)
-refused-by (refused d m g) o at c l f o′ w = w
+refused-by (notLoaded d m g) o at c l f o′ w = w
 
-module _ (kind : NameType) (s : List ℕ) (x : FileAt) (e : numbersOf x ≡ fileAt s (prefixOf kind ++ langPart)) (names o : List ℕ) (at : ℕ) where
+module _ (kind : NameType) (s : List ℕ) (x : FileAt) (e : fileNumbers x ≡ fileAt s (typePrefix kind ++ langPart)) (names o : List ℕ) (at : ℕ) where
   pub load-missing : x ≡ file-at.Missing → GuessesTold (guessFile kind (filesOf s) names) o at (Refused FileMissing 0 0) o
   unfolding guessFile onListed GuessesTold
   load-missing q = rw (missing-is s _ x e q) refl
@@ -105,10 +106,10 @@ module _ (kind : NameType) (s : List ℕ) (x : FileAt) (e : numbersOf x ≡ file
     load-within = found-within s _ x e k a b q
 
     module _ (g : Guessed) (o′ : List ℕ) (w : GuessesAre names (take (b - a) (drop a s)) k o at g o′) where
-      abbrev inFile : Outcome (List Guess)
+      abbrev inFile : Loading (List Guess)
       inFile = guessesIn names k (take (b - a) (drop a s))
 
-      is-file : andThen inFile counted ≡ guessFile kind (filesOf s) names
+      is-file : andLoad inFile countedGuesses ≡ guessFile kind (filesOf s) names
       unfolding guessFile onListed guessesOf
       is-file = rw (found-is s _ x e k a b q) refl
 

@@ -16,7 +16,7 @@ use Rattle.rules_parser.specs.Files.{itemsOf}
 use Rattle.rules_parser.specs.declared.lines.FileKind.the-variants.{Guesses}
 use Rattle.rules_parser.specs.declared.lines.Told.{Told}
 use Rattle.rules_parser.specs.declared.lines.Told.the-variants.{Rule, Include, Guess, Name}
-use Rattle.rule_lists.specs.Outcomes.{Outcome, fine, refused, andThen}
+use Rattle.rule_lists.specs.Outcomes.{Loading, fine, notLoaded, andLoad}
 use Rattle.loader.specs.Files.{Kept, keeps, fault, toldIn}
 
 -- "accept byte 0 or 1"
@@ -30,23 +30,23 @@ withMask v pattern (Bit m) = keeps (packs.guess (acceptOf v) m pattern)
 withMask v pattern Unlisted = fault NameUnlisted
 
 -- "in a line 12, 13, 18, 15 .., 16"
-unfoldable pub judged : List ℕ → Bool → List ℕ → List ℕ → Kept packs.Guess
-judged names v pattern joined =
+unfoldable pub judgedGuess : List ℕ → Bool → List ℕ → List ℕ → Kept packs.Guess
+judgedGuess names v pattern joined =
     pick (ltb 255 (length pattern)) (fault TooMuch) (pick (inForms pattern) (withMask v pattern (namesMask names (cutAt plus joined))) (fault OutsideForms))
 
 unfoldable pub guessOf : List ℕ → List ℕ → Told → Kept packs.Guess
 guessOf names s (Rule a b c d) = fault LineUnreadable
 guessOf names s (Include t) = fault LineUnreadable
-guessOf names s (Guess a b v) = judged names v (partOf s a) (partOf s b)
+guessOf names s (Guess a b v) = judgedGuess names v (partOf s a) (partOf s b)
 guessOf names s (Name t) = fault LineUnreadable
 
 -- the guessing rules of file f, whose content is s; `names` is the bytes of the languages, each behind its length byte
-unfoldable pub guessesIn : List ℕ → ℕ → List ℕ → Outcome (List packs.Guess)
+unfoldable pub guessesIn : List ℕ → ℕ → List ℕ → Loading (List packs.Guess)
 guessesIn names f s = toldIn (guessOf names s) f 1 (itemsOf Guesses s)
 
 -- "over 4,096 guessing rules"
-unfoldable pub counted : List packs.Guess → Outcome (List packs.Guess)
-counted gs = pick (leb (length gs) 4096) (fine gs) (refused TooMuch 0 0)
+unfoldable pub countedGuesses : List packs.Guess → Loading (List packs.Guess)
+countedGuesses gs = pick (leb (length gs) 4096) (fine gs) (notLoaded TooMuch 0 0)
 
-unfoldable pub guessesOf : List ℕ → ℕ → List ℕ → Outcome (List packs.Guess)
-guessesOf names f s = andThen (guessesIn names f s) counted
+unfoldable pub guessesOf : List ℕ → ℕ → List ℕ → Loading (List packs.Guess)
+guessesOf names f s = andLoad (guessesIn names f s) countedGuesses

@@ -15,8 +15,8 @@ use Rattle.pack.specs.Reading.{Read, cut, got}
 use Rattle.pack.specs.Packs.{Guess, Rule, Pack}
 use Rattle.pack_bytes.specs.Bytes.{namesBytes, packBytes}
 use Rattle.bundles.specs.Bundles.{File, Found, missing, found, readBundle, wellFormed, fileNamed}
-use Rattle.rule_lists.specs.Outcomes.{Outcome, fine, refused, andThen}
-use Rattle.rule_lists.specs.Lists.{listsOf, listFiles, prefixOf}
+use Rattle.rule_lists.specs.Outcomes.{Loading, fine, notLoaded, andLoad}
+use Rattle.rule_lists.specs.Lists.{listsOf, listFiles, typePrefix}
 use Rattle.loader.specs.Languages.{languagesOf}
 use Rattle.loader.specs.Guesses.{guessesOf}
 use Rattle.loader.specs.declared.loading.Loaded.{Loaded}
@@ -37,70 +37,70 @@ abbrev pub langPart : List ℕ
 langPart = 95 ∷ 108 ∷ 97 ∷ 110 ∷ 103 ∷ []
 
 -- a listed file; one that isn't in the bundle is 11 without a line
-unfoldable pub onListed : {A : Type 0} → Found → (ℕ → List ℕ → Outcome A) → Outcome A
-onListed missing k = refused FileMissing 0 0
+unfoldable pub onListed : {A : Type 0} → Found → (ℕ → List ℕ → Loading A) → Loading A
+onListed missing k = notLoaded FileMissing 0 0
 onListed (found f s) k = k f s
 
-unfoldable pub namesOf : NameType → List File → Outcome (List (List ℕ))
-namesOf kind fs = onListed (fileNamed (prefixOf kind ++ languagesPart) 0 fs) languagesOf
+unfoldable pub namesOf : NameType → List File → Loading (List (List ℕ))
+namesOf kind fs = onListed (fileNamed (typePrefix kind ++ languagesPart) 0 fs) languagesOf
 
 -- the guessing rules of a type; `bytes` is those of the languages, each behind its length byte
-unfoldable pub guessFile : NameType → List File → List ℕ → Outcome (List Guess)
-guessFile kind fs bytes = onListed (fileNamed (prefixOf kind ++ langPart) 0 fs) (guessesOf bytes)
+unfoldable pub guessFile : NameType → List File → List ℕ → Loading (List Guess)
+guessFile kind fs bytes = onListed (fileNamed (typePrefix kind ++ langPart) 0 fs) (guessesOf bytes)
 
-unfoldable pub listsIn : NameType → List File → List (List ℕ) → Outcome (List (List Rule))
-listsIn kind fs names = listsOf (namesBytes names) fs (listFiles (prefixOf kind) names)
+unfoldable pub listsIn : NameType → List File → List (List ℕ) → Loading (List (List Rule))
+listsIn kind fs names = listsOf (namesBytes names) fs (listFiles (typePrefix kind) names)
 
 -- the pack of a type's files: the language list, the guessing file, the lists
-unfoldable pub packIn : NameType → List File → Outcome Pack
-packIn kind fs =
-    andThen (namesOf kind fs) λ names.
-    andThen (guessFile kind fs (namesBytes names)) λ guesses.
-    andThen (listsIn kind fs names) λ lists.
+unfoldable pub packFrom : NameType → List File → Loading Pack
+packFrom kind fs =
+    andLoad (namesOf kind fs) λ names.
+    andLoad (guessFile kind fs (namesBytes names)) λ guesses.
+    andLoad (listsIn kind fs names) λ lists.
     fine (record { names = names; guesses = guesses; lists = lists })
 
 -- "10 bundle badly formed": the files of a bundle are those that were read
-unfoldable pub onBundle : {A : Type 0} → Read (List File) → (List File → Outcome A) → Outcome A
-onBundle cut k = refused BundleBroken 0 0
-onBundle (got files r) k = pick (wellFormed (got files r)) (k files) (refused BundleBroken 0 0)
+unfoldable pub onBundle : {A : Type 0} → Read (List File) → (List File → Loading A) → Loading A
+onBundle cut k = notLoaded BundleBroken 0 0
+onBundle (got files r) k = pick (wellFormed (got files r)) (k files) (notLoaded BundleBroken 0 0)
 
-unfoldable pub loadOf : ℕ → List ℕ → Outcome Pack
-loadOf ty s = onType ty (refused SettingUnknown 0 0) (λ kind. onBundle (readBundle s) (packIn kind))
+unfoldable pub loadOf : ℕ → List ℕ → Loading Pack
+loadOf ty s = onType ty (notLoaded SettingUnknown 0 0) (λ kind. onBundle (readBundle s) (packFrom kind))
 
 -- ---- the answer, and what is left in the buffer
 
-unfoldable pub written : Outcome Pack → Outcome (List ℕ)
+unfoldable pub written : Loading Pack → Loading (List ℕ)
 written (fine p) = fine (packBytes p)
-written (refused c l f) = refused c l f
+written (notLoaded c l f) = notLoaded c l f
 
 -- an answer's numbers, as the table has them: 0 with the bytes written, or the refusal's number, place and file
-pub record Numbers : Type 0 where
+pub record LoadNumbers : Type 0 where
   pub code : ℕ
   pub place : ℕ
   pub file : ℕ
 
-abbrev pub doneAt : ℕ → Numbers
+abbrev pub doneAt : ℕ → LoadNumbers
 doneAt n = record { code = 0; place = n; file = 0 }
 
-abbrev pub refusedAt : Refusal → ℕ → ℕ → Numbers
+abbrev pub refusedAt : Refusal → ℕ → ℕ → LoadNumbers
 refusedAt w p f = record { code = numberOf w; place = p; file = f }
 
-unfoldable pub numbersOf : Loaded → Numbers
-numbersOf (Done n) = doneAt n
-numbersOf (Refused w p f) = refusedAt w p f
+unfoldable pub loadedNumbers : Loaded → LoadNumbers
+loadedNumbers (Done n) = doneAt n
+loadedNumbers (Refused w p f) = refusedAt w p f
 
 -- the numbers of what was loaded, in a buffer with that room. "9 .. pack longer than the output buffer: length needed, 4294967295 if more"
-unfoldable pub answer : Outcome (List ℕ) → ℕ → Numbers
+unfoldable pub answer : Loading (List ℕ) → ℕ → LoadNumbers
 answer (fine bytes) room = pick (leb (length bytes) room) (doneAt (length bytes)) (refusedAt NoRoom (min 4294967295 (length bytes)) 0)
-answer (refused w l f) room = refusedAt w l f
+answer (notLoaded w l f) room = refusedAt w l f
 
 -- "A refusal .. writes nothing; a success leaves bytes after the answer unchanged."
-unfoldable pub filled : Outcome (List ℕ) → List ℕ → List ℕ
+unfoldable pub filled : Loading (List ℕ) → List ℕ → List ℕ
 filled (fine bytes) out = pick (leb (length bytes) (length out)) (sets out 0 bytes) out
-filled (refused w l f) out = out
+filled (notLoaded w l f) out = out
 
-pub record AnswerIs (x : Outcome (List ℕ)) (out : List ℕ) (r : Loaded) (out′ : List ℕ) : Type 0 where
-  pub result : numbersOf r ≡ answer x (length out)
+pub record AnswerIs (x : Loading (List ℕ)) (out : List ℕ) (r : Loaded) (out′ : List ℕ) : Type 0 where
+  pub result : loadedNumbers r ≡ answer x (length out)
   pub buffer : out′ ≡ filled x out
 
 -- the promise of `load`

@@ -1,8 +1,8 @@
 // The guessing file: its rules, checked and written.
 ghost use mathlib.Core.Path.{_≡_};
 ghost use Prim.Native.Nat.{_≤_};
-ghost use Rattle.name_parts.specs.Writing.{Put, cap};
-ghost use Rattle.loader.specs.Walks.{guessPut, judgedAs, GuessesAre};
+ghost use Rattle.name_parts.specs.Contracts.{Put, cap};
+ghost use Rattle.loader.specs.Contracts.{guessPut, judgedAs, GuessesAre};
 use languages::Listed;
 use refusals::Refusal;
 use rules_parser::FileKind;

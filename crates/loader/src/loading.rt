@@ -3,13 +3,13 @@ ghost use mathlib.Core.Path.{_≡_};
 ghost use mathlib.Core.List.{List, _++_};
 ghost use Prim.Native.Nat.{ℕ, _≤_, min};
 ghost use lib.ListN.{length};
-ghost use Rattle.name_parts.specs.Writing.{Put, cap};
-ghost use Rattle.bundles.specs.Bundles.{filesOf};
-ghost use Rattle.bundles.specs.Places.{fileAt};
-ghost use Rattle.rule_lists.specs.Outcomes.{Told};
-ghost use Rattle.rule_lists.specs.Lists.{prefixOf};
-ghost use Rattle.loader.specs.Loading.{languagesPart, langPart, namesOf, guessFile, packIn, written, AnswerIs, LoadIs};
-ghost use Rattle.loader.specs.Walks.{kindOf, NamesTold, GuessesTold, frontBytes, packedOf};
+ghost use Rattle.name_parts.specs.Contracts.{Put, cap};
+ghost use Rattle.bundles.specs.PlaceContracts.{fileAt};
+ghost use Rattle.rule_lists.specs.Lists.{typePrefix};
+ghost use Rattle.loader.specs.Loading.{languagesPart, langPart, namesOf, guessFile, packFrom, written, AnswerIs, LoadIs};
+ghost use Rattle.loader.specs.Contracts.{typeNumbered, NamesTold, GuessesTold, frontBytes, packedOf};
+ghost use Rattle.bundles.specs.Contracts.{filesOf};
+ghost use Rattle.rule_lists.specs.Contracts.{WrittenIs};
 use crate::guesses::Guessed;
 use crate::language_list::Names;
 use bundles::FileAt;
@@ -36,7 +36,7 @@ pub(crate) enum Kind {
 }
 
 fn kind_of(name_type: u32) -> Kind
-    ensures { λ r. ⌜ r ≡ kindOf «name_type» ⌝ }
+    ensures { λ r. ⌜ r ≡ typeNumbered «name_type» ⌝ }
 {
     if name_type == 0 {
         Kind::Is {
@@ -57,7 +57,7 @@ fn kind_of(name_type: u32) -> Kind
 
 // The language list of a type.
 fn languages_file(kind: NameType, bundle: &[u8]) -> FileAt
-    ensures { λ r. ⌜ Rattle.bundles.specs.Places.numbersOf r ≡ fileAt (now (bundle .entry)) (prefixOf kind ++ languagesPart) ⌝ }
+    ensures { λ r. ⌜ Rattle.bundles.specs.PlaceContracts.numbersOf r ≡ fileAt (now (bundle .entry)) (typePrefix kind ++ languagesPart) ⌝ }
 {
     match kind {
         NameType::Ashkenazi => bundles::find_file(bundle, b"ash_languages"),
@@ -68,7 +68,7 @@ fn languages_file(kind: NameType, bundle: &[u8]) -> FileAt
 
 // The guessing file of a type.
 fn guessing_file(kind: NameType, bundle: &[u8]) -> FileAt
-    ensures { λ r. ⌜ Rattle.bundles.specs.Places.numbersOf r ≡ fileAt (now (bundle .entry)) (prefixOf kind ++ langPart) ⌝ }
+    ensures { λ r. ⌜ Rattle.bundles.specs.PlaceContracts.numbersOf r ≡ fileAt (now (bundle .entry)) (typePrefix kind ++ langPart) ⌝ }
 {
     match kind {
         NameType::Ashkenazi => bundles::find_file(bundle, b"ash_lang"),
@@ -144,7 +144,7 @@ fn write_pack(
     out: &mut [u8],
 ) -> Written
     requires { ⌜ (languages ≤ 32) × (guesses ≤ 4096) ⌝ }
-    ensures { λ r. ⌜ Told (λ (bytes : List ℕ). bytes) (packedOf kind (filesOf (now (bundle .entry))) (now (names .entry)) languages guesses) (now (out .entry)) (now (out .exit)) 0 r ⌝ }
+    ensures { λ r. ⌜ WrittenIs (λ (bytes : List ℕ). bytes) (packedOf kind (filesOf (now (bundle .entry))) (now (names .entry)) languages guesses) (now (out .entry)) (now (out .exit)) 0 r ⌝ }
 {
     let p = write_front(names, languages, guesses, out);
     match load_guesses(kind, bundle, names, out, p) {
@@ -202,7 +202,7 @@ fn load_pack(
 
 // The bundle of a type, once it is well formed.
 fn load_files(kind: NameType, bundle: &[u8], out: &mut [u8]) -> Loaded
-    ensures { λ r. ⌜ AnswerIs (written (packIn kind (filesOf (now (bundle .entry))))) (now (out .entry)) r (now (out .exit)) ⌝ }
+    ensures { λ r. ⌜ AnswerIs (written (packFrom kind (filesOf (now (bundle .entry))))) (now (out .entry)) r (now (out .exit)) ⌝ }
 {
     let mut names = [0u8; 832];
     let mut none = [0u8; 1];

@@ -11,19 +11,21 @@ use lib.Dec.{ltb, leb, eqb, ltb→lt, eqb→eq}
 use lib.ListN.{length, getD, set, length-set, length-append}
 use lib.Seq.{sets, length-sets}
 use borrow.Author.Tests.{lt-ltb, le-ltb, le-leb, lt-leb}
-use Rattle.base.specs.Pick.{pick, pick-true, pick-false}
+use Rattle.base.specs.Pick.{pick}
 use Rattle.base.proofs.Table.{at}
 use Rattle.base.proofs.One.{one as one-of}
 use Rattle.base.proofs.Stores.{sets-then}
 use Rattle.letters.specs.Utf8.{decodeAt, encode}
-use Rattle.letters.specs.Reading.{Piece, letter, stray, piecesOf}
-use Rattle.lower_case.specs.Lower.{lowerTable, lowerOf, lowerIn, lowerText, loweredAnswer, loweredBuffer, LoweredInto}
+use Rattle.letters.specs.Reading.{Symbol, symbol, strayByte, symbolsOf}
+use Rattle.lower_case.specs.Lower.{lowerTable, lowerOf, lowerIn, lowerText}
 use Rattle.letters.specs.declared.utf8.Step.{Step}
 use Rattle.letters.specs.declared.utf8.Step.the-variants.{Char, Ill, End}
 use Rattle.lower_case.specs.declared.lower_case.Lowered.{Lowered}
 use Rattle.lower_case.specs.declared.lower_case.Lowered.the-variants.{Done, NoRoom}
 use Rattle.letters.proofs.Utf8Laws.{char-at, char-length, ill-in, end-at, encode-one, encode-two, encode-three, encode-four}
 use Rattle.letters.proofs.ReadingLaws.{Pieces, end, one, bad, pieces-of, char-left, ill-left, end-left}
+use Rattle.base.proofs.PickLaws.{pick-true, pick-false}
+use Rattle.lower_case.specs.Contracts.{loweredAnswer, loweredBuffer, LoweredInto}
 
 -- ---- the table: an entry x at its place k is below 384, its own lower case, and as long as k in UTF-8
 
@@ -122,7 +124,7 @@ pub ruleset put-laws = (room-1, room-2, room-3, room-4, put-1, put-2, put-3, put
 
 -- ---- lower-casing into out₀, as far as place p: the lower case of what is left, stored from p on, makes the whole
 
-length-in : {s : List ℕ} {p : ℕ} {l : List Piece} → Pieces s p l → p ≤ length s → p + length (lowerIn l) ≡ length s
+length-in : {s : List ℕ} {p : ℕ} {l : List Symbol} → Pieces s p l → p ≤ length s → p + length (lowerIn l) ≡ length s
 unfolding lowerIn
 length-in {s} {p} (end e) h = let z = end-at s p e in omega arith
 length-in {s} {p} (one {k = k} {n = n} {l = l} e r) h =
@@ -137,7 +139,7 @@ unfolding lowerText
 lower-text-length s = let i = length-in (pieces-of s) zero-le in omega arith
 
 pub record Lowering (s out₀ out : List ℕ) (p : ℕ) : Type 0 where
-  pub left : List Piece
+  pub left : List Symbol
   pub pieces : Pieces s p left
   pub within : p ≤ length s
   pub room : length s ≤ length out₀
@@ -146,7 +148,7 @@ pub record Lowering (s out₀ out : List ℕ) (p : ℕ) : Type 0 where
 
 pub lowering-start : (s out : List ℕ) → length s ≤ length out → Lowering s out out 0
 unfolding lowerText
-lowering-start s out h = record { left = piecesOf s; pieces = pieces-of s; within = zero-le; room = h; same = refl; is = refl }
+lowering-start s out h = record { left = symbolsOf s; pieces = pieces-of s; within = zero-le; room = h; same = refl; is = refl }
 
 module _ {s out₀ out : List ℕ} {p : ℕ} (w : Lowering s out₀ out p) (r : Step) (e : r ≡ decodeAt s p) where
   pub lowering-room : (k n c : ℕ) → r ≡ Char k n → c ≡ lowerOf k → p + length (encode c) ≤ length out
@@ -174,7 +176,7 @@ module _ {s out₀ out : List ℕ} {p : ℕ} (w : Lowering s out₀ out p) (r : 
             ap₂ (λ (o : List ℕ) (i : ℕ). sets o (p + i) (lowerIn (x .0))) g (sym long)
             ∙ sets-then out p (encode c) (lowerIn (x .0))
             ∙ ap (λ (y : ℕ). sets out p (encode y ++ lowerIn (x .0))) f
-            ∙ ap (λ (l : List Piece). sets out p (lowerIn l)) (sym (x .1))
+            ∙ ap (λ (l : List Symbol). sets out p (lowerIn l)) (sym (x .1))
             ∙ w .is;
       }
 
@@ -191,7 +193,7 @@ module _ {s out₀ out : List ℕ} {p : ℕ} (w : Lowering s out₀ out p) (r : 
         same = length-set out p (getD s p 0) ∙ w .same;
         is =
             ap (λ (i : ℕ). sets (set out p (getD s p 0)) i (lowerIn (x .0))) (add-one p)
-            ∙ ap (λ (l : List Piece). sets out p (lowerIn l)) (sym (x .1))
+            ∙ ap (λ (l : List Symbol). sets out p (lowerIn l)) (sym (x .1))
             ∙ w .is;
       }
 
@@ -214,7 +216,7 @@ module _ {s out₀ out : List ℕ} {p : ℕ} (w : Lowering s out₀ out p) (r : 
       let x : p ≡ length (lowerText s) = omega (arith, end-at s p d, w .within, lower-text-length s) in
       record {
         result = ap Done x ∙ sym (pick-true _ _ _ fits-all);
-        buffer = ap (λ (l : List Piece). sets out p (lowerIn l)) (sym (end-left (w .pieces) d)) ∙ w .is ∙ sym (pick-true _ _ _ fits-all);
+        buffer = ap (λ (l : List Symbol). sets out p (lowerIn l)) (sym (end-left (w .pieces) d)) ∙ w .is ∙ sym (pick-true _ _ _ fits-all);
       }
 
 pub no-room : (s out : List ℕ) → length out < length s → LoweredInto s out NoRoom out

@@ -1,15 +1,11 @@
 -- Lower case (01, Letters).
 use Prim.Native.Nat.{ℕ}
-use mathlib.Core.Path.{_≡_}
 use mathlib.Core.List.{List, [], _∷_, _++_}
-use lib.Dec.{ltb, leb}
-use lib.ListN.{length, getD}
-use lib.Seq.{sets}
+use lib.Dec.{ltb}
+use lib.ListN.{getD}
 use Rattle.base.specs.Pick.{pick}
 use Rattle.letters.specs.Utf8.{encode}
-use Rattle.letters.specs.Reading.{Piece, letter, stray, piecesOf}
-use Rattle.lower_case.specs.declared.lower_case.Lowered.{Lowered}
-use Rattle.lower_case.specs.declared.lower_case.Lowered.the-variants.{Done, NoRoom}
+use Rattle.letters.specs.Reading.{Symbol, symbol, strayByte, symbolsOf}
 
 -- one entry for each code point below U+0180, from Unicode's character data; entries outside the range map to themselves
 unfoldable pub lowerTable : List ℕ
@@ -44,21 +40,10 @@ unfoldable pub lowerOf : ℕ → ℕ
 lowerOf c = pick (ltb c 384) (getD lowerTable c 0) c
 
 -- the lower case of a text, character by character; a byte that begins no character stays
-unfoldable pub lowerIn : List Piece → List ℕ
+unfoldable pub lowerIn : List Symbol → List ℕ
 lowerIn [] = []
-lowerIn (letter p c ∷ l) = encode (lowerOf c) ++ lowerIn l
-lowerIn (stray p b ∷ l) = b ∷ lowerIn l
+lowerIn (symbol p c ∷ l) = encode (lowerOf c) ++ lowerIn l
+lowerIn (strayByte p b ∷ l) = b ∷ lowerIn l
 
 unfoldable pub lowerText : List ℕ → List ℕ
-lowerText s = lowerIn (piecesOf s)
-
--- lower-casing into a buffer: all of it is stored at the front, or it has no room and nothing is
-unfoldable pub loweredAnswer : List ℕ → List ℕ → Lowered
-loweredAnswer s out = pick (leb (length (lowerText s)) (length out)) (Done (length (lowerText s))) NoRoom
-
-unfoldable pub loweredBuffer : List ℕ → List ℕ → List ℕ
-loweredBuffer s out = pick (leb (length (lowerText s)) (length out)) (sets out 0 (lowerText s)) out
-
-pub record LoweredInto (s out : List ℕ) (r : Lowered) (out′ : List ℕ) : Type 0 where
-  pub result : r ≡ loweredAnswer s out
-  pub buffer : out′ ≡ loweredBuffer s out
+lowerText s = lowerIn (symbolsOf s)

@@ -10,14 +10,15 @@ use lib.Dec.{eqb, leb·suc-suc}
 use lib.ListN.{length, getD, take, drop, set, length-set, drop-of-length-le, length-drop}
 use lib.Seq.{take-all, drop-cons, drop-length}
 use borrow.Author.Tests.{lt-ltb, le-ltb, eq-eqb, ne-eqb}
-use Rattle.base.specs.Pick.{pick, pick-yes, pick-no, pick-true, pick-false, pick-all}
+use Rattle.base.specs.Pick.{pick}
 use Rattle.texts.specs.Parts.{has, placeOf}
-use Rattle.name_parts.specs.Writing.{Put, cap}
+use Rattle.name_parts.specs.Contracts.{Put, cap}
 use Rattle.name_parts.specs.Words.{wordsOf, wordAt, pastWord}
 use Rattle.prefixes.specs.Prefixes.{isPrefix}
 use Rattle.name_parts.specs.Joining.{spaced, joinedName, afterApostrophe, keptOf, dropsOut, remaining, joinedBySpace, joinedWords}
 use Rattle.prefixes.specs.declared.prefixes.NameType.{NameType}
 use Rattle.name_parts.proofs.Laws.{slice-room, put-none, put-then, put-long, put-place, words-none, words-next, word-later, past-within, clash}
+use Rattle.base.proofs.PickLaws.{pick-yes, pick-no, pick-true, pick-false, pick-all}
 
 -- the part from r on, as the code takes it
 rest-is : (s : List ℕ) (r : ℕ) → take (length s - r) (drop r s) ≡ drop r s

@@ -10,18 +10,19 @@ use lib.Dec.{eqb}
 use lib.ListN.{length, take, drop, set, length-set, length-append, length-drop, length-take, length-map}
 use lib.Seq.{sets, set-out, take-at, take-length, drop-length, drop-drop, sets-eq, length-sets, length-take-le}
 use borrow.Author.Tests.{eqb-true, not-true, not-false}
-use Rattle.base.specs.Pick.{pick, pick-true, pick-false, pick-all, and-inv}
+use Rattle.base.specs.Pick.{pick}
 use Rattle.base.proofs.Stores.{sets-then}
 use Rattle.texts.specs.Parts.{has, prefixOf}
 use Rattle.texts.proofs.Laws.{prefix-short, first-some-by}
-use Rattle.name_parts.specs.Writing.{Put, cap}
+use Rattle.name_parts.specs.Contracts.{Put, cap}
 use Rattle.name_parts.specs.Words.{goesOn, led, wordsOf, spaces, letters, wordStart, wordEnd, pastWord, stretch, wordAt, oneWord}
-use Rattle.prefixes.specs.Prefixes.{generic, prefixesOf, fits, firstFit, splitOf}
+use Rattle.prefixes.specs.Prefixes.{generic, prefixesOf, prefixFits, firstFit, splitOf}
 use Rattle.name_parts.specs.Joining.{spaced, joinedName, afterApostrophe, keptOf, dropsOut, remaining, joinedBySpace, joinedWords}
 use Rattle.prefixes.specs.declared.prefixes.NameType.{NameType}
 use Rattle.prefixes.specs.declared.prefixes.NameType.the-variants.{Ashkenazi, Generic, Sephardic}
 use Rattle.prefixes.specs.declared.prefixes.Prefix.{Prefix}
 use Rattle.prefixes.specs.declared.prefixes.Prefix.the-variants.{Parted}
+use Rattle.base.proofs.PickLaws.{pick-true, pick-false, pick-all, and-inv}
 
 pub clash : {A : Type 0} → _≡_ {A = ℕ} 0 1 → A
 clash e = absurd (omega arith)
@@ -275,8 +276,8 @@ prefix-within t s e = elim (decLe (length t) (length s)) [
   | no k ↦ let n = prefix-short t s (omega arith) in clash (cc)
 ]
 
-fits-within : (p s : List ℕ) → fits p s ≡ true → length p < length s
-unfolding fits
+fits-within : (p s : List ℕ) → prefixFits p s ≡ true → length p < length s
+unfolding prefixFits
 fits-within p s e = let l = first-some-by 32 (drop (length p) s) true (sym (and-inv _ _ e .1)) refl in omega (arith, length-drop (length p) s)
 
 -- no text of a list is empty

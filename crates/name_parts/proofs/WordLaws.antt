@@ -10,9 +10,10 @@ use lib.Dec.{eqb, eqb·suc-zero, eqb·suc-suc}
 use lib.ListN.{length, getD, take, drop, drop-of-length-le, length-drop}
 use lib.Seq.{drop-cons, drop-drop, take-nil}
 use borrow.Author.Tests.{eq-eqb, ne-eqb}
-use Rattle.base.specs.Pick.{pick, pick-true, pick-false}
+use Rattle.base.specs.Pick.{pick}
 use Rattle.name_parts.specs.Words.{wordsOf, wordAt, spaces, letters, wordStart, wordEnd, pastWord, oneWord}
 use Rattle.name_parts.proofs.Laws.{letters-within, word-is, words-none, words-next}
+use Rattle.base.proofs.PickLaws.{pick-true, pick-false}
 
 -- ---- the loops: a byte more, and the end
 module _ (s : List ℕ) (i : ℕ) (h : i < length s) where

@@ -6,7 +6,7 @@ use native.Mathlib.Numerals.{add-one}
 use native.Mathlib.Omega.{arith}
 use lib.ListN.{length, getD, take}
 use lib.Seq.{set-out, take-suc, take-all}
-use Rattle.name_parts.specs.Writing.{Put, cap}
+use Rattle.name_parts.specs.Contracts.{Put, cap}
 use Rattle.name_parts.proofs.Laws.{slice-room, put-then, put-long}
 
 -- past the end nothing is stored

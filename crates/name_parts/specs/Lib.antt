@@ -1,3 +1,3 @@
-pub mod Writing
+pub mod Contracts
 pub mod Words
 pub mod Joining

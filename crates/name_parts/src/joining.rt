@@ -5,7 +5,7 @@ ghost use Prim.Native.Nat.{_≤_, min};
 ghost use lib.Dec.{eqb};
 ghost use lib.ListN.{length, drop};
 ghost use Rattle.base.specs.Pick.{pick};
-ghost use Rattle.name_parts.specs.Writing.{Put, cap};
+ghost use Rattle.name_parts.specs.Contracts.{Put, cap};
 ghost use Rattle.name_parts.specs.Words.{wordsOf};
 ghost use Rattle.name_parts.specs.Joining.{spaced, joinedName, afterApostrophe, keptOf, dropsOut, remaining, joinedBySpace, joinedWords};
 use crate::words::next_word;

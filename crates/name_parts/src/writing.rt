@@ -2,7 +2,7 @@
 ghost use mathlib.Core.Path.{_≡_};
 ghost use mathlib.Core.List.{_∷_};
 ghost use Prim.Native.Nat.{min};
-ghost use Rattle.name_parts.specs.Writing.{Put, cap};
+ghost use Rattle.name_parts.specs.Contracts.{Put, cap};
 
 // No slice has more bytes; a place stays at most this.
 const CAP: usize = 0x8000_0000_0000_0000;

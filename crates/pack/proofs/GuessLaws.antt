@@ -11,19 +11,18 @@ use lib.Pow.{shl-exact, pow-pos}
 use lib.ListN.{length, getD, take, drop, length-take, length-drop}
 use lib.Seq.{drop-drop}
 use borrow.Author.Tests.{le-leb, lt-leb, lt-ltb, le-ltb, eq-eqb, ne-eqb}
-use Rattle.base.specs.Pick.{pick, and, and-first, and-second}
-use Rattle.languages.specs.Names.{stringAt}
+use Rattle.base.specs.Pick.{pick, and}
 use Rattle.languages.specs.declared.names.Next.{Next}
 use Rattle.languages.specs.declared.names.Next.the-variants as next
 use Rattle.languages.specs.declared.sets.LanguageSet.{LanguageSet}
 use Rattle.rule.specs.Matching.{ruleText}
 use Rattle.lang.specs.Patterns.{inForms, matchesOf}
-use Rattle.lang.specs.Shortcuts.{signatureOf, mayMatch}
+use Rattle.lang.specs.Contracts.{signatureOf, mayMatch}
 use Rattle.lang.proofs.Shortcuts.{may-not}
-use Rattle.pack.specs.Reading.{Read, cut, got, andThen, readByte, readNumber, readText, readMany}
+use Rattle.pack.specs.Reading.{Read, cut, got, andRead, readByte, readNumber, readText, readMany}
 use Rattle.pack.specs.Packs.{Guess, guess, readGuess, readGuesses, all, guessGood, guessesGood, placeIn}
-use Rattle.pack.specs.Guessing.{narrowedBy, narrowedByAll, leftOver, allListed, guessed, behind, readSome, guessesAt, guessedAt}
-use Rattle.pack.specs.Walks.{ByteIs, numberAt, judge, endIn, run, guessesFrom, placedGuess, guessAt}
+use Rattle.pack.specs.Guessing.{narrowedBy, narrowedByAll, leftOver, allListed, guessed}
+use Rattle.pack.specs.Contracts.{ByteIs, numberAt, judge, endIn, allFrom, guessesFrom, placedGuess, guessStandsAt, guessesAt, guessedAt}
 use Rattle.pack.specs.declared.reading.Number.{Number}
 use Rattle.pack.specs.declared.reading.Number.the-variants as number
 use Rattle.pack.specs.declared.reading.Section.{Section}
@@ -32,16 +31,19 @@ use Rattle.pack.specs.declared.guessing.GuessAt.{GuessAt}
 use Rattle.pack.specs.declared.guessing.GuessAt.the-variants as guesses
 use Rattle.pack.proofs.Readers.{clash, EndOf, end-here, place-drop, then-inv, many-length, byte-ends, number-ends, guess-ends, byte-some, byte-none, count-of, count-cut, mask-of, mask-cut, text-is, text-cut, TextThen, reads-on, text-then}
 use Rattle.pack.proofs.Walks.{Faulty, runs-out, fails, section-ends, section-faulty, judge-fine, judge-faulty, judge-same, walk-on, walk-off, walk-end}
+use Rattle.base.proofs.PickLaws.{and-first, and-second}
+use Rattle.languages.specs.Contracts.{stringAt}
+use Rattle.pack.specs.PlaceContracts.{behind, readSome}
 
 -- ---- a guessing rule at a place
 
-pub guess-none : (s : List ℕ) (at : ℕ) → length s ≤ at → guesses.Cut ≡ guessAt s at
-unfolding guessAt placedGuess readGuess andThen
+pub guess-none : (s : List ℕ) (at : ℕ) → length s ≤ at → guesses.Cut ≡ guessStandsAt s at
+unfolding guessStandsAt placedGuess readGuess andRead
 guess-none s at h = rw (byte-none s at h) refl
 
 module _ (s : List ℕ) (at : ℕ) (h : at < length s) (y : Number) (g : y ≡ numberAt 4 s (at + 1)) where
-  pub guess-cut-mask : y ≡ number.Cut → guesses.Cut ≡ guessAt s at
-  unfolding guessAt placedGuess readGuess andThen
+  pub guess-cut-mask : y ≡ number.Cut → guesses.Cut ≡ guessStandsAt s at
+  unfolding guessStandsAt placedGuess readGuess andRead
   guess-cut-mask q = rw (byte-some s at h, mask-cut s (at + 1) y g q) refl
 
   module _ (m d : ℕ) (q : y ≡ number.Of m d) where
@@ -49,12 +51,12 @@ module _ (s : List ℕ) (at : ℕ) (h : at < length s) (y : Number) (g : y ≡ n
     mask-reads = mask-of s (at + 1) y m d g q .reads
 
     module _ (x : Next) (f : x ≡ stringAt s d) where
-      pub guess-cut-text : x ≡ next.Cut → guesses.Cut ≡ guessAt s at
-      unfolding guessAt placedGuess readGuess andThen
+      pub guess-cut-text : x ≡ next.Cut → guesses.Cut ≡ guessStandsAt s at
+      unfolding guessStandsAt placedGuess readGuess andRead
       guess-cut-text p = rw (byte-some s at h, mask-reads, text-cut s d x f p) refl
 
-      pub guess-whole : (a e b : ℕ) → x ≡ next.Whole a e → ByteIs s at b → guesses.At b m a e ≡ guessAt s at
-      unfolding guessAt placedGuess readGuess andThen
+      pub guess-whole : (a e b : ℕ) → x ≡ next.Whole a e → ByteIs s at b → guesses.At b m a e ≡ guessStandsAt s at
+      unfolding guessStandsAt placedGuess readGuess andRead
       guess-whole a e b p k =
           let w = text-is s d x f a e p in
           let accept : b ≡ getD s at 0 = k .is in
@@ -98,15 +100,15 @@ rest-drop : (s r q : List ℕ) (d : ℕ) → r ≡ drop d s → (v : EndOf r q) 
 rest-drop s r q d e v = v .is ∙ ap (drop (v .at)) e ∙ drop-drop (v .at) d s
 
 module _ (s : List ℕ) (at : ℕ) (g : Guess) (q : List ℕ) (b m a e : ℕ) (r : readGuess (drop at s) ≡ got g q) (k : placedGuess s (got g q) ≡ guesses.At b m a e) where
-  guess-is-2 : (x : ℕ) (l : List ℕ) (d : ℕ) → l ≡ drop d s → (n : ℕ) (l₂ : List ℕ) → readNumber 4 l ≡ got n l₂ → andThen (readText l₂) (λ p t. got (guess x n p) t) ≡ got g q → GuessIs s at b m a e
+  guess-is-2 : (x : ℕ) (l : List ℕ) (d : ℕ) → l ≡ drop d s → (n : ℕ) (l₂ : List ℕ) → readNumber 4 l ≡ got n l₂ → andRead (readText l₂) (λ p t. got (guess x n p) t) ≡ got g q → GuessIs s at b m a e
   guess-is-2 x l d h n l₂ i j =
       let v : EndOf l l₂ = number-ends 4 l n l₂ i in
       let f : l₂ ≡ drop (d + v .at) s = rest-drop s l l₂ d h v in
-      let o : andThen (readText (drop (d + v .at) s)) (λ p t. got (guess x n p) t) ≡ got g q =
-      ap (λ (y : List ℕ). andThen (readText y) (λ p t. got (guess x n p) t)) (sym f) ∙ j in
+      let o : andRead (readText (drop (d + v .at) s)) (λ p t. got (guess x n p) t) ≡ got g q =
+      ap (λ (y : List ℕ). andRead (readText y) (λ p t. got (guess x n p) t)) (sym f) ∙ j in
       guess-is-3 s at (d + v .at) x n g q b m a e r (text-then s (d + v .at) (λ p t. got (guess x n p) t) g q o) k
 
-  guess-is-1 : (x : ℕ) (l : List ℕ) → readByte (drop at s) ≡ got x l → andThen (readNumber 4 l) (λ n t. andThen (readText t) (λ p u. got (guess x n p) u)) ≡ got g q → GuessIs s at b m a e
+  guess-is-1 : (x : ℕ) (l : List ℕ) → readByte (drop at s) ≡ got x l → andRead (readNumber 4 l) (λ n t. andRead (readText t) (λ p u. got (guess x n p) u)) ≡ got g q → GuessIs s at b m a e
   guess-is-1 x l i j =
       let o = then-inv (readNumber 4 l) _ g q j in
       let v : EndOf (drop at s) l = byte-ends (drop at s) x l i in
@@ -126,13 +128,13 @@ unfolding placedGuess
 cut-by s at cut g h = g
 cut-by s at (got r q) g h = clash (cc)
 
-module _ (s : List ℕ) (at : ℕ) (x : GuessAt) (g : x ≡ guessAt s at) where
+module _ (s : List ℕ) (at : ℕ) (x : GuessAt) (g : x ≡ guessStandsAt s at) where
   pub guess-is : (b m a e : ℕ) → x ≡ guesses.At b m a e → GuessIs s at b m a e
-  unfolding guessAt
+  unfolding guessStandsAt
   guess-is b m a e q = is-by s at b m a e _ refl (sym g ∙ q)
 
   pub guess-cut : x ≡ guesses.Cut → readGuess (drop at s) ≡ cut
-  unfolding guessAt
+  unfolding guessStandsAt
   guess-cut q = cut-by s at _ refl (sym g ∙ q)
 
 -- ---- the listed bits, and the test of a guessing rule
@@ -192,7 +194,7 @@ pub ruleset guess-test-laws = (guess-accept, guess-zero, guess-unlisted, guess-n
 
 -- ---- one after the other
 
-module _ (s : List ℕ) (at n : ℕ) (x : GuessAt) (g : x ≡ guessAt s at) where
+module _ (s : List ℕ) (at n : ℕ) (x : GuessAt) (g : x ≡ guessStandsAt s at) where
   pub next-guess-cut : x ≡ guesses.Cut → Bad ≡ endIn s (guessGood n) (readGuess (drop at s))
   unfolding endIn
   next-guess-cut q = sym (judge-faulty _ _ _ _ (runs-out (guess-cut s at x g q)))
@@ -249,7 +251,7 @@ pub ruleset guessing-laws = (guessing-start, guessing-next, guessing-bad, guessi
 -- ---- the section
 
 guesses-are : (n : ℕ) (gs : List Guess) → guessesFrom n gs ≡ all (guessGood n) gs
-unfolding guessesFrom run all
+unfolding guessesFrom allFrom all
 guesses-are n [] = refl
 guesses-are n (x ∷ xs) = ap (and (guessGood n x)) (guesses-are n xs)
 
@@ -267,12 +269,12 @@ much-by n l k (got gs q) e h = let long : 4096 < length gs = omega (arith, many-
 
 module _ (s : List ℕ) (n at : ℕ) (r : Number) (p : r ≡ numberAt 2 s at) where
   pub guesses-cut : r ≡ number.Cut → Bad ≡ endIn s (guessesGood n) (readGuesses (drop at s))
-  unfolding endIn readGuesses andThen judge
+  unfolding endIn readGuesses andRead judge
   guesses-cut q = rw (count-cut s at r p q) refl
 
   module _ (k d : ℕ) (q : r ≡ number.Of k d) where
     guesses-reads : readGuesses (drop at s) ≡ readMany readGuess k (drop d s)
-    unfolding readGuesses andThen
+    unfolding readGuesses andRead
     guesses-reads = rw (count-of s at r k d p q .reads) refl
 
     pub guesses-much : 4096 < k → Bad ≡ endIn s (guessesGood n) (readGuesses (drop at s))
@@ -313,7 +315,7 @@ pub ruled-out : (p name : List ℕ) (bits : ℕ) (t : Bool) → bits ≡ signatu
 ruled-out p name bits t e f q = sym (may-not p name (ap (mayMatch p) (sym e) ∙ sym f ∙ q))
 
 module _ {s name : List ℕ} {start count whole at left mask : ℕ} (w : Narrowing s name start count whole at left mask) where
-  module _ (x : GuessAt) (g : x ≡ guessAt s at) where
+  module _ (x : GuessAt) (g : x ≡ guessStandsAt s at) where
     pub narrowing-next : (b m a e k : ℕ) → 0 < left → x ≡ guesses.At b m a e → k ≡ narrowedBy name (guess b m (take (e - a) (drop a s))) mask
         → Narrowing s name start count whole e (left - 1) k
     unfolding narrowedByAll

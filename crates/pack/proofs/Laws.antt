@@ -12,10 +12,9 @@ use lib.Dec.{eqb, leb, ltb}
 use lib.ListN.{length, getD, take, drop, length-append, length-drop, take-append-drop}
 use lib.Seq.{take-append-seam, length-take-le}
 use borrow.Author.Tests.{leb-true, ltb-true, ltb-false, eqb-true, eq-eqb}
-use Rattle.base.specs.Pick.{pick, pick-all, and-inv}
+use Rattle.base.specs.Pick.{pick}
 use Rattle.base.proofs.One.{one}
 use Rattle.languages.specs.Names.{strings, stringsOf}
-use Rattle.languages.specs.Sets.{BitsBelow}
 use Rattle.languages.specs.declared.sets.LanguageSet.{LanguageSet}
 use Rattle.languages.specs.declared.sets.LanguageSet.the-variants.{Any}
 use Rattle.languages.proofs.Laws.{strings-none, strings-all, strings-one, without-below, any-below, mask-below}
@@ -28,11 +27,11 @@ use Rattle.phonemes.specs.Expressions.{checkedOf}
 use Rattle.phonemes.specs.declared.answers.Expression.{Expression}
 use Rattle.phonemes.specs.declared.answers.Expression.the-variants.{Good, Malformed, Stranger}
 use Rattle.lang.specs.Patterns.{matchesOf}
-use Rattle.pack.specs.Reading.{Read, cut, got, andThen, readByte, readNumber, readText, readMany}
-use Rattle.pack.specs.Packs.{Guess, Rule, Pack, Verdict, accepted, refused, readNames, readGuess, readGuesses, readRule, readList, all, isForm, isGood, ruleGood, listGood, namesGood, guessesGood, section, placeIn, namesIn, listCount, listSections, isNil, endSection, packOf}
-use Rattle.pack.specs.Places.{textBytes, surveyedOf, foundIn, placesOf, SurveyIs, placedRule, placedFrom, ruleAt, countIn, ruleCount, listAt}
-use Rattle.pack.specs.Guessing.{narrowedBy, narrowedByAll, leftOver, allListed, guessed, behind, readSome, guessesAt, guessedAt}
-use Rattle.pack.specs.Walks.{numberIn, numberAt, restPlaces}
+use Rattle.pack.specs.Reading.{Read, cut, got, andRead, readByte, readNumber, readText, readMany}
+use Rattle.pack.specs.Packs.{Guess, Rule, Pack, Verdict, accepted, refused, readNames, readGuess, readGuesses, readRule, readList, all, isForm, isGood, ruleGood, listGood, namesGood, guessesGood, section, placeIn, namesIn, listCount, listSections, isNil, endSection, packOf, stringsLength}
+use Rattle.pack.specs.PlaceContracts.{surveyedOf, foundIn, placesOf, SurveyIs, placedRule, placedFrom, ruleStandsAt, countIn, ruleCount, listAt, behind, readSome}
+use Rattle.pack.specs.Guessing.{narrowedBy, narrowedByAll, leftOver, allListed, guessed}
+use Rattle.pack.specs.Contracts.{numberIn, numberAt, restPlaces, guessesAt, guessedAt}
 use Rattle.pack.specs.declared.rules.RuleAt.{RuleAt}
 use Rattle.pack.specs.declared.rules.RuleAt.the-variants as rules
 use Rattle.pack.specs.declared.sections.Surveyed.{Surveyed}
@@ -42,6 +41,8 @@ use Rattle.pack.proofs.Readers.{clash, EndOf, Ends, end-here, end-then,
 use Rattle.pack.proofs.Walks.{Judged, fine, faulty, judged, judge-fine, Ending}
 use Rattle.pack.proofs.RuleLaws.{RuleIs, rule-read, rule-is}
 use Rattle.pack.proofs.SectionLaws.{section-is, found-one, names-end, names-few, rest-reads, rest-places}
+use Rattle.base.proofs.PickLaws.{pick-all, and-inv}
+use Rattle.languages.specs.Contracts.{BitsBelow}
 
 -- the promise of a survey allows one answer and one table
 pub survey-one : {s t o o′ : List ℕ} {r r′ : Surveyed} → SurveyIs s t r o → SurveyIs s t r′ o′ → (r ≡ r′) × (o ≡ o′)
@@ -249,18 +250,18 @@ short-rule s at r q b e =
 -- rs stand from a place on: each by its places, and good
 pub data RulesAt (s nm : List ℕ) : ℕ → List Rule → Type 0 where
   no-rule : {at : ℕ} → RulesAt s nm at []
-  one-rule : {at a b c d e f g h : ℕ} {r : Rule} {rs : List Rule} → ruleAt s at ≡ rules.At a b c d e f g h → (w : RuleIs s at a b c d e f g h) → w .value ≡ r
+  one-rule : {at a b c d e f g h : ℕ} {r : Rule} {rs : List Rule} → ruleStandsAt s at ≡ rules.At a b c d e f g h → (w : RuleIs s at a b c d e f g h) → w .value ≡ r
       → ruleGood nm r ≡ true → RulesAt s nm h rs → RulesAt s nm at (r ∷ rs)
 
 module _ (s nm : List ℕ) (at : ℕ) (x : Rule) (r : List ℕ) (o : readRule (drop at s) ≡ got x r) where
-  placed-at : ruleAt s at ≡ placedFrom at (length (x .pattern)) (length (x .left)) (length (x .right)) (length (x .expression))
-  unfolding ruleAt placedRule
+  placed-at : ruleStandsAt s at ≡ placedFrom at (length (x .pattern)) (length (x .left)) (length (x .right)) (length (x .expression))
+  unfolding ruleStandsAt placedRule
   placed-at = ap (placedRule at) o
 
   rule-step : (rs : List Rule) → ruleGood nm x ≡ true → ((h : ℕ) → r ≡ drop h s → RulesAt s nm h rs) → RulesAt s nm at (x ∷ rs)
   unfolding placedFrom
   rule-step rs k ih =
-      let w = rule-is s at (ruleAt s at) refl _ _ _ _ _ _ _ _ placed-at in
+      let w = rule-is s at (ruleStandsAt s at) refl _ _ _ _ _ _ _ _ placed-at in
       let same = sym (w .reads) ∙ o in
       let value : w .value ≡ x = cc in
       let rest : r ≡ drop (at + 4 + length (x .pattern) + length (x .left) + length (x .right) + length (x .expression)) s = cc in
@@ -275,7 +276,7 @@ record Held (s nm : List ℕ) (a b c d e f g h : ℕ) (r : Rule) (rs : List Rule
   good : ruleGood nm r ≡ true
   rest : RulesAt s nm h rs
 
-held-by : (s nm : List ℕ) (at a b c d e f g h : ℕ) (r : Rule) (rs : List Rule) → rules.At a b c d e f g h ≡ ruleAt s at → RulesAt s nm at (r ∷ rs) → Held s nm a b c d e f g h r rs
+held-by : (s nm : List ℕ) (at a b c d e f g h : ℕ) (r : Rule) (rs : List Rule) → rules.At a b c d e f g h ≡ ruleStandsAt s at → RulesAt s nm at (r ∷ rs) → Held s nm a b c d e f g h r rs
 held-by s nm at a b c d e f g h r rs o (one-rule {a = a′} {b = b′} {c = c′} {d = d′} {e = e′} {f = f′} {g = g′} {h = h′} p w v k l) =
     let same = o ∙ p in
     let ea : a ≡ a′ = cc in
@@ -295,7 +296,7 @@ held-by s nm at a b c d e f g h r rs o (one-rule {a = a′} {b = b′} {c = c′
       rest = subst (λ (x : ℕ). RulesAt s nm x rs) (sym eh) l;
     }
 
-module _ (s nm : List ℕ) (at : ℕ) (r : Rule) (rs : List Rule) (l : RulesAt s nm at (r ∷ rs)) (x : RuleAt) (o : x ≡ ruleAt s at) where
+module _ (s nm : List ℕ) (at : ℕ) (r : Rule) (rs : List Rule) (l : RulesAt s nm at (r ∷ rs)) (x : RuleAt) (o : x ≡ ruleStandsAt s at) where
   module _ (a b c d e f g h : ℕ) (q : x ≡ rules.At a b c d e f g h) where
     held-here : Held s nm a b c d e f g h r rs
     held-here = held-by s nm at a b c d e f g h r rs (sym q ∙ o) l
@@ -319,10 +320,10 @@ module _ (s nm : List ℕ) (at : ℕ) (r : Rule) (rs : List Rule) (l : RulesAt s
     held-rest = held-here .rest
 
 -- one is there
-never-cut : (s nm : List ℕ) (at : ℕ) (r : Rule) (rs : List Rule) → rules.Cut ≡ ruleAt s at → RulesAt s nm at (r ∷ rs) → ⊥
+never-cut : (s nm : List ℕ) (at : ℕ) (r : Rule) (rs : List Rule) → rules.Cut ≡ ruleStandsAt s at → RulesAt s nm at (r ∷ rs) → ⊥
 never-cut s nm at r rs o (one-rule p w v k l) = let same = o ∙ p in clash (cc)
 
-pub held-whole : (s nm : List ℕ) (at : ℕ) (r : Rule) (rs : List Rule) (x : RuleAt) → RulesAt s nm at (r ∷ rs) → x ≡ ruleAt s at → x ≡ rules.Cut → ⊥
+pub held-whole : (s nm : List ℕ) (at : ℕ) (r : Rule) (rs : List Rule) (x : RuleAt) → RulesAt s nm at (r ∷ rs) → x ≡ ruleStandsAt s at → x ≡ rules.Cut → ⊥
 held-whole s nm at r rs x l o q = never-cut s nm at r rs (sym q ∙ o) l
 
 pub ruleset held-laws = (held-pattern, held-left, held-right, held-expression, held-good, held-rest)
@@ -456,8 +457,8 @@ many-written (suc n) l xs r e =
     ∙ sym (ap (λ (x : List ℕ). length (i .0) ∷ x) (append-assoc (i .0) (written (j .0)) (j .1)))
     ∙ ap₂ (λ (x : List (List ℕ)) (y : List ℕ). written x ++ y) whole rest
 
-written-length : (xs : List (List ℕ)) → length (written xs) ≡ textBytes xs
-unfolding written textBytes
+written-length : (xs : List (List ℕ)) → length (written xs) ≡ stringsLength xs
+unfolding written stringsLength
 written-length [] = refl
 written-length (t ∷ ts) = omega (arith, length-append t (written ts), written-length ts)
 
@@ -468,7 +469,7 @@ written-strings zero (t ∷ ts) h = absurd (not-suc-le-zero h)
 written-strings (suc f) (t ∷ ts) h = strings-one f t (written ts) ∙ ap (λ (x : List (List ℕ)). t ∷ x) (written-strings f ts (omega (arith, length-append t (written ts))))
 
 names-written : (s : List ℕ) (xs : List (List ℕ)) (r : List ℕ) → readNames s ≡ got xs r → drop 1 s ≡ written xs ++ r
-unfolding readNames readByte andThen
+unfolding readNames readByte andRead
 names-written [] xs r e = clash (cc)
 names-written (b ∷ s) xs r e = many-written b s xs r e
 
@@ -491,12 +492,12 @@ guesses-all s place gs q e =
 
 -- ---- what an accepted pack gives, where g is the place of its guessing section
 
-module _ (s : List ℕ) (p : Pack) (g : ℕ) (e : packOf s ≡ accepted p) (q : g ≡ 1 + textBytes (p .names)) where
+module _ (s : List ℕ) (p : Pack) (g : ℕ) (e : packOf s ≡ accepted p) (q : g ≡ 1 + stringsLength (p .names)) where
   is : IsPack s p
   is = is-pack s p e
 
   place-is : is .guesses ≡ g
-  place-is = names-end s (is .guesses) (is .front) ∙ ap (λ (ns : List (List ℕ)). 1 + textBytes ns) (is .names) ∙ sym q
+  place-is = names-end s (is .guesses) (is .front) ∙ ap (λ (ns : List (List ℕ)). 1 + stringsLength ns) (is .names) ∙ sym q
 
   -- at most 32 languages
   pub languages-few : length (p .names) ≤ 32
@@ -510,7 +511,7 @@ module _ (s : List ℕ) (p : Pack) (g : ℕ) (e : packOf s ≡ accepted p) (q : 
   pub names-strings : stringsOf (take (g - 1) (drop 1 s)) ≡ p .names
   names-strings =
       let w = is .front in
-      let size : g - 1 ≡ length (written (w .value)) = omega (arith, q, written-length (w .value), ap textBytes (is .names)) in
+      let size : g - 1 ≡ length (written (w .value)) = omega (arith, q, written-length (w .value), ap stringsLength (is .names)) in
       let bytes : take (g - 1) (drop 1 s) ≡ written (w .value) =
       ap₂ take size (names-written s (w .value) _ (w .reads)) ∙ take-append-seam (written (w .value)) (drop (is .guesses) s) in
       ap stringsOf bytes ∙ strings-all (written (w .value)) ∙ written-strings _ (w .value) (omega arith) ∙ is .names
@@ -568,7 +569,7 @@ pub record SurveyedPack (s : List ℕ) (n g : ℕ) : Type 0 where
   pub pack : Pack
   pub is : packOf s ≡ accepted pack
   pub languages : n ≡ length (pack .names)
-  pub guesses : g ≡ 1 + textBytes (pack .names)
+  pub guesses : g ≡ 1 + stringsLength (pack .names)
 
 surveyed-by : (s : List ℕ) (n g : ℕ) (v : Verdict) → packOf s ≡ v → surveyedOf v ≡ surveyed.Accepted n g → SurveyedPack s n g
 unfolding surveyedOf

@@ -10,16 +10,17 @@ use lib.Dec.{leb, ltb}
 use lib.ListN.{length, getD, take, drop, drop-of-length-le, length-drop, length-take, List·getD-eq-default}
 use lib.Seq.{drop-cons, drop-drop}
 use borrow.Author.Tests.{lt-leb, le-leb, ltb-true, ltb-false, leb-true, leb-false}
-use Rattle.base.specs.Pick.{pick, pick-true, pick-false}
-use Rattle.languages.specs.Names.{stringAt}
+use Rattle.base.specs.Pick.{pick}
 use Rattle.languages.specs.declared.names.Next.{Next}
 use Rattle.languages.specs.declared.names.Next.the-variants as next
 use Rattle.languages.proofs.Laws.{StringIs, string-whole, string-cut}
-use Rattle.pack.specs.Reading.{Read, cut, got, andThen, readByte, readMore, readNumber, readText, readMany}
+use Rattle.pack.specs.Reading.{Read, cut, got, andRead, readByte, readMore, readNumber, readText, readMany}
 use Rattle.pack.specs.Packs.{guess, rule, readNames, readGuess, readGuesses, readRule, readList, placeIn}
-use Rattle.pack.specs.Walks.{ByteIs, numberIn, numberAt}
+use Rattle.pack.specs.Contracts.{ByteIs, numberIn, numberAt}
 use Rattle.pack.specs.declared.reading.Number.{Number}
 use Rattle.pack.specs.declared.reading.Number.the-variants as number
+use Rattle.base.proofs.PickLaws.{pick-true, pick-false}
+use Rattle.languages.specs.Contracts.{stringAt}
 
 pub clash : {A : Type 0} → _≡_ {A = ℕ} 0 1 → A
 clash e = let no-way : ⊥ = omega arith in absurd no-way
@@ -63,13 +64,13 @@ place-drop s at h = end-place (end-here s at h)
 abbrev pub Ends : {A : Type 0} → (List ℕ → Read A) → Type 0
 Ends {A} f = (l : List ℕ) (a : A) (r : List ℕ) → f l ≡ got a r → EndOf l r
 
-pub then-inv : {A B : Type 0} (x : Read A) (k : A → List ℕ → Read B) (b : B) (q : List ℕ) → andThen x k ≡ got b q
+pub then-inv : {A B : Type 0} (x : Read A) (k : A → List ℕ → Read B) (b : B) (q : List ℕ) → andRead x k ≡ got b q
     → (a : A) × (r : List ℕ) × (x ≡ got a r) × (k a r ≡ got b q)
-unfolding andThen
+unfolding andRead
 then-inv cut k b q e = clash (cc)
 then-inv (got a r) k b q e = (a, r, refl, e)
 
-then-ends : {A B : Type 0} (f : List ℕ → Read A) (k : A → List ℕ → Read B) → Ends f → ((a : A) → Ends (k a)) → Ends (λ l. andThen (f l) k)
+then-ends : {A B : Type 0} (f : List ℕ → Read A) (k : A → List ℕ → Read B) → Ends f → ((a : A) → Ends (k a)) → Ends (λ l. andRead (f l) k)
 then-ends f k v w l b q e = let i = then-inv (f l) k b q e in end-then (v l (i .0) (i .1) (i .2)) (w (i .0) (i .1) b q (i .3))
 
 got-ends : {A : Type 0} (x : A) → Ends (λ q. got x q)
@@ -104,7 +105,7 @@ pub many-ends : {A : Type 0} (f : List ℕ → Read A) → Ends f → (n : ℕ) 
 unfolding readMany
 many-ends f v zero l a r e = record { at = 0; within = zero-le; is = cc }
 many-ends f v (suc n) l a r e =
-    then-ends f (λ x q. andThen (readMany f n q) (λ rest t. got (x ∷ rest) t)) v
+    then-ends f (λ x q. andRead (readMany f n q) (λ rest t. got (x ∷ rest) t)) v
     (λ x. then-ends (readMany f n) (λ rest t. got (x ∷ rest) t) (many-ends f v n) (λ rest. got-ends (x ∷ rest))) l a r e
 
 pub names-ends : Ends readNames
@@ -114,8 +115,8 @@ names-ends = then-ends readByte (λ n r. readMany readText n r) byte-ends (λ n.
 pub guess-ends : Ends readGuess
 unfolding readGuess
 guess-ends =
-    then-ends readByte (λ a r. andThen (readNumber 4 r) (λ m q. andThen (readText q) (λ p t. got (guess a m p) t))) byte-ends
-    (λ a. then-ends (readNumber 4) (λ m q. andThen (readText q) (λ p t. got (guess a m p) t)) (number-ends 4)
+    then-ends readByte (λ a r. andRead (readNumber 4 r) (λ m q. andRead (readText q) (λ p t. got (guess a m p) t))) byte-ends
+    (λ a. then-ends (readNumber 4) (λ m q. andRead (readText q) (λ p t. got (guess a m p) t)) (number-ends 4)
     (λ m. then-ends readText (λ p t. got (guess a m p) t) text-ends (λ p. got-ends (guess a m p))))
 
 pub guesses-ends : Ends readGuesses
@@ -125,9 +126,9 @@ guesses-ends = then-ends (readNumber 2) (λ n r. readMany readGuess n r) (number
 pub rule-ends : Ends readRule
 unfolding readRule
 rule-ends =
-    then-ends readText (λ p a. andThen (readText a) (λ f b. andThen (readText b) (λ r c. andThen (readText c) (λ e d. got (rule p f r e) d)))) text-ends
-    (λ p. then-ends readText (λ f b. andThen (readText b) (λ r c. andThen (readText c) (λ e d. got (rule p f r e) d))) text-ends
-    (λ f. then-ends readText (λ r c. andThen (readText c) (λ e d. got (rule p f r e) d)) text-ends
+    then-ends readText (λ p a. andRead (readText a) (λ f b. andRead (readText b) (λ r c. andRead (readText c) (λ e d. got (rule p f r e) d)))) text-ends
+    (λ p. then-ends readText (λ f b. andRead (readText b) (λ r c. andRead (readText c) (λ e d. got (rule p f r e) d))) text-ends
+    (λ f. then-ends readText (λ r c. andRead (readText c) (λ e d. got (rule p f r e) d)) text-ends
     (λ r. then-ends readText (λ e d. got (rule p f r e) d) text-ends (λ e. got-ends (rule p f r e)))))
 
 pub list-ends : Ends readList
@@ -365,10 +366,10 @@ module _ (s : List ℕ) (p : ℕ) (t q : List ℕ) (h : readText (drop p s) ≡ 
   pub text-rest : q ≡ drop (p + 1 + length t) s
   text-rest = text-rest-by _ refl
 
-then-by : {B : Type 0} (s : List ℕ) (p : ℕ) (k : List ℕ → List ℕ → Read B) (b : B) (q : List ℕ) (x : Read (List ℕ)) → readText (drop p s) ≡ x → andThen x k ≡ got b q → TextThen s p k b q
-unfolding andThen
+then-by : {B : Type 0} (s : List ℕ) (p : ℕ) (k : List ℕ → List ℕ → Read B) (b : B) (q : List ℕ) (x : Read (List ℕ)) → readText (drop p s) ≡ x → andRead x k ≡ got b q → TextThen s p k b q
+unfolding andRead
 then-by s p k b q cut h e = clash (cc)
 then-by s p k b q (got t r) h e = reads-on t (text-read s p t r h) (ap (k t) (sym (text-rest s p t r h)) ∙ e)
 
-pub text-then : {B : Type 0} (s : List ℕ) (p : ℕ) (k : List ℕ → List ℕ → Read B) (b : B) (q : List ℕ) → andThen (readText (drop p s)) k ≡ got b q → TextThen s p k b q
+pub text-then : {B : Type 0} (s : List ℕ) (p : ℕ) (k : List ℕ → List ℕ → Read B) (b : B) (q : List ℕ) → andRead (readText (drop p s)) k ≡ got b q → TextThen s p k b q
 text-then s p k b q e = then-by s p k b q _ refl e

@@ -7,26 +7,25 @@ use native.Mathlib.Omega.{arith}
 use lib.Dec.{eqb, leb}
 use lib.ListN.{length, take, drop, length-take, length-drop}
 use borrow.Author.Tests.{le-leb, lt-leb}
-use Rattle.base.specs.Pick.{pick, and, pick-true, pick-false, pick-all, and-yes, and-first, and-second}
+use Rattle.base.specs.Pick.{pick, and}
 use Rattle.regex_optim.specs.Contexts.{Form, opening, withoutCaret, withoutDollar, kindOf}
-use Rattle.regex_optim.specs.Steps.{literalKind}
+use Rattle.regex_optim.specs.Contracts.{literalKind}
 use Rattle.regex_optim.specs.declared.OptimizedRegex.{OptimizedRegex}
 use Rattle.regex_optim.specs.declared.OptimizedRegex.the-variants.{AllStringsMatcher, IsEmpty, Equals, StartsWith, EndsWith}
 use Rattle.regex_optim.proofs.Laws.{kind-by-literal, left-is, right-is}
-use Rattle.rule.specs.Matching.{ruleText, bare, firstCode}
+use Rattle.rule.specs.Matching.{ruleText, firstCode}
 use Rattle.phonemes.specs.Expressions.{round, unround, checkedOf}
 use Rattle.rule.proofs.Bare.{Clear, bare-text, bare-clear, clear-has, clear-tail, clear-front}
 use Rattle.phonemes.proofs.Bare.{clear-good, clear-malformed}
 use Rattle.texts.specs.Parts.{firstIs, lastIs, has}
 use Rattle.phonemes.specs.declared.answers.Expression.{Expression}
 use Rattle.phonemes.specs.declared.answers.Expression.the-variants.{Good, Malformed, Stranger}
-use Rattle.languages.specs.Names.{stringAt}
 use Rattle.languages.specs.declared.names.Next.{Next}
 use Rattle.languages.specs.declared.names.Next.the-variants as next
-use Rattle.pack.specs.Reading.{Read, cut, got, andThen, readText, readMany}
-use Rattle.pack.specs.Packs.{Rule, rule, readRule, readList, all, isForm, isGood, ruleGood, ordered, listGood, placeIn}
-use Rattle.pack.specs.Places.{placedFrom, placedRule, ruleAt, countIn, ruleCount}
-use Rattle.pack.specs.Walks.{numberAt, judge, endIn, run, patternGood, leftGood, rightGood, expressionGood, ruleFits, rulesFrom, ruledAs, ruledIn}
+use Rattle.pack.specs.Reading.{Read, cut, got, andRead, readText, readMany}
+use Rattle.pack.specs.Packs.{Rule, rule, readRule, readList, all, isForm, isGood, ruleGood, orderedByCode, listGood, placeIn}
+use Rattle.pack.specs.PlaceContracts.{placedFrom, placedRule, ruleStandsAt, countIn, ruleCount}
+use Rattle.pack.specs.Contracts.{numberAt, judge, endIn, allFrom, patternGood, leftGood, rightGood, expressionGood, ruleFits, rulesFrom, ruledAs, ruledIn}
 use Rattle.pack.specs.declared.reading.Number.{Number}
 use Rattle.pack.specs.declared.reading.Number.the-variants as number
 use Rattle.pack.specs.declared.reading.Section.{Section}
@@ -37,6 +36,9 @@ use Rattle.pack.specs.declared.rules.Ruled.{Ruled}
 use Rattle.pack.specs.declared.rules.Ruled.the-variants as ruled
 use Rattle.pack.proofs.Readers.{clash, end-here, end-then, end-is, end-within, place-drop, many-length, rule-ends, count-of, count-cut, TextIs, text-is, text-cut, TextRead, TextThen, reads-on, text-then}
 use Rattle.pack.proofs.Walks.{Faulty, runs-out, fails, Judged, fine, faulty, judged, judge-faulty, judge-same, walk-on, walk-off, walk-end}
+use Rattle.base.proofs.PickLaws.{pick-true, pick-false, pick-all, and-yes, and-first, and-second}
+use Rattle.languages.specs.Contracts.{stringAt}
+use Rattle.rule.specs.Contracts.{bare}
 
 -- ---- the strings of a rule, one after the other
 
@@ -44,34 +46,34 @@ part-length : (s : List ℕ) (p a e : ℕ) → TextIs s p a e → length (take (
 part-length s p a e w = omega (arith, length-take (e - a) (drop a s), length-drop a s, w .fits, w .size)
 
 module _ (s : List ℕ) (place : ℕ) (x₁ : Next) (g₁ : x₁ ≡ stringAt s place) where
-  pub rule-cut-1 : x₁ ≡ next.Cut → rules.Cut ≡ ruleAt s place
-  unfolding ruleAt placedRule readRule andThen
+  pub rule-cut-1 : x₁ ≡ next.Cut → rules.Cut ≡ ruleStandsAt s place
+  unfolding ruleStandsAt placedRule readRule andRead
   rule-cut-1 q = rw (text-cut s place x₁ g₁ q) refl
 
   module _ (a b : ℕ) (q₁ : x₁ ≡ next.Whole a b) (x₂ : Next) (g₂ : x₂ ≡ stringAt s b) where
-    pub rule-cut-2 : x₂ ≡ next.Cut → rules.Cut ≡ ruleAt s place
-    unfolding ruleAt placedRule readRule andThen
+    pub rule-cut-2 : x₂ ≡ next.Cut → rules.Cut ≡ ruleStandsAt s place
+    unfolding ruleStandsAt placedRule readRule andRead
     rule-cut-2 q = let w = text-is s place x₁ g₁ a b q₁ in rw (w .reads, text-cut s b x₂ g₂ q) refl
 
     module _ (a₂ c : ℕ) (q₂ : x₂ ≡ next.Whole a₂ c) (x₃ : Next) (g₃ : x₃ ≡ stringAt s c) where
-      pub rule-cut-3 : x₃ ≡ next.Cut → rules.Cut ≡ ruleAt s place
-      unfolding ruleAt placedRule readRule andThen
+      pub rule-cut-3 : x₃ ≡ next.Cut → rules.Cut ≡ ruleStandsAt s place
+      unfolding ruleStandsAt placedRule readRule andRead
       rule-cut-3 q =
           let w = text-is s place x₁ g₁ a b q₁ in
           let v = text-is s b x₂ g₂ a₂ c q₂ in
           rw (w .reads, v .reads, text-cut s c x₃ g₃ q) refl
 
       module _ (a₃ d : ℕ) (q₃ : x₃ ≡ next.Whole a₃ d) (x₄ : Next) (g₄ : x₄ ≡ stringAt s d) where
-        pub rule-cut-4 : x₄ ≡ next.Cut → rules.Cut ≡ ruleAt s place
-        unfolding ruleAt placedRule readRule andThen
+        pub rule-cut-4 : x₄ ≡ next.Cut → rules.Cut ≡ ruleStandsAt s place
+        unfolding ruleStandsAt placedRule readRule andRead
         rule-cut-4 q =
             let w = text-is s place x₁ g₁ a b q₁ in
             let v = text-is s b x₂ g₂ a₂ c q₂ in
             let u = text-is s c x₃ g₃ a₃ d q₃ in
             rw (w .reads, v .reads, u .reads, text-cut s d x₄ g₄ q) refl
 
-        pub rule-whole : (a₄ e : ℕ) → x₄ ≡ next.Whole a₄ e → rules.At a b a₂ c a₃ d a₄ e ≡ ruleAt s place
-        unfolding ruleAt placedRule placedFrom readRule andThen
+        pub rule-whole : (a₄ e : ℕ) → x₄ ≡ next.Whole a₄ e → rules.At a b a₂ c a₃ d a₄ e ≡ ruleStandsAt s place
+        unfolding ruleStandsAt placedRule placedFrom readRule andRead
         rule-whole a₄ e q₄ =
             let w = text-is s place x₁ g₁ a b q₁ in
             let v = text-is s b x₂ g₂ a₂ c q₂ in
@@ -114,14 +116,14 @@ module _ (s : List ℕ) (at : ℕ) (x : Rule) (q : List ℕ) where
       subst (λ (y : Rule). RuleRead s at y q) is one
 
   read-3 : (p f : List ℕ) → TextRead s at p → TextRead s (at + 1 + length p) f
-      → TextThen s (at + 1 + length p + 1 + length f) (λ r c. andThen (readText c) (λ e d. got (rule p f r e) d)) x q → RuleRead s at x q
+      → TextThen s (at + 1 + length p + 1 + length f) (λ r c. andRead (readText c) (λ e d. got (rule p f r e) d)) x q → RuleRead s at x q
   read-3 p f w v (reads-on r u g) = read-4 p f r w v u (text-then s _ _ x q g)
 
   read-2 : (p : List ℕ) → TextRead s at p
-      → TextThen s (at + 1 + length p) (λ f b. andThen (readText b) (λ r c. andThen (readText c) (λ e d. got (rule p f r e) d))) x q → RuleRead s at x q
+      → TextThen s (at + 1 + length p) (λ f b. andRead (readText b) (λ r c. andRead (readText c) (λ e d. got (rule p f r e) d))) x q → RuleRead s at x q
   read-2 p w (reads-on f v g) = read-3 p f w v (text-then s _ _ x q g)
 
-  read-1 : TextThen s at (λ p a. andThen (readText a) (λ f b. andThen (readText b) (λ r c. andThen (readText c) (λ e d. got (rule p f r e) d)))) x q → RuleRead s at x q
+  read-1 : TextThen s at (λ p a. andRead (readText a) (λ f b. andRead (readText b) (λ r c. andRead (readText c) (λ e d. got (rule p f r e) d)))) x q → RuleRead s at x q
   read-1 (reads-on p w g) = read-2 p w (text-then s _ _ x q g)
 
   pub rule-read : readRule (drop at s) ≡ got x q → RuleRead s at x q
@@ -191,13 +193,13 @@ unfolding placedRule placedFrom
 cut-by s at cut g h = g
 cut-by s at (got r q) g h = clash (cc)
 
-module _ (s : List ℕ) (at : ℕ) (x : RuleAt) (o : x ≡ ruleAt s at) where
+module _ (s : List ℕ) (at : ℕ) (x : RuleAt) (o : x ≡ ruleStandsAt s at) where
   pub rule-is : (a b c d e f g h : ℕ) → x ≡ rules.At a b c d e f g h → RuleIs s at a b c d e f g h
-  unfolding ruleAt
+  unfolding ruleStandsAt
   rule-is a b c d e f g h q = is-by s at a b c d e f g h _ refl (sym o ∙ q)
 
   pub rule-cut : x ≡ rules.Cut → readRule (drop at s) ≡ cut
-  unfolding ruleAt
+  unfolding ruleStandsAt
   rule-cut q = cut-by s at _ refl (sym o ∙ q)
 
 -- ---- the count of a list
@@ -347,7 +349,7 @@ module _ (names : List ℕ) (least end : ℕ) (p l r e : List ℕ) (code : ℕ) 
 
 pub ruleset behind-laws = (behind-below, behind-bad, behind-good)
 
-module _ (s : List ℕ) (at : ℕ) (x : RuleAt) (o : x ≡ ruleAt s at) where
+module _ (s : List ℕ) (at : ℕ) (x : RuleAt) (o : x ≡ ruleStandsAt s at) where
   pub next-cut : (names : List ℕ) (least : ℕ) → x ≡ rules.Cut → ruled.Bad ≡ ruledIn s names least (readRule (drop at s))
   unfolding ruledIn
   next-cut names least q = sym (judge-faulty _ _ _ _ (runs-out (rule-cut s at x o q)))
@@ -460,8 +462,8 @@ unfoldable firstFits : ℕ → List Rule → Bool
 firstFits least [] = true
 firstFits least (x ∷ xs) = leb least (firstCode (x .pattern))
 
-ordered-is : (x : Rule) (xs : List Rule) → ordered (x ∷ xs) ≡ and (firstFits (firstCode (x .pattern)) xs) (ordered xs)
-unfolding ordered firstFits and
+ordered-is : (x : Rule) (xs : List Rule) → orderedByCode (x ∷ xs) ≡ and (firstFits (firstCode (x .pattern)) xs) (orderedByCode xs)
+unfolding orderedByCode firstFits and
 ordered-is x [] = refl
 ordered-is x (y ∷ xs) = refl
 
@@ -473,19 +475,19 @@ swap false true true o = refl
 swap false true false o = refl
 swap false false a o = refl
 
-rules-nil : (names : List ℕ) (least : ℕ) → rulesFrom names least [] ≡ and (all (ruleGood names) []) (and (firstFits least []) (ordered []))
-unfolding rulesFrom run all firstFits ordered and
+rules-nil : (names : List ℕ) (least : ℕ) → rulesFrom names least [] ≡ and (all (ruleGood names) []) (and (firstFits least []) (orderedByCode []))
+unfolding rulesFrom allFrom all firstFits orderedByCode and
 rules-nil names least = refl
 
 rules-cons : (names : List ℕ) (least : ℕ) (x : Rule) (xs : List Rule)
-    → rulesFrom names (firstCode (x .pattern)) xs ≡ and (all (ruleGood names) xs) (and (firstFits (firstCode (x .pattern)) xs) (ordered xs))
-    → rulesFrom names least (x ∷ xs) ≡ and (all (ruleGood names) (x ∷ xs)) (and (firstFits least (x ∷ xs)) (ordered (x ∷ xs)))
-unfolding rulesFrom run all firstFits ruleFits
+    → rulesFrom names (firstCode (x .pattern)) xs ≡ and (all (ruleGood names) xs) (and (firstFits (firstCode (x .pattern)) xs) (orderedByCode xs))
+    → rulesFrom names least (x ∷ xs) ≡ and (all (ruleGood names) (x ∷ xs)) (and (firstFits least (x ∷ xs)) (orderedByCode (x ∷ xs)))
+unfolding rulesFrom allFrom all firstFits ruleFits
 rules-cons names least x xs ih =
     ap (and (ruleFits names least x)) (ih ∙ ap (and (all (ruleGood names) xs)) (sym (ordered-is x xs)))
-    ∙ swap (leb least (firstCode (x .pattern))) (ruleGood names x) (all (ruleGood names) xs) (ordered (x ∷ xs))
+    ∙ swap (leb least (firstCode (x .pattern))) (ruleGood names x) (all (ruleGood names) xs) (orderedByCode (x ∷ xs))
 
-rules-are : (names : List ℕ) (least : ℕ) (rs : List Rule) → rulesFrom names least rs ≡ and (all (ruleGood names) rs) (and (firstFits least rs) (ordered rs))
+rules-are : (names : List ℕ) (least : ℕ) (rs : List Rule) → rulesFrom names least rs ≡ and (all (ruleGood names) rs) (and (firstFits least rs) (orderedByCode rs))
 rules-are names least [] = rules-nil names least
 rules-are names least (x ∷ xs) = rules-cons names least x xs (rules-are names (firstCode (x .pattern)) xs)
 
@@ -496,7 +498,7 @@ first-fits (x ∷ xs) = le-leb 0 (firstCode (x .pattern)) zero-le
 
 list-is : (names : List ℕ) (rs : List Rule) → length rs ≤ 4096 → listGood names rs ≡ rulesFrom names 0 rs
 unfolding listGood and
-list-is names rs h = rw (le-leb (length rs) 4096 h) (sym (rules-are names 0 rs ∙ ap (λ (t : Bool). and (all (ruleGood names) rs) (and t (ordered rs))) (first-fits rs)))
+list-is names rs h = rw (le-leb (length rs) 4096 h) (sym (rules-are names 0 rs ∙ ap (λ (t : Bool). and (all (ruleGood names) rs) (and t (orderedByCode rs))) (first-fits rs)))
 
 list-not : (names : List ℕ) (rs : List Rule) → 4096 < length rs → listGood names rs ≡ false
 unfolding listGood
@@ -508,12 +510,12 @@ much-by names l n (got rs q) e h = let long : 4096 < length rs = omega (arith, m
 
 module _ (s names : List ℕ) (at : ℕ) (r : Number) (p : r ≡ numberAt 2 s at) where
   pub list-cut : r ≡ number.Cut → Bad ≡ endIn s (listGood names) (readList (drop at s))
-  unfolding endIn readList andThen judge
+  unfolding endIn readList andRead judge
   list-cut q = rw (count-cut s at r p q) refl
 
   module _ (n d : ℕ) (q : r ≡ number.Of n d) where
     list-reads : readList (drop at s) ≡ readMany readRule n (drop d s)
-    unfolding readList andThen
+    unfolding readList andRead
     list-reads = rw (count-of s at r n d p q .reads) refl
 
     pub list-much : 4096 < n → Bad ≡ endIn s (listGood names) (readList (drop at s))

@@ -10,19 +10,19 @@ use lib.Dec.{eqb}
 use lib.ListN.{length, getD, take, drop, set, length-drop, length-set}
 use lib.Seq.{sets, set-out}
 use borrow.Author.Tests.{le-leb, lt-leb, leb-true, eq-eqb, ne-eqb}
-use Rattle.base.specs.Pick.{pick, and, pick-true, pick-false, and-first, and-inv}
+use Rattle.base.specs.Pick.{pick, and}
 use Rattle.letters.specs.Order.{orderOf, sameText}
 use Rattle.letters.specs.declared.order.Order.{Order}
 use Rattle.letters.specs.declared.order.Order.the-variants.{Less, Equal, Greater}
 use Rattle.letters.proofs.OrderLaws.{Left, left-start, order-short}
-use Rattle.languages.specs.Names.{stringAt, languageName}
+use Rattle.languages.specs.Names.{languageName}
 use Rattle.languages.proofs.Laws.{name-some}
 use Rattle.languages.specs.declared.names.Next.{Next}
 use Rattle.languages.specs.declared.names.Next.the-variants as next
-use Rattle.pack.specs.Reading.{Read, cut, got, andThen, readByte, readText, readMany}
-use Rattle.pack.specs.Packs.{Rule, Pack, Verdict, accepted, refused, readNames, readGuesses, readList, all, isLess, increasing, holds, any, namesGood, guessesGood, listGood, section, placeIn, namesIn, listCount, listSections, isNil, endSection, packOf, verdictOf}
-use Rattle.pack.specs.Places.{textBytes, surveyedOf, after, foundIn, placesOf, SurveyIs}
-use Rattle.pack.specs.Walks.{ByteIs, judge, endIn, run, past, follows, metBy, namesFrom, listsEnd, ListsAre, ended, restOf, restPlaces, RestIs}
+use Rattle.pack.specs.Reading.{Read, cut, got, andRead, readByte, readText, readMany}
+use Rattle.pack.specs.Packs.{Rule, Pack, Verdict, accepted, refused, readNames, readGuesses, readList, all, isLess, increasing, holds, any, namesGood, guessesGood, listGood, section, placeIn, namesIn, listCount, listSections, isNil, endSection, packOf, verdictOf, stringsLength}
+use Rattle.pack.specs.PlaceContracts.{surveyedOf, behindRule, foundIn, placesOf, SurveyIs}
+use Rattle.pack.specs.Contracts.{ByteIs, judge, endIn, allFrom, past, follows, metBy, namesFrom, listsEnd, ListsAre, ended, restOf, restPlaces, RestIs}
 use Rattle.pack.specs.declared.reading.Section.{Section}
 use Rattle.pack.specs.declared.reading.Section.the-variants.{End, Bad}
 use Rattle.pack.specs.declared.sections.Lists.{Lists}
@@ -34,6 +34,8 @@ use Rattle.pack.specs.declared.sections.Surveyed.the-variants as surveye
 use Rattle.pack.proofs.NumberLaws.{surveyed-one, surveyed-told}
 use Rattle.pack.proofs.Readers.{clash, EndOf, end-here, end-then, end-length, place-drop, then-inv, many-length, byte-ends, names-ends, guesses-ends, list-ends, byte-some, byte-none, text-is, text-cut, text-read, text-rest}
 use Rattle.pack.proofs.Walks.{Faulty, runs-out, fails, Ending, section-ends, section-faulty, judge-fine, judge-faulty, judge-same, walk-on, walk-off, walk-end}
+use Rattle.base.proofs.PickLaws.{pick-true, pick-false, and-first, and-inv}
+use Rattle.languages.specs.Contracts.{stringAt}
 
 -- ---- the names, one after the other
 
@@ -80,14 +82,14 @@ and-assoc false b c = refl
 
 -- the loop's test of what is left, from the name before it and whether `any` was met
 names-nil : (p : List ℕ) (m : Bool) → namesFrom (past p m) [] ≡ and (all languageName []) (and (shift p []) (and (increasing []) (pick m true (holds any []))))
-unfolding namesFrom run all shift increasing holds and pick
+unfolding namesFrom allFrom all shift increasing holds and pick
 names-nil p true = refl
 names-nil p false = refl
 
 names-cons : (p x : List ℕ) (m : Bool) (xs : List (List ℕ))
     → namesFrom (past x (metBy m x)) xs ≡ and (all languageName xs) (and (shift x xs) (and (increasing xs) (pick (metBy m x) true (holds any xs))))
     → namesFrom (past p m) (x ∷ xs) ≡ and (all languageName (x ∷ xs)) (and (shift p (x ∷ xs)) (and (increasing (x ∷ xs)) (pick m true (holds any (x ∷ xs)))))
-unfolding namesFrom run all shift follows metBy holds
+unfolding namesFrom allFrom all shift follows metBy holds
 names-cons p x m xs ih =
     ap (and (follows p x)) (ih
     ∙ ap (and (all languageName xs)) (sym (and-assoc (shift x xs) (increasing xs) (pick (metBy m x) true (holds any xs)))
@@ -129,12 +131,12 @@ much-by l n cut e h = runs-out refl
 much-by l n (got xs q) e h = let long : 32 < length xs = omega (arith, many-length readText n l xs q e) in fails xs q refl (names-not xs long)
 
 names-reads : (s : List ℕ) → (length s ≡ 0 → ⊥) → readNames s ≡ readMany readText (getD s 0 0) (drop 1 s)
-unfolding readNames readByte andThen
+unfolding readNames readByte andRead
 names-reads [] h = absurd (h refl)
 names-reads (b ∷ s) h = refl
 
 pub names-none : (s : List ℕ) → length s ≡ 0 → Bad ≡ endIn s namesGood (readNames s)
-unfolding endIn judge readNames readByte andThen
+unfolding endIn judge readNames readByte andRead
 names-none [] h = refl
 names-none (b ∷ s) h = let no-way : ⊥ = omega arith in absurd no-way
 
@@ -212,8 +214,8 @@ pub record Found (s names : List ℕ) (start count : ℕ) (table : List ℕ) (at
 pub found-start : (s names : List ℕ) (start count : ℕ) (table : List ℕ) → start ≤ length s → Found s names start count table start count 0 table
 found-start s names start count table h = record { within = h; counted = omega arith; same = refl; is = refl; stored = refl }
 
-after-is : {A : Type 0} (good : A → Bool) (rd : Read A) (k : A → List ℕ → List ℕ) → after good rd k ≡ judge [] good rd k
-unfolding after judge
+after-is : {A : Type 0} (good : A → Bool) (rd : Read A) (k : A → List ℕ → List ℕ) → behindRule good rd k ≡ judge [] good rd k
+unfolding behindRule judge
 after-is good cut k = refl
 after-is good (got a r) k = refl
 
@@ -340,7 +342,7 @@ judge-cong bad good (got a r) k j e = ap (λ (y : _). pick (good a) y bad) (e a 
 
 -- the names are known, and the rest is judged
 unfoldable told : List (List ℕ) → Checked → Surveyed
-told names checked.Accepted = surveyed.Accepted (length names) (1 + textBytes names)
+told names checked.Accepted = surveyed.Accepted (length names) (1 + stringsLength names)
 told names (checked.Refused n) = surveyed.Refused n
 
 told-step : {A : Type 0} (names : List (List ℕ)) (place : ℕ) (good : A → Bool) (x : Read A) (k : A → List ℕ → Verdict) (j : A → List ℕ → Checked)
@@ -357,7 +359,7 @@ nil-is s (x ∷ r) v = sym (ne-eqb (length s - suc (length r)) (length s) (λ e.
 
 end-by : (s : List ℕ) (names : List (List ℕ)) (e : ℕ) (p : Pack) (t : Bool) → p .names ≡ names → surveyedOf (pick t (accepted p) (refused e)) ≡ told names (pick t checked.Accepted (checked.Refused e))
 unfolding surveyedOf told pick
-end-by s names e p true h = ap (λ (n : List (List ℕ)). surveyed.Accepted (length n) (1 + textBytes n)) h
+end-by s names e p true h = ap (λ (n : List (List ℕ)). surveyed.Accepted (length n) (1 + stringsLength n)) h
 end-by s names e p false h = refl
 
 end-told : (s : List ℕ) (names : List (List ℕ)) (r : List ℕ) (p : Pack) → EndOf s r → p .names ≡ names → surveyedOf (endSection s p r) ≡ told names (ended s (lists.Done (placeIn s r)))
@@ -381,32 +383,32 @@ text-bytes l t q e =
     let r : length q ≡ length l - (0 + 1 + length t) = ap length (text-rest l 0 t q e) ∙ length-drop (0 + 1 + length t) l in
     omega (arith, w .fits, r)
 
-many-bytes : (n : ℕ) (l : List ℕ) (xs : List (List ℕ)) (r : List ℕ) → readMany readText n l ≡ got xs r → length l ≡ textBytes xs + length r
-unfolding readMany textBytes
+many-bytes : (n : ℕ) (l : List ℕ) (xs : List (List ℕ)) (r : List ℕ) → readMany readText n l ≡ got xs r → length l ≡ stringsLength xs + length r
+unfolding readMany stringsLength
 many-bytes zero l xs r e =
     let none : xs ≡ [] = cc in
     let rest : l ≡ r = cc in
-    omega (arith, ap textBytes none, ap length rest)
+    omega (arith, ap stringsLength none, ap length rest)
 many-bytes (suc n) l xs r e =
     let i = then-inv (readText l) _ xs r e in
     let j = then-inv (readMany readText n (i .1)) _ xs r (i .3) in
     let whole : i .0 ∷ j .0 ≡ xs = cc in
     let rest : j .1 ≡ r = cc in
-    omega (arith, text-bytes l (i .0) (i .1) (i .2), many-bytes n (i .1) (j .0) (j .1) (j .2), ap textBytes whole, ap length rest)
+    omega (arith, text-bytes l (i .0) (i .1) (i .2), many-bytes n (i .1) (j .0) (j .1) (j .2), ap stringsLength whole, ap length rest)
 
 pub names-count : (s : List ℕ) (xs : List (List ℕ)) (r : List ℕ) → readNames s ≡ got xs r → length xs ≡ getD s 0 0
-unfolding readNames readByte andThen
+unfolding readNames readByte andRead
 names-count [] xs r e = clash (cc)
 names-count (b ∷ s) xs r e = many-length readText b s xs r e
 
-pub names-bytes : (s : List ℕ) (xs : List (List ℕ)) (r : List ℕ) → readNames s ≡ got xs r → length s ≡ 1 + textBytes xs + length r
-unfolding readNames readByte andThen
+pub names-bytes : (s : List ℕ) (xs : List (List ℕ)) (r : List ℕ) → readNames s ≡ got xs r → length s ≡ 1 + stringsLength xs + length r
+unfolding readNames readByte andRead
 names-bytes [] xs r e = clash (cc)
 names-bytes (b ∷ s) xs r e = omega (arith, many-bytes b s xs r e)
 
 -- the names' section of s ends at g
 module _ (s : List ℕ) (g : ℕ) (w : Ending s namesGood (readNames s) g) where
-  pub names-end : g ≡ 1 + textBytes (w .value)
+  pub names-end : g ≡ 1 + stringsLength (w .value)
   names-end = omega (arith, names-bytes s (w .value) _ (w .reads), length-drop g s, w .fits)
 
   pub names-in : namesIn s (drop g s) ≡ take (g - 1) (drop 1 s)

@@ -6,13 +6,14 @@ use Prim.Native.Nat.{ℕ, zero, suc, _-_, _≤_, _<_}
 use native.Mathlib.Nat.{not-suc-le-zero}
 use native.Mathlib.Omega.{arith}
 use lib.ListN.{length, drop}
-use Rattle.base.specs.Pick.{pick, and, pick-true, pick-false}
-use Rattle.pack.specs.Reading.{Read, cut, got, andThen, readMany}
+use Rattle.base.specs.Pick.{pick, and}
+use Rattle.pack.specs.Reading.{Read, cut, got, andRead, readMany}
 use Rattle.pack.specs.Packs.{placeIn}
-use Rattle.pack.specs.Walks.{judge, endIn, run}
+use Rattle.pack.specs.Contracts.{judge, endIn, allFrom}
 use Rattle.pack.specs.declared.reading.Section.{Section}
 use Rattle.pack.specs.declared.reading.Section.the-variants.{End, Bad}
 use Rattle.pack.proofs.Readers.{clash, EndOf, Ends, end-then, end-is, end-within, place-drop}
+use Rattle.base.proofs.PickLaws.{pick-true, pick-false}
 
 -- ---- what a judgement tells
 
@@ -104,33 +105,33 @@ suc-of n h = omega arith
 
 module _ {A S : Type 0} (s : List ℕ) (f : List ℕ → Read A) (ok : S → A → Bool) (next : S → A → S) (last : S → Bool) where
   over : (st : S) (a : A) (x : Read (List A))
-      → endIn s (run ok next last st) (andThen x (λ rest q. got (a ∷ rest) q)) ≡ pick (ok st a) (endIn s (run ok next last (next st a)) x) Bad
-  unfolding endIn judge andThen run
+      → endIn s (allFrom ok next last st) (andRead x (λ rest q. got (a ∷ rest) q)) ≡ pick (ok st a) (endIn s (allFrom ok next last (next st a)) x) Bad
+  unfolding endIn judge andRead allFrom
   over st a cut = sym (pick-same (ok st a) Bad)
-  over st a (got rest q) = pick-both (ok st a) (run ok next last (next st a) rest) (End (placeIn s q)) Bad
+  over st a (got rest q) = pick-both (ok st a) (allFrom ok next last (next st a) rest) (End (placeIn s q)) Bad
 
   one : (st : S) (n : ℕ) (l : List ℕ) (a : A) (r : List ℕ) → f l ≡ got a r
-      → endIn s (run ok next last st) (readMany f (suc n) l) ≡ pick (ok st a) (endIn s (run ok next last (next st a)) (readMany f n r)) Bad
-  unfolding readMany andThen
-  one st n l a r e = ap (λ (x : Read A). endIn s (run ok next last st) (andThen x (λ y q. andThen (readMany f n q) (λ rest t. got (y ∷ rest) t)))) e ∙ over st a (readMany f n r)
+      → endIn s (allFrom ok next last st) (readMany f (suc n) l) ≡ pick (ok st a) (endIn s (allFrom ok next last (next st a)) (readMany f n r)) Bad
+  unfolding readMany andRead
+  one st n l a r e = ap (λ (x : Read A). endIn s (allFrom ok next last st) (andRead x (λ y q. andRead (readMany f n q) (λ rest t. got (y ∷ rest) t)))) e ∙ over st a (readMany f n r)
 
-  none : (st : S) (n : ℕ) (l : List ℕ) → f l ≡ cut → endIn s (run ok next last st) (readMany f (suc n) l) ≡ Bad
-  unfolding readMany andThen endIn judge
-  none st n l e = ap (λ (x : Read A). endIn s (run ok next last st) (andThen x (λ y q. andThen (readMany f n q) (λ rest t. got (y ∷ rest) t)))) e
+  none : (st : S) (n : ℕ) (l : List ℕ) → f l ≡ cut → endIn s (allFrom ok next last st) (readMany f (suc n) l) ≡ Bad
+  unfolding readMany andRead endIn judge
+  none st n l e = ap (λ (x : Read A). endIn s (allFrom ok next last st) (andRead x (λ y q. andRead (readMany f n q) (λ rest t. got (y ∷ rest) t)))) e
 
   pub walk-on : (st : S) (n : ℕ) (l : List ℕ) (a : A) (r : List ℕ) → 0 < n → f l ≡ got a r → ok st a ≡ true
-      → endIn s (run ok next last st) (readMany f n l) ≡ endIn s (run ok next last (next st a)) (readMany f (n - 1) r)
+      → endIn s (allFrom ok next last st) (readMany f n l) ≡ endIn s (allFrom ok next last (next st a)) (readMany f (n - 1) r)
   walk-on st n l a r h e g =
-      ap (λ (m : ℕ). endIn s (run ok next last st) (readMany f m l)) (suc-of n h) ∙ one st (n - 1) l a r e ∙ pick-true _ _ _ g
+      ap (λ (m : ℕ). endIn s (allFrom ok next last st) (readMany f m l)) (suc-of n h) ∙ one st (n - 1) l a r e ∙ pick-true _ _ _ g
 
-  off : (st : S) (n : ℕ) (l : List ℕ) → Faulty (ok st) (f l) → endIn s (run ok next last st) (readMany f (suc n) l) ≡ Bad
+  off : (st : S) (n : ℕ) (l : List ℕ) → Faulty (ok st) (f l) → endIn s (allFrom ok next last st) (readMany f (suc n) l) ≡ Bad
   off st n l (runs-out e) = none st n l e
   off st n l (fails a r e g) = one st n l a r e ∙ pick-false _ _ _ g
 
-  pub walk-off : (st : S) (n : ℕ) (l : List ℕ) → 0 < n → Faulty (ok st) (f l) → endIn s (run ok next last st) (readMany f n l) ≡ Bad
-  walk-off st n l h x = ap (λ (m : ℕ). endIn s (run ok next last st) (readMany f m l)) (suc-of n h) ∙ off st (n - 1) l x
+  pub walk-off : (st : S) (n : ℕ) (l : List ℕ) → 0 < n → Faulty (ok st) (f l) → endIn s (allFrom ok next last st) (readMany f n l) ≡ Bad
+  walk-off st n l h x = ap (λ (m : ℕ). endIn s (allFrom ok next last st) (readMany f m l)) (suc-of n h) ∙ off st (n - 1) l x
 
-  pub walk-end : (st : S) (n at : ℕ) → n ≤ 0 → at ≤ length s → endIn s (run ok next last st) (readMany f n (drop at s)) ≡ pick (last st) (End at) Bad
-  unfolding readMany endIn judge run
+  pub walk-end : (st : S) (n at : ℕ) → n ≤ 0 → at ≤ length s → endIn s (allFrom ok next last st) (readMany f n (drop at s)) ≡ pick (last st) (End at) Bad
+  unfolding readMany endIn judge allFrom
   walk-end st zero at h w = ap (λ (e : ℕ). pick (last st) (End e) Bad) (place-drop s at w)
   walk-end st (suc n) at h w = absurd (not-suc-le-zero h)

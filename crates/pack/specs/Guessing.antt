@@ -1,16 +1,14 @@
 -- Guessing the languages of a name (01, Spelling a name, step 1).
-use Prim.Native.Nat.{ℕ, zero, suc, _-_, _^_, min}
+use Prim.Native.Nat.{ℕ, _-_, _^_}
 use mathlib.Core.List.{List, [], _∷_}
 use lib.Bits.{bitAnd}
 use lib.Dec.{eqb}
-use lib.ListN.{drop}
 use Rattle.base.specs.Pick.{pick}
 use Rattle.languages.specs.Sets.{without}
 use Rattle.languages.specs.declared.sets.LanguageSet.{LanguageSet}
 use Rattle.languages.specs.declared.sets.LanguageSet.the-variants.{Any, SomeLanguages}
 use Rattle.lang.specs.Patterns.{matchesOf}
-use Rattle.pack.specs.Reading.{Read, cut, got, readNumber}
-use Rattle.pack.specs.Packs.{Guess, readGuess}
+use Rattle.pack.specs.Packs.{Guess}
 
 -- "intersect or subtract" by a rule's accept byte, where its pattern matches
 unfoldable pub narrowedBy : List ℕ → Guess → ℕ → ℕ
@@ -31,20 +29,3 @@ allListed n = 2 ^ n - 1
 
 unfoldable pub guessed : ℕ → List Guess → List ℕ → LanguageSet
 guessed n gs name = leftOver (narrowedByAll name gs (allListed n))
-
--- ---- on any bytes: at most 32 languages, and the rules up to where bytes run out
-
--- what follows from a value that is read; nothing where bytes run out
-unfoldable pub behind : {A B : Type 0} → Read A → (A → List ℕ → List B) → List B
-behind cut k = []
-behind (got a r) k = k a r
-
-unfoldable pub readSome : {A : Type 0} → (List ℕ → Read A) → ℕ → List ℕ → List A
-readSome f zero l = []
-readSome f (suc n) l = behind (f l) (λ a r. a ∷ readSome f n r)
-
-unfoldable pub guessesAt : List ℕ → ℕ → List Guess
-guessesAt s place = behind (readNumber 2 (drop place s)) (λ n r. readSome readGuess n r)
-
-unfoldable pub guessedAt : List ℕ → ℕ → ℕ → List ℕ → LanguageSet
-guessedAt s place n name = guessed (min 32 n) (guessesAt s place) name

@@ -1,6 +1,6 @@
 pub mod Reading
 pub mod Packs
-pub mod Places
+pub mod PlaceContracts
 pub mod Guessing
-pub mod Walks
+pub mod Contracts
 pub mod Numbers

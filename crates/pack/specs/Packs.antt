@@ -17,7 +17,7 @@ use Rattle.phonemes.specs.Expressions.{checkedOf}
 use Rattle.phonemes.specs.declared.answers.Expression.{Expression}
 use Rattle.phonemes.specs.declared.answers.Expression.the-variants.{Good, Malformed, Stranger}
 use Rattle.lang.specs.Patterns.{inForms}
-use Rattle.pack.specs.Reading.{Read, cut, got, andThen, readByte, readNumber, readText, readMany}
+use Rattle.pack.specs.Reading.{Read, cut, got, andRead, readByte, readNumber, readText, readMany}
 use Rattle.pack.specs.declared.sections.Checked.{Checked}
 use Rattle.pack.specs.declared.sections.Checked.the-variants as checked
 
@@ -49,23 +49,23 @@ rule p l r e = record { pattern = p; left = l; right = r; expression = e }
 
 -- "language count (1 byte), names (length byte, bytes)"
 unfoldable pub readNames : List ℕ → Read (List (List ℕ))
-readNames l = andThen (readByte l) (λ n r. readMany readText n r)
+readNames l = andRead (readByte l) (λ n r. readMany readText n r)
 
 -- "each accept byte .., mask (4 bytes ..), pattern"
 unfoldable pub readGuess : List ℕ → Read Guess
-readGuess l = andThen (readByte l) (λ a r. andThen (readNumber 4 r) (λ m q. andThen (readText q) (λ p t. got (guess a m p) t)))
+readGuess l = andRead (readByte l) (λ a r. andRead (readNumber 4 r) (λ m q. andRead (readText q) (λ p t. got (guess a m p) t)))
 
 -- "guessing count (2 bytes)"
 unfoldable pub readGuesses : List ℕ → Read (List Guess)
-readGuesses l = andThen (readNumber 2 l) (λ n r. readMany readGuess n r)
+readGuesses l = andRead (readNumber 2 l) (λ n r. readMany readGuess n r)
 
 -- "A list is a rule count (2 bytes) and rules of four strings"
 unfoldable pub readRule : List ℕ → Read Rule
 readRule l =
-    andThen (readText l) (λ p a. andThen (readText a) (λ f b. andThen (readText b) (λ r c. andThen (readText c) (λ e d. got (rule p f r e) d))))
+    andRead (readText l) (λ p a. andRead (readText a) (λ f b. andRead (readText b) (λ r c. andRead (readText c) (λ e d. got (rule p f r e) d))))
 
 unfoldable pub readList : List ℕ → Read (List Rule)
-readList l = andThen (readNumber 2 l) (λ n r. readMany readRule n r)
+readList l = andRead (readNumber 2 l) (λ n r. readMany readRule n r)
 
 -- ---- the rules of each section
 
@@ -129,14 +129,14 @@ ruleGood names r =
     (and (isForm (kindOf (leftForm (r .left)))) (and (isForm (kindOf (rightForm (r .right)))) (isGood (checkedOf names (r .expression))))))
 
 -- "by first character and then file order"
-unfoldable pub ordered : List Rule → Bool
-ordered [] = true
-ordered (x ∷ []) = true
-ordered (x ∷ y ∷ l) = and (leb (firstCode (x .pattern)) (firstCode (y .pattern))) (ordered (y ∷ l))
+unfoldable pub orderedByCode : List Rule → Bool
+orderedByCode [] = true
+orderedByCode (x ∷ []) = true
+orderedByCode (x ∷ y ∷ l) = and (leb (firstCode (x .pattern)) (firstCode (y .pattern))) (orderedByCode (y ∷ l))
 
 -- at most 4,096 rules
 unfoldable pub listGood : List ℕ → List Rule → Bool
-listGood names rs = and (leb (length rs) 4096) (and (all (ruleGood names) rs) (ordered rs))
+listGood names rs = and (leb (length rs) 4096) (and (all (ruleGood names) rs) (orderedByCode rs))
 
 -- ---- the sections one after the other
 
@@ -186,3 +186,8 @@ packOf s =
 unfoldable pub verdictOf : Verdict → Checked
 verdictOf (accepted p) = checked.Accepted
 verdictOf (refused n) = checked.Refused n
+
+-- the bytes of strings, each behind its length byte
+unfoldable pub stringsLength : List (List ℕ) → ℕ
+stringsLength [] = 0
+stringsLength (t ∷ ts) = 1 + length t + stringsLength ts

@@ -3,12 +3,13 @@ ghost use mathlib.Core.Path.{_≡_};
 ghost use Prim.Native.Nat.{_≤_, min};
 ghost use lib.ListN.{length, drop};
 ghost use Rattle.lang.specs.Patterns.{matchesOf};
-ghost use Rattle.lang.specs.Shortcuts.{signatureOf};
+ghost use Rattle.lang.specs.Contracts.{signatureOf};
 ghost use Rattle.languages.specs.Numbers.{setNumbers};
 ghost use Rattle.pack.specs.Reading.{readMany};
 ghost use Rattle.pack.specs.Packs.{guess, readGuess, readGuesses, guessGood, guessesGood};
-ghost use Rattle.pack.specs.Guessing.{allListed, narrowedBy, narrowedByAll, leftOver, readSome, guessedAt};
-ghost use Rattle.pack.specs.Walks.{endIn, guessAt, guessesFrom};
+ghost use Rattle.pack.specs.Guessing.{allListed, narrowedBy, narrowedByAll, leftOver};
+ghost use Rattle.pack.specs.Contracts.{endIn, guessStandsAt, guessesFrom, guessedAt};
+ghost use Rattle.pack.specs.PlaceContracts.{readSome};
 use crate::reading::Number;
 use crate::reading::Section;
 use languages::LanguageSet;
@@ -27,7 +28,7 @@ pub(crate) enum GuessAt {
 
 // The guessing rule at a place.
 fn guess_at(pack: &[u8], at: usize) -> GuessAt
-    ensures { λ r. ⌜ r ≡ guessAt (now (pack .entry)) at ⌝ }
+    ensures { λ r. ⌜ r ≡ guessStandsAt (now (pack .entry)) at ⌝ }
 {
     if pack.len() <= at {
         return GuessAt::Cut;

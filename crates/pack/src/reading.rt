@@ -1,6 +1,6 @@
 // Numbers of a pack, and the answer of a section.
 ghost use mathlib.Core.Path.{_≡_};
-ghost use Rattle.pack.specs.Walks.{ByteIs, numberAt};
+ghost use Rattle.pack.specs.Contracts.{ByteIs, numberAt};
 
 // A number of a pack and the place behind it, or that bytes run out.
 pub enum Number {

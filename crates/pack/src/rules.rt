@@ -5,8 +5,8 @@ ghost use lib.ListN.{length, drop};
 ghost use Rattle.phonemes.specs.Expressions.{checkedOf};
 ghost use Rattle.pack.specs.Reading.{readMany};
 ghost use Rattle.pack.specs.Packs.{rule, readRule, readList, isForm, isGood, ruleGood, listGood};
-ghost use Rattle.pack.specs.Places.{ruleAt, ruleCount};
-ghost use Rattle.pack.specs.Walks.{endIn, patternGood, leftGood, rightGood, expressionGood, ruledAs, ruledIn, rulesFrom};
+ghost use Rattle.pack.specs.PlaceContracts.{ruleStandsAt, ruleCount};
+ghost use Rattle.pack.specs.Contracts.{endIn, patternGood, leftGood, rightGood, expressionGood, ruledAs, ruledIn, rulesFrom};
 use crate::reading::Number;
 use crate::reading::Section;
 use languages::Next;
@@ -36,7 +36,7 @@ pub(crate) enum Ruled {
 
 // The rule at a place of `pack`.
 pub fn rule_at(pack: &[u8], place: usize) -> RuleAt
-    ensures { λ r. ⌜ r ≡ ruleAt (now (pack .entry)) place ⌝ }
+    ensures { λ r. ⌜ r ≡ ruleStandsAt (now (pack .entry)) place ⌝ }
 {
     match languages::string_at(pack, place) {
         Next::Whole {

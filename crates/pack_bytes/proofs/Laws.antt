@@ -10,23 +10,25 @@ use lib.Dec.{eqb}
 use lib.ListN.{length, getD, length-append}
 use lib.Seq.{take-append-seam, drop-append-seam, take-at}
 use borrow.Author.Tests.{le-leb, leb-true, ltb-true, eq-eqb}
-use Rattle.base.specs.Pick.{pick, pick-true, and-inv}
+use Rattle.base.specs.Pick.{pick}
 use Rattle.languages.specs.Names.{isLetter, allLetters, languageName}
-use Rattle.pack.specs.Reading.{Read, got, andThen, readByte, readMore, readNumber, readText, readMany}
+use Rattle.pack.specs.Reading.{Read, got, andRead, readByte, readMore, readNumber, readText, readMany}
 use Rattle.pack.specs.Packs.{Guess, Rule, Pack, Verdict, accepted, readNames, readGuess, readGuesses, readRule, readList, all, namesGood, guessGood, guessesGood, listGood, section, namesIn, listCount, listSections, isNil, endSection, packOf}
-use Rattle.held.specs.Tables.{bytesOf}
-use Rattle.pack_bytes.specs.Bytes.{textBytes, countBytes, maskBytes, namesBytes, guessBytes, ruleBytes, listBytes, packBytes, Each, none, more, GoodPack, Short, ShortRule, ShortPack}
+use Rattle.pack_bytes.specs.Bytes.{textBytes, countBytes, maskBytes, namesBytes, guessBytes, ruleBytes, listBytes, packBytes}
+use Rattle.base.proofs.PickLaws.{pick-true, and-inv}
+use Rattle.held.specs.Met.{bytesOfAll}
+use Rattle.pack_bytes.specs.Contracts.{Each, none, more, GoodPack, Short, ShortRule, ShortPack}
 
 -- ---- for a writer: the bytes of some and then others
 
-pub bytes-append : {A : Type 0} (f : A → List ℕ) (xs ys : List A) → bytesOf f (xs ++ ys) ≡ bytesOf f xs ++ bytesOf f ys
-unfolding bytesOf
+pub bytes-append : {A : Type 0} (f : A → List ℕ) (xs ys : List A) → bytesOfAll f (xs ++ ys) ≡ bytesOfAll f xs ++ bytesOfAll f ys
+unfolding bytesOfAll
 bytes-append f [] ys = refl
-bytes-append f (x ∷ xs) ys = ap (λ (l : List ℕ). f x ++ l) (bytes-append f xs ys) ∙ sym (append-assoc (f x) (bytesOf f xs) (bytesOf f ys))
+bytes-append f (x ∷ xs) ys = ap (λ (l : List ℕ). f x ++ l) (bytes-append f xs ys) ∙ sym (append-assoc (f x) (bytesOfAll f xs) (bytesOfAll f ys))
 
-pub bytes-snoc : {A : Type 0} (f : A → List ℕ) (xs : List A) (x : A) → bytesOf f (xs ++ (x ∷ [])) ≡ bytesOf f xs ++ f x
-unfolding bytesOf
-bytes-snoc f xs x = bytes-append f xs (x ∷ []) ∙ ap (λ (l : List ℕ). bytesOf f xs ++ l) (append-nil (f x))
+pub bytes-snoc : {A : Type 0} (f : A → List ℕ) (xs : List A) (x : A) → bytesOfAll f (xs ++ (x ∷ [])) ≡ bytesOfAll f xs ++ f x
+unfolding bytesOfAll
+bytes-snoc f xs x = bytes-append f xs (x ∷ []) ∙ ap (λ (l : List ℕ). bytesOfAll f xs ++ l) (append-nil (f x))
 
 -- ---- what is written is read back, whatever follows
 
@@ -47,34 +49,34 @@ pub mask-back : (n : ℕ) → Back (readNumber 4) maskBytes n
 unfolding readNumber readMore countBytes maskBytes
 mask-back n r = ap (λ (m : ℕ). got m r) (omega arith)
 
-pub many-back : {A : Type 0} (f : List ℕ → Read A) (g : A → List ℕ) (xs : List A) → Each (Back f g) xs → (r : List ℕ) → readMany f (length xs) (bytesOf g xs ++ r) ≡ got xs r
-unfolding readMany bytesOf andThen
+pub many-back : {A : Type 0} (f : List ℕ → Read A) (g : A → List ℕ) (xs : List A) → Each (Back f g) xs → (r : List ℕ) → readMany f (length xs) (bytesOfAll g xs ++ r) ≡ got xs r
+unfolding readMany bytesOfAll andRead
 many-back f g [] none r = refl
-many-back f g (x ∷ xs) (more e es) r = rw (append-assoc (g x) (bytesOf g xs) r, e (bytesOf g xs ++ r), many-back f g xs es r) refl
+many-back f g (x ∷ xs) (more e es) r = rw (append-assoc (g x) (bytesOfAll g xs) r, e (bytesOfAll g xs ++ r), many-back f g xs es r) refl
 
 each-of : {A : Type 0} {P : A → Type 0} → ((x : A) → P x) → (xs : List A) → Each P xs
 each-of f [] = none
 each-of f (x ∷ xs) = more (f x) (each-of f xs)
 
 pub guess-back : (g : Guess) → Back readGuess guessBytes g
-unfolding readGuess guessBytes readByte andThen
+unfolding readGuess guessBytes readByte andRead
 guess-back g r = rw (append-assoc (maskBytes (g .mask)) (textBytes (g .pattern)) r, mask-back (g .mask) (textBytes (g .pattern) ++ r), text-back (g .pattern) r) refl
 
 pub rule-back : (r : Rule) → Back readRule ruleBytes r
-unfolding readRule ruleBytes andThen
+unfolding readRule ruleBytes andRead
 rule-back r q = simp (append-assoc, text-back)
 
 names-back : (ns : List (List ℕ)) (r : List ℕ) → readNames ((length ns ∷ namesBytes ns) ++ r) ≡ got ns r
-unfolding readNames readByte andThen namesBytes
+unfolding readNames readByte andRead namesBytes
 names-back ns = many-back readText textBytes ns (each-of text-back ns)
 
 -- a count and as many as it says
 counted-back : {A : Type 0} (f : List ℕ → Read A) (g : A → List ℕ) → ((x : A) → Back f g x) → (xs : List A) (r : List ℕ)
-    → andThen (readNumber 2 ((countBytes (length xs) ++ bytesOf g xs) ++ r)) (λ n q. readMany f n q) ≡ got xs r
-unfolding andThen
-counted-back f g b xs r = rw (append-assoc (countBytes (length xs)) (bytesOf g xs) r, count-back (length xs) (bytesOf g xs ++ r)) (many-back f g xs (each-of b xs) r)
+    → andRead (readNumber 2 ((countBytes (length xs) ++ bytesOfAll g xs) ++ r)) (λ n q. readMany f n q) ≡ got xs r
+unfolding andRead
+counted-back f g b xs r = rw (append-assoc (countBytes (length xs)) (bytesOfAll g xs) r, count-back (length xs) (bytesOfAll g xs ++ r)) (many-back f g xs (each-of b xs) r)
 
-guesses-back : (gs : List Guess) (r : List ℕ) → readGuesses ((countBytes (length gs) ++ bytesOf guessBytes gs) ++ r) ≡ got gs r
+guesses-back : (gs : List Guess) (r : List ℕ) → readGuesses ((countBytes (length gs) ++ bytesOfAll guessBytes gs) ++ r) ≡ got gs r
 unfolding readGuesses
 guesses-back = counted-back readGuess guessBytes guess-back
 
@@ -90,11 +92,11 @@ unfolding section
 section-good place good rd k a r e h = rw e (pick-true _ _ _ h)
 
 lists-back : (s names : List ℕ) (ls : List (List Rule)) → Each (λ rs. listGood names rs ≡ true) ls → (r : List ℕ) (k : List (List Rule) → List ℕ → Verdict)
-    → listSections s names (length ls) (bytesOf listBytes ls ++ r) k ≡ k ls r
-unfolding listSections bytesOf
+    → listSections s names (length ls) (bytesOfAll listBytes ls ++ r) k ≡ k ls r
+unfolding listSections bytesOfAll
 lists-back s names [] none r k = refl
 lists-back s names (rs ∷ ls) (more h hs) r k =
-    section-good _ (listGood names) _ _ rs (bytesOf listBytes ls ++ r) (ap readList (append-assoc (listBytes rs) (bytesOf listBytes ls) r) ∙ list-back rs (bytesOf listBytes ls ++ r)) h
+    section-good _ (listGood names) _ _ rs (bytesOfAll listBytes ls ++ r) (ap readList (append-assoc (listBytes rs) (bytesOfAll listBytes ls) r) ∙ list-back rs (bytesOfAll listBytes ls ++ r)) h
     ∙ lists-back s names ls hs r (λ lists t. k (rs ∷ lists) t)
 
 -- behind a byte and the names' bytes, what lies between is the names' bytes
@@ -108,9 +110,9 @@ names-in n l r =
 pub packed : (p : Pack) → GoodPack p → packOf (packBytes p) ≡ accepted p
 unfolding packOf packBytes readByte endSection isNil pick
 packed p h =
-    let lists = bytesOf listBytes (p .lists) in
+    let lists = bytesOfAll listBytes (p .lists) in
     let behind = length (p .lists) ∷ lists in
-    let rest = (countBytes (length (p .guesses)) ++ bytesOf guessBytes (p .guesses)) ++ behind in
+    let rest = (countBytes (length (p .guesses)) ++ bytesOfAll guessBytes (p .guesses)) ++ behind in
     section-good 0 namesGood _ _ (p .names) rest (names-back (p .names) rest) (h .names)
     ∙ section-good _ (guessesGood (length (p .names))) _ _ (p .guesses) behind (guesses-back (p .guesses) behind) (h .guesses)
     ∙ section-good _ (λ (n : ℕ). eqb n (listCount (length (p .names)))) _ _ (length (p .lists)) lists refl (eq-eqb _ _ (h .counted))
@@ -141,8 +143,8 @@ unfolding all
 all-each f [] e = none
 all-each f (x ∷ xs) e = let i = and-inv _ _ e in more (i .0) (all-each f xs (i .1))
 
-each-bytes : {A : Type 0} (f : A → List ℕ) {xs : List A} → Each (λ x. Bytes (f x)) xs → Bytes (bytesOf f xs)
-unfolding bytesOf
+each-bytes : {A : Type 0} (f : A → List ℕ) {xs : List A} → Each (λ x. Bytes (f x)) xs → Bytes (bytesOfAll f xs)
+unfolding bytesOfAll
 each-bytes f none = none
 each-bytes f (more x xs) = each-append x (each-bytes f xs)
 

@@ -2,9 +2,10 @@
 use mathlib.Core.List.{List, [], _∷_}
 use Prim.Native.Nat.{ℕ, _/_, _%_}
 use lib.ListN.{length}
-use Rattle.name_parts.specs.Writing.{Put}
+use Rattle.name_parts.specs.Contracts.{Put}
 use Rattle.name_parts.proofs.Laws.{put-then}
-use Rattle.pack_bytes.specs.Bytes.{textPut, countBytes, maskBytes}
+use Rattle.pack_bytes.specs.Bytes.{countBytes, maskBytes}
+use Rattle.pack_bytes.specs.Contracts.{textPut}
 
 module _ (o o₁ o₂ : List ℕ) (at p q : ℕ) where
   pub text-put : (s : List ℕ) → Put o o₁ at p ((length s % 256) ∷ []) → Put o₁ o₂ p q s → Put o o₂ at q (textPut s)

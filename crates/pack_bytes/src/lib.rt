@@ -1,6 +1,7 @@
 // The bytes of a pack, written as far as they fit. `proofs/Laws` shows that reading them gives the pack back.
-ghost use Rattle.name_parts.specs.Writing.{Put};
-ghost use Rattle.pack_bytes.specs.Bytes.{textPut, countBytes, maskBytes};
+ghost use Rattle.name_parts.specs.Contracts.{Put};
+ghost use Rattle.pack_bytes.specs.Bytes.{countBytes, maskBytes};
+ghost use Rattle.pack_bytes.specs.Contracts.{textPut};
 
 // Writes a string behind its length byte, from a place on.
 pub fn put_text(s: &[u8], out: &mut [u8], at: usize) -> usize

@@ -1,5 +1,5 @@
 pub mod Sets
-pub mod Buffers
+pub mod BufferContracts
 pub mod Passes
-pub mod Walks
-pub mod Tables
+pub mod Contracts
+pub mod TableContracts

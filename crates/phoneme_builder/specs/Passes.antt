@@ -13,7 +13,7 @@ use Rattle.rule.specs.Matching.{ruleMatches}
 use Rattle.phonemes.specs.Expressions.{bar, piecesIn, textOf, setOf}
 use Rattle.pack.specs.Packs.{Rule}
 use Rattle.choices.specs.Texts.{Text}
-use Rattle.choices.specs.Apply.{Alternative, Entry, Outcome, refused, held, apply, start}
+use Rattle.choices.specs.Apply.{Alternative, Entry, NextSet, overlong, nextSet, apply, start}
 use Rattle.refusals.specs.declared.Refusal.the-variants.{TextTooLong}
 use Rattle.phoneme_builder.specs.Sets.{appended, Spelling, refusal, texts, united}
 
@@ -42,17 +42,17 @@ pub data Turn : Type 0 where
   letter : Text → Turn
 
 -- the bytes of the character at a place
-unfoldable pub bytesOf : Step → ℕ
-bytesOf (Char k n) = n
-bytesOf Ill = 1
-bytesOf End = 1
+unfoldable pub stepLength : Step → ℕ
+stepLength (Char k n) = n
+stepLength Ill = 1
+stepLength End = 1
 
 -- "At each place the first rule .. that matches is applied and its pattern's length passed; otherwise one character". No pattern of an accepted
 -- pack is empty; over other bytes such a rule passes one byte
 unfoldable pub turnOn : List ℕ → Match → Text → ℕ → (ℕ → List Turn) → List Turn
 turnOn names (by r) word place rest = rule (offered names (r .expression)) ∷ rest (place + max 1 (length (r .pattern)))
 turnOn names none word place rest =
-    letter (take (bytesOf (decodeAt word place)) (drop place word)) ∷ rest (place + bytesOf (decodeAt word place))
+    letter (take (stepLength (decodeAt word place)) (drop place word)) ∷ rest (place + stepLength (decodeAt word place))
 
 -- a turn passes at least one byte, so a fuel of the length is enough
 unfoldable pub turnsFrom : ℕ → List ℕ → Matcher → Text → ℕ → List Turn
@@ -75,23 +75,23 @@ flagged up tooLong = tooLong
 flagged up (ran l flag) = ran l (pick up true flag)
 
 -- step 7, and on
-unfoldable pub applied : ℕ → Outcome → (List Entry → Ran) → Ran
-applied limit refused rest = tooLong
-applied limit (held l) rest = flagged (leb limit (length l)) (rest l)
+unfoldable pub applied : ℕ → NextSet → (List Entry → Ran) → Ran
+applied limit overlong rest = tooLong
+applied limit (nextSet l) rest = flagged (leb limit (length l)) (rest l)
 
-unfoldable pub after : Outcome → (List Entry → Ran) → Ran
-after refused rest = tooLong
-after (held l) rest = rest l
+unfoldable pub afterLetter : NextSet → (List Entry → Ran) → Ran
+afterLetter overlong rest = tooLong
+afterLetter (nextSet l) rest = rest l
 
 -- step 6: "otherwise one character is skipped"; in a final pass, step 8: "an unmatched character being appended"
-unfoldable pub unmatched : Bool → Text → List Entry → Outcome
-unmatched false c l = held l
+unfoldable pub unmatched : Bool → Text → List Entry → NextSet
+unmatched false c l = nextSet l
 unmatched true c l = appended c l
 
 unfoldable pub run : Bool → ℕ → List Turn → List Entry → Ran
 run final limit [] l = ran l false
 run final limit (rule alts ∷ turns) l = applied limit (apply limit alts l) (run final limit turns)
-run final limit (letter c ∷ turns) l = after (unmatched final c l) (run final limit turns)
+run final limit (letter c ∷ turns) l = afterLetter (unmatched final c l) (run final limit turns)
 
 -- ---- uniting the results of a final pass
 

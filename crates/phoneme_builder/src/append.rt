@@ -2,7 +2,7 @@
 ghost use mathlib.Core.Path.{_≡_};
 ghost use Prim.Native.Nat.{_<_};
 ghost use Rattle.phoneme_builder.specs.Sets.{lengthened, appended};
-ghost use Rattle.phoneme_builder.specs.Buffers.{arena, Rooms, SetAt, entryIn, entriesAt, TextIn, AppliedAt, LengthenedAt};
+ghost use Rattle.phoneme_builder.specs.BufferContracts.{arena, Rooms, SetAt, entryIn, entriesAt, TextIn, AppliedAt, LengthenedAt};
 use crate::apply::Applied;
 use crate::set::add_to;
 use crate::set::copy_text;

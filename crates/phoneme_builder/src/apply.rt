@@ -1,10 +1,10 @@
 // Applying a rule (01, Spelling a name, step 7).
 ghost use mathlib.Core.List.{[], _∷_};
 ghost use Prim.Native.Nat.{_≤_, _<_};
-ghost use Rattle.languages.specs.Coded.{decoded, IsCode};
+ghost use Rattle.languages.specs.Contracts.{decoded, IsCode};
 ghost use Rattle.choices.specs.Apply.{under, apply};
 ghost use mathlib.Core.Path.{_≡_};
-ghost use Rattle.phoneme_builder.specs.Buffers.{entry, alternative, alternatives, AltsIn, arena, Rooms, SetAt, entryIn, entriesAt, TextIn, OfferedAt, AppliedAt};
+ghost use Rattle.phoneme_builder.specs.BufferContracts.{entry, alternative, alternatives, AltsIn, arena, Rooms, SetAt, entryIn, entriesAt, TextIn, OfferedAt, AppliedAt};
 use crate::marks::first_of;
 use crate::marks::second_of;
 use crate::set::add_to;

@@ -2,7 +2,7 @@
 ghost use mathlib.Core.Path.{_≡_};
 ghost use Prim.Native.Nat.{_<_};
 ghost use lib.ListN.{length};
-ghost use Rattle.phoneme_builder.specs.Walks.{AltsAre};
+ghost use Rattle.phoneme_builder.specs.Contracts.{AltsAre};
 use crate::marks::packed;
 use phonemes::Alternative;
 

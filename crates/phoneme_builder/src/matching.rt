@@ -2,8 +2,8 @@
 ghost use mathlib.Core.Path.{_≡_};
 ghost use Prim.Native.Nat.{_≤_, _<_, _-_, max};
 ghost use lib.ListN.{length};
-ghost use Rattle.phoneme_builder.specs.Tables.{matcher, ListIn};
-ghost use Rattle.phoneme_builder.specs.Walks.{MatchIs};
+ghost use Rattle.phoneme_builder.specs.TableContracts.{matcher, ListIn};
+ghost use Rattle.phoneme_builder.specs.Contracts.{MatchIs};
 use pack::RuleAt;
 
 // The rule that matches: how far its pattern reaches, and where its expression stands in the pack.

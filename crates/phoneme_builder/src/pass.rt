@@ -7,10 +7,10 @@ ghost use lib.ListN.{length};
 ghost use Rattle.base.specs.Pick.{pick};
 ghost use Rattle.letters.specs.Utf8.{decodeAt};
 ghost use Rattle.choices.specs.Apply.{apply};
-ghost use Rattle.phoneme_builder.specs.Buffers.{arena, Rooms, SetAt, entriesAt, AppliedAt};
-ghost use Rattle.phoneme_builder.specs.Passes.{offered, none, bytesOf, turnOn, turnsOf, run};
-ghost use Rattle.phoneme_builder.specs.Tables.{matcher, ListIn};
-ghost use Rattle.phoneme_builder.specs.Walks.{StepIn, TurnedAt, PassedAt};
+ghost use Rattle.phoneme_builder.specs.BufferContracts.{arena, Rooms, SetAt, entriesAt, AppliedAt};
+ghost use Rattle.phoneme_builder.specs.Passes.{offered, none, stepLength, turnOn, turnsOf, run};
+ghost use Rattle.phoneme_builder.specs.TableContracts.{matcher, ListIn};
+ghost use Rattle.phoneme_builder.specs.Contracts.{StepIn, TurnedAt, PassedAt};
 use crate::append::append;
 use crate::apply::Applied;
 use crate::apply::apply;
@@ -52,7 +52,7 @@ pub(crate) fn either(a: bool, b: bool) -> bool
 // The bytes of the character at a place.
 fn char_bytes(word: &[u8], place: usize) -> usize
     requires { ⌜ place < length (now word) ⌝ }
-    ensures { λ r. ⌜ (r ≡ bytesOf (decodeAt (now (word .entry)) place)) × StepIn (now (word .entry)) place r ⌝ }
+    ensures { λ r. ⌜ (r ≡ stepLength (decodeAt (now (word .entry)) place)) × StepIn (now (word .entry)) place r ⌝ }
 {
     match letters::decode(word, place) {
         Step::Char { code: _, len } => len,

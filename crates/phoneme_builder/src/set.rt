@@ -5,9 +5,9 @@ ghost use mathlib.Core.Path.{_≡_};
 ghost use mathlib.Core.List.{_++_};
 ghost use Prim.Native.Nat.{_+_, _*_, _≤_, _<_};
 ghost use lib.ListN.{length, take, drop};
-ghost use Rattle.languages.specs.Coded.{decoded, IsCode};
+ghost use Rattle.languages.specs.Contracts.{decoded, IsCode};
 ghost use Rattle.choices.specs.Apply.{insert, start};
-ghost use Rattle.phoneme_builder.specs.Buffers.{findL, insAt, entry, put, firstOf, secondOf, textOf, textsOf, entries, IsSet, SetIs, arena, Rooms, SetAt, entriesAt, TextIn, textIn, LangsIn, langsIn, CopiedIs, GrownAt};
+ghost use Rattle.phoneme_builder.specs.BufferContracts.{findL, insAt, entry, put, firstByteOf, secondOf, markedText, markedTexts, markedEntries, IsSet, SetIs, arena, Rooms, SetAt, entriesAt, TextIn, textIn, LangsIn, langsIn, CopiedIs, GrownAt};
 use crate::marks::NO_LANGUAGES;
 use crate::marks::first_of;
 use crate::marks::merged;
@@ -22,8 +22,8 @@ pub(crate) enum Found {
 
 // The text that a mark names.
 fn row<'a>(store: &'a [u8], x: u64) -> &'a [u8]
-    requires { ⌜ firstOf x * 128 + secondOf x ≤ length (now store) ⌝ }
-    ensures { λ r. ⌜ now r ≡ textOf (now (store .entry)) x ⌝ }
+    requires { ⌜ firstByteOf x * 128 + secondOf x ≤ length (now store) ⌝ }
+    ensures { λ r. ⌜ now r ≡ markedText (now (store .entry)) x ⌝ }
 {
     let a = first_of(x) * 128;
     let e = a + second_of(x);
@@ -33,7 +33,7 @@ fn row<'a>(store: &'a [u8], x: u64) -> &'a [u8]
 // Where t stands among the n texts, or where it would go.
 pub(crate) fn find(store: &[u8], marks: &[u64], n: usize, t: &[u8]) -> Found
     requires { ⌜ IsSet (now store) (now marks) n ⌝ }
-    ensures { λ r. ⌜ r ≡ findL (now (t .entry)) (textsOf (now (store .entry)) (now (marks .entry)) n) ⌝ }
+    ensures { λ r. ⌜ r ≡ findL (now (t .entry)) (markedTexts (now (store .entry)) (now (marks .entry)) n) ⌝ }
 {
     let mut i = 0;
     while i < n {
@@ -74,7 +74,7 @@ fn enter(store: &[u8], marks: &mut [u64], n: usize, long: usize, g: u64) -> usiz
     requires { ⌜ IsSet (now store) (now marks) n ⌝ }
     requires { ⌜ IsCode g ⌝ }
     requires { ⌜ (n < 256) × (long ≤ 128) ⌝ }
-    ensures { λ r. ⌜ SetIs (now (store .entry)) (now (marks .exit)) r (insert (entry (take long (drop (n * 128) (now (store .entry)))) (decoded g)) (entries (now (store .entry)) (now (marks .entry)) n)) ⌝ }
+    ensures { λ r. ⌜ SetIs (now (store .entry)) (now (marks .exit)) r (insert (entry (take long (drop (n * 128) (now (store .entry)))) (decoded g)) (markedEntries (now (store .entry)) (now (marks .entry)) n)) ⌝ }
 {
     let a = n * 128;
     match find(store, marks, n, &store[a..a + long]) {
@@ -116,7 +116,7 @@ fn add(store: &mut [u8], marks: &mut [u64], n: usize, a: &[u8], b: &[u8], g: u64
     requires { ⌜ IsSet (now store) (now marks) n ⌝ }
     requires { ⌜ IsCode g ⌝ }
     requires { ⌜ (n < 256) × (length (now a) + length (now b) ≤ 128) ⌝ }
-    ensures { λ r. ⌜ SetIs (now (store .exit)) (now (marks .exit)) r (insert (entry (now (a .entry) ++ now (b .entry)) (decoded g)) (entries (now (store .entry)) (now (marks .entry)) n)) ⌝ }
+    ensures { λ r. ⌜ SetIs (now (store .exit)) (now (marks .exit)) r (insert (entry (now (a .entry) ++ now (b .entry)) (decoded g)) (markedEntries (now (store .entry)) (now (marks .entry)) n)) ⌝ }
 {
     write(store, n, a, b);
     enter(store, marks, n, a.len() + b.len(), g)

@@ -3,8 +3,8 @@ ghost use mathlib.Core.Path.{_≡_};
 ghost use mathlib.Core.List.{[], _∷_};
 ghost use Prim.Native.Nat.{_≤_};
 ghost use lib.ListN.{length};
-ghost use Rattle.languages.specs.Coded.{decoded, IsCode};
-ghost use Rattle.phoneme_builder.specs.Buffers.{entry, entries, IsSet, UnitedIs, arena, Rooms, SetAt, entryIn, entriesAt, TextIn, UnitedAt};
+ghost use Rattle.languages.specs.Contracts.{decoded, IsCode};
+ghost use Rattle.phoneme_builder.specs.BufferContracts.{entry, markedEntries, IsSet, UnitedIs, arena, Rooms, SetAt, entryIn, entriesAt, TextIn, UnitedAt};
 use crate::marks::merged;
 use crate::marks::packed;
 use crate::set::Found;
@@ -26,7 +26,7 @@ fn unite_row(store: &mut [u8], marks: &mut [u64], n: usize, a: &[u8], ga: u64, g
     requires { ⌜ IsCode ga ⌝ }
     requires { ⌜ IsCode g ⌝ }
     requires { ⌜ length (now a) ≤ 128 ⌝ }
-    ensures { λ r. ⌜ UnitedIs (decoded g) (entry (now (a .entry)) (decoded ga) ∷ []) (entries (now (store .entry)) (now (marks .entry)) n) r (now (store .exit)) (now (marks .exit)) ⌝ }
+    ensures { λ r. ⌜ UnitedIs (decoded g) (entry (now (a .entry)) (decoded ga) ∷ []) (markedEntries (now (store .entry)) (now (marks .entry)) n) r (now (store .exit)) (now (marks .exit)) ⌝ }
 {
     match find(store, marks, n, a) {
         Found::At(p) => {

@@ -9,16 +9,16 @@ use lib.ListN.{length, getD, take, drop, length-drop}
 use lib.Seq.{length-take-le}
 use mir.Syntax.{w64}
 use mir.Val.{Fits}
-use Rattle.base.specs.Pick.{pick-true, pick-false}
 use Rattle.texts.specs.Parts.{firstIs}
-use Rattle.phonemes.specs.Expressions.{round, bar, cutAt, inside, extra, nthFrom, alternativeOf}
-use Rattle.phonemes.specs.Walks.{cutEnd, hasExtra, nthCut, pieceFrom}
+use Rattle.phonemes.specs.Expressions.{round, bar, cutAt, inside, extra}
+use Rattle.phonemes.specs.Contracts.{cutEnd, hasExtra, nthCut, pieceFrom, nthFrom, alternativeOf}
 use Rattle.phonemes.specs.declared.answers.Alternative.{Alternative}
 use Rattle.phonemes.specs.declared.answers.Alternative.the-variants.{Nothing}
 use Rattle.phonemes.specs.declared.phonemes.Part.{Part}
 use Rattle.phonemes.specs.declared.phonemes.Part.the-variants.{From, Past}
 use Rattle.phonemes.proofs.CutLaws.{cut-order, cut-fits, cut-more, cut-last}
 use Rattle.phonemes.proofs.ExprLaws.{extra-yes, extra-no, pieces-single, pieces-round}
+use Rattle.base.proofs.PickLaws.{pick-true, pick-false}
 
 clash : {A : Type 0} → _≡_ {A = ℕ} 0 1 → A
 clash e = let no-way : ⊥ = omega arith in absurd no-way

@@ -9,9 +9,9 @@ use lib.Dec.{eqb, ltb, leb·suc-suc}
 use lib.ListN.{length, getD, drop, drop-of-length-le}
 use lib.Seq.{drop-cons}
 use borrow.Author.Tests.{le-ltb, ne-eqb, ltb-false, eqb-false, leb-true}
-use Rattle.base.specs.Pick.{pick, and, pick-true, pick-false, pick-all, and-inv, and-first}
+use Rattle.base.specs.Pick.{pick, and}
 use Rattle.letters.specs.Utf8.{decodeAt}
-use Rattle.letters.specs.Reading.{Piece, letter, stray}
+use Rattle.letters.specs.Reading.{Symbol, symbol, strayByte}
 use Rattle.letters.specs.declared.utf8.Step.the-variants.{Char, Ill}
 use Rattle.letters.proofs.Utf8Laws.{decode-one, char-at, ill-in}
 use Rattle.letters.proofs.ReadingLaws.{Pieces, end, one, bad, pieces-of}
@@ -19,6 +19,7 @@ use Rattle.texts.specs.Parts.{tail, front, firstIs, lastIs, placeOf, has}
 use Rattle.rule.proofs.Bare.{Clear, none, more, clear-has, clear-tail, clear-front}
 use Rattle.phonemes.specs.Expressions.{round, unround, bar, opening, onFirst, cutAt, inside, extra, piecesIn, allOf, formedPiece, formed, pieceMask, isListed, checkedOf}
 use Rattle.phonemes.specs.declared.answers.Expression.the-variants.{Good, Malformed}
+use Rattle.base.proofs.PickLaws.{pick-true, pick-false, pick-all, and-inv, and-first}
 
 data Cleared : List (List ℕ) → Type 0 where
   no-part : Cleared []

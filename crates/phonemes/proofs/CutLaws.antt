@@ -10,7 +10,7 @@ use lib.ListN.{length, take, drop, length-drop}
 use lib.Seq.{drop-drop, length-take-le, take-all}
 use mir.Syntax.{w64}
 use mir.Val.{Fits}
-use Rattle.base.specs.Pick.{pick, and, pick-true, pick-false}
+use Rattle.base.specs.Pick.{pick, and}
 use Rattle.base.proofs.Bits.{or-assoc}
 use Rattle.languages.specs.Names.{languageBit}
 use Rattle.languages.specs.declared.names.Listed.{Listed}
@@ -18,10 +18,11 @@ use Rattle.languages.specs.declared.names.Listed.the-variants.{Bit, Unlisted}
 use Rattle.texts.specs.Parts.{placeOf}
 use Rattle.texts.proofs.Laws.{place-most}
 use Rattle.phonemes.specs.Expressions.{bar, plus, onFirst, cutAt, withBits, namesMask, formedPiece}
-use Rattle.phonemes.specs.Walks.{cutEnd, listedPiece, told, judged, nthCut}
+use Rattle.phonemes.specs.Contracts.{cutEnd, listedPiece, expressionTold, judgedPieces, nthCut}
 use Rattle.phonemes.specs.declared.answers.Expression.{Expression}
 use Rattle.phonemes.specs.declared.answers.Expression.the-variants.{Malformed}
 use Rattle.phonemes.specs.declared.phonemes.Part.the-variants.{From, Past}
+use Rattle.base.proofs.PickLaws.{pick-true, pick-false}
 
 -- ---- one step of a cut
 
@@ -170,32 +171,32 @@ pub ruleset naming-laws = (naming-start, naming-next, naming-done, naming-stop, 
 pub record Judging (names t : List ℕ) (more from count : ℕ) (known : Bool) : Type 0 where
   pub within : from ≤ length t
   pub counted : count ≤ more + from
-  pub is : judged names more true (cutAt bar t) ≡ judged names count known (cutAt bar (drop from t))
+  pub is : judgedPieces names more true (cutAt bar t) ≡ judgedPieces names count known (cutAt bar (drop from t))
 
 pub judging-start : (names t : List ℕ) (more : ℕ) → Judging names t more 0 more true
 judging-start names t more = record { within = zero-le; counted = omega arith; is = refl }
 
 module _ {names t : List ℕ} {more from count : ℕ} {known : Bool} (w : Judging names t more from count known) (to : ℕ) (e : to ≡ cutEnd bar t from)
     (g : Bool) (p : g ≡ formedPiece (take (to - from) (drop from t))) where
-  pub judging-stop : g ≡ false → Malformed ≡ judged names more true (cutAt bar t)
-  unfolding judged
-  judging-stop q = sym (w .is ∙ ap (judged names count known) (cut-one bar t from (w .within) to e) ∙ pick-false _ _ _ (sym p ∙ q))
+  pub judging-stop : g ≡ false → Malformed ≡ judgedPieces names more true (cutAt bar t)
+  unfolding judgedPieces
+  judging-stop q = sym (w .is ∙ ap (judgedPieces names count known) (cut-one bar t from (w .within) to e) ∙ pick-false _ _ _ (sym p ∙ q))
 
   module _ (q : g ≡ true) (u v : Bool) (f : u ≡ listedPiece names (take (to - from) (drop from t))) (k : v ≡ and known u) where
     piece-by : (l : List (List ℕ)) → cutAt bar (drop from t) ≡ take (to - from) (drop from t) ∷ l
-        → judged names more true (cutAt bar t) ≡ judged names (count + 1) v l
-    unfolding judged
+        → judgedPieces names more true (cutAt bar t) ≡ judgedPieces names (count + 1) v l
+    unfolding judgedPieces
     piece-by l s =
-        w .is ∙ ap (judged names count known) s ∙ pick-true _ _ _ (sym p ∙ q)
-        ∙ ap (λ (x : Bool). judged names (count + 1) x l) (ap (and known) (sym f) ∙ sym k)
+        w .is ∙ ap (judgedPieces names count known) s ∙ pick-true _ _ _ (sym p ∙ q)
+        ∙ ap (λ (x : Bool). judgedPieces names (count + 1) x l) (ap (and known) (sym f) ∙ sym k)
 
     pub judging-next : to < length t → Judging names t more (to + 1) (count + 1) v
     judging-next h =
         let o = cut-order bar t from (w .within) to e in
         record { within = omega arith; counted = omega (arith, w .counted); is = piece-by _ (cut-more bar t from (w .within) to e h) }
 
-    pub judging-done : (r : Expression) → length t ≤ to → r ≡ told (count + 1) v → r ≡ judged names more true (cutAt bar t)
-    unfolding judged
+    pub judging-done : (r : Expression) → length t ≤ to → r ≡ expressionTold (count + 1) v → r ≡ judgedPieces names more true (cutAt bar t)
+    unfolding judgedPieces
     judging-done r h s = s ∙ sym (piece-by [] (cut-last bar t from (w .within) to e h))
 
 pub ruleset judging-laws = (judging-start, judging-stop, judging-next, judging-done, cut-laws)

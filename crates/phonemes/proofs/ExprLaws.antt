@@ -11,7 +11,7 @@ use lib.Seq.{length-take-le}
 use mir.Syntax.{w64}
 use mir.Val.{Fits}
 use borrow.Author.Tests.{lt-ltb, le-ltb}
-use Rattle.base.specs.Pick.{pick, and, pick-true, pick-false, pick-cong, and-first}
+use Rattle.base.specs.Pick.{pick, and}
 use Rattle.languages.specs.declared.names.Listed.{Listed}
 use Rattle.languages.specs.declared.names.Listed.the-variants.{Bit, Unlisted}
 use Rattle.languages.specs.declared.sets.LanguageSet.{LanguageSet}
@@ -19,10 +19,11 @@ use Rattle.languages.specs.declared.sets.LanguageSet.the-variants.{Any, SomeLan
 use Rattle.texts.specs.Parts.{tail, front, firstIs, lastIs, placeOf, has}
 use Rattle.texts.proofs.Laws.{front-is, place-most}
 use Rattle.phonemes.specs.Expressions.{round, unround, bar, plus, opening, closing, cutAt, inside, extra, piecesIn, allOf, formedPiece, formed, boxOf, namesMask, pieceMask, isListed, textOf, maskSet, setOf, checkedOf}
-use Rattle.phonemes.specs.Walks.{hasExtra, listedPiece, told, judged, pieceFrom}
+use Rattle.phonemes.specs.Contracts.{hasExtra, listedPiece, expressionTold, judgedPieces, pieceFrom}
 use Rattle.phonemes.specs.declared.answers.Expression.{Expression}
 use Rattle.phonemes.specs.declared.answers.Expression.the-variants.{Good, Malformed, Stranger}
 use Rattle.phonemes.specs.declared.answers.Alternative.the-variants.{At}
+use Rattle.base.proofs.PickLaws.{pick-true, pick-false, pick-cong, and-first}
 
 -- ---- parts of an expression and of an alternative
 
@@ -118,22 +119,22 @@ and-true true = refl
 and-true false = refl
 
 -- one piece and then the others are judged as all are
-judged-by : (known f l : Bool) (x : Expression) (g h : Bool) (m : ℕ) → x ≡ pick g (told m (and (and known l) h)) Malformed
-    → pick f x Malformed ≡ pick (pick f g false) (told m (and known (pick l h false))) Malformed
-unfolding pick told and
+judged-by : (known f l : Bool) (x : Expression) (g h : Bool) (m : ℕ) → x ≡ pick g (expressionTold m (and (and known l) h)) Malformed
+    → pick f x Malformed ≡ pick (pick f g false) (expressionTold m (and known (pick l h false))) Malformed
+unfolding pick expressionTold and
 judged-by true true true x g h m e = e
 judged-by true true false x g h m e = e
 judged-by false true l x g h m e = e
 judged-by known false l x g h m e = refl
 
 judged-all : (names : List ℕ) (n : ℕ) (known : Bool) (ps : List (List ℕ))
-    → judged names n known ps ≡ pick (allOf formedPiece ps) (told (n + length ps) (and known (allOf (listedPiece names) ps))) Malformed
-unfolding judged allOf pick
-judged-all names n known [] = ap₂ told (sym (add-zero n)) (sym (and-true known))
+    → judgedPieces names n known ps ≡ pick (allOf formedPiece ps) (expressionTold (n + length ps) (and known (allOf (listedPiece names) ps))) Malformed
+unfolding judgedPieces allOf pick
+judged-all names n known [] = ap₂ expressionTold (sym (add-zero n)) (sym (and-true known))
 judged-all names n known (a ∷ ps) =
     judged-by known (formedPiece a) (listedPiece names a) _ (allOf formedPiece ps) (allOf (listedPiece names) ps) (n + suc (length ps))
     (judged-all names (n + 1) (and known (listedPiece names a)) ps
-    ∙ ap (λ (m : ℕ). pick (allOf formedPiece ps) (told m (and (and known (listedPiece names a)) (allOf (listedPiece names) ps))) Malformed) (omega arith))
+    ∙ ap (λ (m : ℕ). pick (allOf formedPiece ps) (expressionTold m (and (and known (listedPiece names a)) (allOf (listedPiece names) ps))) Malformed) (omega arith))
 
 -- an empty piece is formed and has no names: it counts one more
 nil-formed : formedPiece [] ≡ true
@@ -144,9 +145,9 @@ nil-listed : (names : List ℕ) → listedPiece names [] ≡ true
 unfolding listedPiece pieceMask has placeOf isListed
 nil-listed names = ap isListed (pick-false _ _ _ (le-ltb 0 0 zero-le))
 
-judged-nil : (names : List ℕ) (n : ℕ) (known : Bool) (ps : List (List ℕ)) → judged names n known (ps ++ ([] ∷ [])) ≡ judged names (n + 1) known ps
-unfolding judged
-judged-nil names n known [] = pick-true _ _ _ nil-formed ∙ ap (told (n + 1)) (ap (and known) (nil-listed names) ∙ and-true known)
+judged-nil : (names : List ℕ) (n : ℕ) (known : Bool) (ps : List (List ℕ)) → judgedPieces names n known (ps ++ ([] ∷ [])) ≡ judgedPieces names (n + 1) known ps
+unfolding judgedPieces
+judged-nil names n known [] = pick-true _ _ _ nil-formed ∙ ap (expressionTold (n + 1)) (ap (and known) (nil-listed names) ∙ and-true known)
 judged-nil names n known (a ∷ ps) = pick-cong (formedPiece a) _ _ _ _ (λ q. judged-nil names (n + 1) (and known (listedPiece names a)) ps) (λ q. refl)
 
 extra-over : (f l : Bool) → pick f ([] ∷ []) (pick l ([] ∷ []) []) ≡ pick {A = List (List ℕ)} (pick f true l) ([] ∷ []) []
@@ -173,19 +174,19 @@ module _ (e : List ℕ) (f : Bool) (p : f ≡ firstIs round e) where
   pieces-round t q w = pick-true _ _ _ (sym p ∙ q) ∙ ap (λ (y : List ℕ). cutAt bar y ++ extra y) (sym w)
 
 -- the whole expression, its brackets seen to
-whole-is : (names : List ℕ) (ps : List (List ℕ)) → judged names 0 true ps
+whole-is : (names : List ℕ) (ps : List (List ℕ)) → judgedPieces names 0 true ps
     ≡ pick (allOf formedPiece ps) (pick (allOf (listedPiece names) ps) (Good (length ps)) Stranger) Malformed
-unfolding told and
+unfolding expressionTold and
 whole-is names ps = judged-all names 0 true ps ∙ ap (λ (m : ℕ). pick (allOf formedPiece ps) (pick (allOf (listedPiece names) ps) (Good m) Stranger) Malformed) (zero-add (length ps))
 
-checked-by : (names e : List ℕ) (ps : List (List ℕ)) → piecesIn e ≡ ps → pick (firstIs round e) (lastIs unround e) true ≡ true → checkedOf names e ≡ judged names 0 true ps
+checked-by : (names e : List ℕ) (ps : List (List ℕ)) → piecesIn e ≡ ps → pick (firstIs round e) (lastIs unround e) true ≡ true → checkedOf names e ≡ judgedPieces names 0 true ps
 unfolding checkedOf formed listedPiece and
 checked-by names e ps s b =
     ap₂ (λ (t : Bool) (l : List (List ℕ)). pick (and t (allOf formedPiece l)) (pick (allOf (λ (a : List ℕ). isListed (pieceMask names a)) l) (Good (length l)) Stranger) Malformed) b s
     ∙ sym (whole-is names ps)
 
 module _ (names e : List ℕ) (f : Bool) (p : f ≡ firstIs round e) where
-  pub check-single : (r : Expression) → f ≡ false → r ≡ judged names 0 true (e ∷ []) → r ≡ checkedOf names e
+  pub check-single : (r : Expression) → f ≡ false → r ≡ judgedPieces names 0 true (e ∷ []) → r ≡ checkedOf names e
   check-single r q g = g ∙ sym (checked-by names e (e ∷ []) (pieces-single e f p q) (pick-false _ _ _ (sym p ∙ q)))
 
   module _ (q : f ≡ true) (l : Bool) (o : l ≡ lastIs unround e) where
@@ -194,25 +195,25 @@ module _ (names e : List ℕ) (f : Bool) (p : f ≡ firstIs round e) where
     check-open c = sym (pick-false _ _ _ (and-first _ _ (pick-true _ _ _ (sym p ∙ q) ∙ sym o ∙ c)))
 
     module _ (c : l ≡ true) (t : List ℕ) (w : t ≡ inside e) (x : Bool) (k : x ≡ hasExtra t) where
-      round-by : (m : List (List ℕ)) → extra t ≡ m → checkedOf names e ≡ judged names 0 true (cutAt bar t ++ m)
+      round-by : (m : List (List ℕ)) → extra t ≡ m → checkedOf names e ≡ judgedPieces names 0 true (cutAt bar t ++ m)
       round-by m g =
           checked-by names e (cutAt bar t ++ m)
           (pieces-round e f p t q w ∙ ap (λ (y : List (List ℕ)). cutAt bar t ++ y) g)
           (pick-true _ _ _ (sym p ∙ q) ∙ sym o ∙ c)
 
-      pub check-extra : (r : Expression) → x ≡ true → r ≡ judged names 1 true (cutAt bar t) → r ≡ checkedOf names e
+      pub check-extra : (r : Expression) → x ≡ true → r ≡ judgedPieces names 1 true (cutAt bar t) → r ≡ checkedOf names e
       check-extra r h g = g ∙ sym (round-by ([] ∷ []) (extra-yes t x k h) ∙ judged-nil names 0 true (cutAt bar t))
 
-      pub check-bars : (r : Expression) → x ≡ false → r ≡ judged names 0 true (cutAt bar t) → r ≡ checkedOf names e
-      check-bars r h g = g ∙ sym (round-by [] (extra-no t x k h) ∙ ap (judged names 0 true) (append-nil (cutAt bar t)))
+      pub check-bars : (r : Expression) → x ≡ false → r ≡ judgedPieces names 0 true (cutAt bar t) → r ≡ checkedOf names e
+      check-bars r h g = g ∙ sym (round-by [] (extra-no t x k h) ∙ ap (judgedPieces names 0 true) (append-nil (cutAt bar t)))
 
 module _ (names e : List ℕ) (g : Bool) (p : g ≡ formedPiece e) where
-  pub single-good : (u : Bool) (r : Expression) → g ≡ true → u ≡ listedPiece names e → r ≡ told 1 u → r ≡ judged names 0 true (e ∷ [])
-  unfolding judged and
-  single-good u r q f s = s ∙ ap (told 1) f ∙ sym (pick-true _ _ _ (sym p ∙ q))
+  pub single-good : (u : Bool) (r : Expression) → g ≡ true → u ≡ listedPiece names e → r ≡ expressionTold 1 u → r ≡ judgedPieces names 0 true (e ∷ [])
+  unfolding judgedPieces and
+  single-good u r q f s = s ∙ ap (expressionTold 1) f ∙ sym (pick-true _ _ _ (sym p ∙ q))
 
-  pub single-malformed : g ≡ false → Malformed ≡ judged names 0 true (e ∷ [])
-  unfolding judged
+  pub single-malformed : g ≡ false → Malformed ≡ judgedPieces names 0 true (e ∷ [])
+  unfolding judgedPieces
   single-malformed q = sym (pick-false _ _ _ (sym p ∙ q))
 
 pub ruleset check-laws = (single-good, single-malformed, check-single, check-open, check-extra, check-bars)

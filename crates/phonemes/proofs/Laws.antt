@@ -14,9 +14,7 @@ use lib.ListN.{length, getD, take, drop, length-take, length-drop, length-append
 use lib.Pow.{pow-pos}
 use lib.Seq.{take-nil, take-length, take-take, drop-drop, getD-append-add}
 use borrow.Author.Tests.{ltb-false}
-use Rattle.base.specs.Pick.{pick-inv, pick-all, and-inv}
 use Rattle.languages.specs.Names.{stringsOf, languageBit}
-use Rattle.languages.specs.Sets.{BitsBelow}
 use Rattle.languages.specs.declared.names.Listed.{Listed}
 use Rattle.languages.specs.declared.names.Listed.the-variants.{Bit, Unlisted}
 use Rattle.languages.specs.declared.sets.LanguageSet.{LanguageSet}
@@ -24,8 +22,8 @@ use Rattle.languages.proofs.Laws.{any-below, mask-below, bit-below, bit-held}
 use Rattle.texts.specs.Parts.{tail, front, firstIs, lastIs, placeOf, prefixOf}
 use Rattle.texts.proofs.Laws.{front-is, place-most, first-some-by, last-some-by, prefix-short}
 use Rattle.rule.specs.Matching.{ruleMatches}
-use Rattle.phonemes.specs.Expressions.{round, bar, opening, onFirst, cutAt, inside, extra, piecesIn, withBits, namesMask, pieceMask, textOf, maskSet, setOf, checkedOf, nthFrom, alternativeOf}
-use Rattle.phonemes.specs.Walks.{hasExtra, nthCut, pieceFrom}
+use Rattle.phonemes.specs.Expressions.{round, bar, opening, onFirst, cutAt, inside, extra, piecesIn, withBits, namesMask, pieceMask, textOf, maskSet, setOf, checkedOf}
+use Rattle.phonemes.specs.Contracts.{hasExtra, nthCut, pieceFrom, nthFrom, alternativeOf}
 use Rattle.phonemes.specs.declared.answers.Expression.{Expression}
 use Rattle.phonemes.specs.declared.answers.Expression.the-variants.{Good}
 use Rattle.phonemes.specs.declared.answers.Alternative.{Alternative}
@@ -34,6 +32,8 @@ use Rattle.phonemes.specs.declared.phonemes.Part.{Part}
 use Rattle.phonemes.specs.declared.phonemes.Part.the-variants.{From, Past}
 use Rattle.phonemes.proofs.ExprLaws.{text-long, extra-yes, pieces-single, pieces-round}
 use Rattle.phonemes.proofs.AltLaws.{laid-cut, beyond, part-at, alt-single, alt-single-past, alt-part, alt-past, alt-none, alt-extra}
+use Rattle.base.proofs.PickLaws.{pick-inv, pick-all, and-inv}
+use Rattle.languages.specs.Contracts.{BitsBelow}
 
 clash : {A : Type 0} → _≡_ {A = ℕ} 0 1 → A
 clash e = let no-way : ⊥ = omega arith in absurd no-way

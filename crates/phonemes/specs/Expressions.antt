@@ -1,5 +1,5 @@
 -- Phoneme expressions (01, Phoneme expressions): which are well formed, and their alternatives.
-use Prim.Native.Nat.{ℕ, zero, suc, _+_}
+use Prim.Native.Nat.{ℕ, suc}
 use mathlib.Core.Bool.{Bool, true, false}
 use mathlib.Core.List.{List, [], _∷_, _++_}
 use lib.Bits.{bitOr}
@@ -14,8 +14,6 @@ use Rattle.languages.specs.declared.sets.LanguageSet.the-variants.{Any, SomeLan
 use Rattle.texts.specs.Parts.{tail, front, firstIs, lastIs, placeOf, has}
 use Rattle.phonemes.specs.declared.answers.Expression.{Expression}
 use Rattle.phonemes.specs.declared.answers.Expression.the-variants.{Good, Malformed, Stranger}
-use Rattle.phonemes.specs.declared.answers.Alternative.{Alternative}
-use Rattle.phonemes.specs.declared.answers.Alternative.the-variants.{At, Nothing}
 
 -- the signs ( ) | [ ] +
 abbrev pub round : ℕ
@@ -105,12 +103,3 @@ setOf names a = pick (has opening a) (maskSet (pieceMask names a)) Any
 unfoldable pub checkedOf : List ℕ → List ℕ → Expression
 checkedOf names e =
     pick (formed e) (pick (allOf (λ (a : List ℕ). isListed (pieceMask names a)) (piecesIn e)) (Good (length (piecesIn e))) Stranger) Malformed
-
--- the alternative of a number: where its text starts and ends in the expression, and its set
-unfoldable pub nthFrom : ℕ → List ℕ → ℕ → List (List ℕ) → Alternative
-nthFrom start names i [] = Nothing
-nthFrom start names zero (a ∷ ps) = At start (start + length (textOf a)) (setOf names a)
-nthFrom start names (suc i) (a ∷ ps) = nthFrom (start + length a + 1) names i ps
-
-unfoldable pub alternativeOf : List ℕ → List ℕ → ℕ → Alternative
-alternativeOf names e i = nthFrom (pick (firstIs round e) 1 0) names i (piecesIn e)

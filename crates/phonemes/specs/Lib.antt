@@ -1,3 +1,3 @@
 pub mod Expressions
-pub mod Walks
+pub mod Contracts
 pub mod Numbers

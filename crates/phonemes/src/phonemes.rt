@@ -6,10 +6,10 @@ ghost use Prim.Native.Nat.{_+_, _^_, _≤_, _<_};
 ghost use lib.ListN.{length};
 ghost use Rattle.languages.specs.Numbers.{listedNumbers};
 ghost use Rattle.phonemes.specs.Numbers.{expressionNumbers};
-ghost use Rattle.phonemes.specs.Expressions.{bar, opening, plus, cutAt, inside, formedPiece, boxOf, namesMask, pieceMask, setOf, checkedOf, alternativeOf};
+ghost use Rattle.phonemes.specs.Expressions.{bar, opening, plus, cutAt, inside, formedPiece, boxOf, namesMask, pieceMask, setOf, checkedOf};
 ghost use Rattle.base.specs.Pick.{and};
 ghost use Rattle.texts.specs.Parts.{placeOf};
-ghost use Rattle.phonemes.specs.Walks.{cutEnd, hasExtra, listedPiece, judged, told, nthCut, pieceFrom};
+ghost use Rattle.phonemes.specs.Contracts.{cutEnd, hasExtra, listedPiece, judgedPieces, expressionTold, nthCut, pieceFrom, alternativeOf};
 use crate::answers::Alternative;
 use crate::answers::Expression;
 use languages::LanguageSet;
@@ -132,7 +132,7 @@ fn has_extra(t: &[u8]) -> bool
 }
 
 fn told_of(count: usize, known: bool) -> Expression
-    ensures { λ r. ⌜ r ≡ told count known ⌝ }
+    ensures { λ r. ⌜ r ≡ expressionTold count known ⌝ }
 {
     if known {
         Expression::Good(count)
@@ -150,7 +150,7 @@ fn both(a: bool, b: bool) -> bool
 // The parts of t between the bars, with `more` alternatives behind them.
 fn judge(names: &[u8], t: &[u8], more: usize) -> Expression
     requires { ⌜ more ≤ 1 ⌝ }
-    ensures { λ r. ⌜ r ≡ judged (now (names .entry)) more true (cutAt bar (now (t .entry))) ⌝ }
+    ensures { λ r. ⌜ r ≡ judgedPieces (now (names .entry)) more true (cutAt bar (now (t .entry))) ⌝ }
 {
     let n = t.len();
     let mut from: usize = 0;
@@ -172,7 +172,7 @@ fn judge(names: &[u8], t: &[u8], more: usize) -> Expression
 }
 
 fn check_single(names: &[u8], e: &[u8]) -> Expression
-    ensures { λ r. ⌜ r ≡ judged (now (names .entry)) 0 true (now (e .entry) ∷ []) ⌝ }
+    ensures { λ r. ⌜ r ≡ judgedPieces (now (names .entry)) 0 true (now (e .entry) ∷ []) ⌝ }
 {
     if piece_formed(e) {
         told_of(1, piece_listed(names, e))

@@ -9,33 +9,34 @@ use lib.Dec.{eqb}
 use lib.ListN.{length, getD, take, drop, take-append-drop, drop-of-length-le, length-drop, length-take}
 use lib.Seq.{drop-cons, drop-drop}
 use borrow.Author.Tests.{lt-leb}
-use Rattle.base.specs.Pick.{pick-yes, pick-no, pick-true, pick-false, and-rest, and-none, and-no}
 use Rattle.letters.specs.Order.{sameText}
 use Rattle.texts.specs.Parts.{prefixOf}
 use Rattle.texts.proofs.Laws.{first-some, first-none}
-use Rattle.languages.specs.Names.{strings, stringsOf, stringAt}
+use Rattle.languages.specs.Names.{strings, stringsOf}
 use Rattle.languages.specs.declared.names.Next.{Next}
 use Rattle.languages.specs.declared.names.Next.the-variants as next
 use Rattle.languages.proofs.Laws.{StringIs, string-whole, string-cut, strings-none, strings-one, strings-all}
-use Rattle.prefixes.specs.Prefixes.{generic, prefixesOf, fits, firstFit, among, splitOf, isPrefix}
+use Rattle.prefixes.specs.Prefixes.{generic, prefixesOf, prefixFits, firstFit, among, splitOf, isPrefix}
 use Rattle.prefixes.specs.declared.prefixes.NameType.{NameType}
 use Rattle.prefixes.specs.declared.prefixes.Prefix.{Prefix}
 use Rattle.prefixes.specs.declared.prefixes.Prefix.the-variants.{Parted, Whole}
+use Rattle.base.proofs.PickLaws.{pick-yes, pick-no, pick-true, pick-false, and-rest, and-none, and-no}
+use Rattle.languages.specs.Contracts.{stringAt}
 
 -- ---- a prefix and a space
 module _ (p s : List ℕ) where
-  pub fits-space : (t : Bool) → t ≡ prefixOf p s → t ≡ true → length p < length s → eqb (getD s (length p) 0) 32 ≡ fits p s
-  unfolding fits
+  pub fits-space : (t : Bool) → t ≡ prefixOf p s → t ≡ true → length p < length s → eqb (getD s (length p) 0) 32 ≡ prefixFits p s
+  unfolding prefixFits
   fits-space t e q h =
       let some : 0 < length (drop (length p) s) = omega (arith, length-drop (length p) s) in
       and-rest _ _ _ (sym e ∙ q) (ap (λ (l : List ℕ). eqb (getD l 0 0) 32) (sym (drop-cons s (length p) 0 h)) ∙ first-some _ 32 some)
 
-  pub fits-end : length s ≤ length p → false ≡ fits p s
-  unfolding fits
+  pub fits-end : length s ≤ length p → false ≡ prefixFits p s
+  unfolding prefixFits
   fits-end h = and-no _ _ (first-none _ 32 (omega (arith, length-drop (length p) s)))
 
-  pub fits-not : (t : Bool) → t ≡ prefixOf p s → t ≡ false → false ≡ fits p s
-  unfolding fits
+  pub fits-not : (t : Bool) → t ≡ prefixOf p s → t ≡ false → false ≡ prefixFits p s
+  unfolding prefixFits
   fits-not t e q = and-none _ _ _ (sym e ∙ q) refl
 
 -- ---- a table, string by string: what is left from `at` on decides
@@ -95,7 +96,7 @@ module _ (t : List ℕ) (at a e : ℕ) (r : Next) (p : r ≡ stringAt t at) (q :
     walk-next : ((ts : List (List ℕ)) → g (take (e - a) (drop a t) ∷ ts) s ≡ g ts s) → Walking g s t e
     walk-next pass = record { fuel = w .fuel - 1; enough = omega (arith, string, w .enough); is = walk-one ∙ pass _ }
 
-  module _ (s : List ℕ) (b : Bool) (k : b ≡ fits (take (e - a) (drop a t)) s) (w : Walking firstFit s t at) where
+  module _ (s : List ℕ) (b : Bool) (k : b ≡ prefixFits (take (e - a) (drop a t)) s) (w : Walking firstFit s t at) where
     pub fit-next : b ≡ false → Walking firstFit s t e
     unfolding firstFit
     fit-next z = walk-next w (λ ts. pick-false _ _ _ (sym k ∙ z))

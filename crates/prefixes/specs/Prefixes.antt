@@ -30,13 +30,13 @@ prefixesOf Generic = generic
 prefixesOf Sephardic = sephardic
 
 -- s starts with p and a space
-unfoldable pub fits : List ℕ → List ℕ → Bool
-fits p s = and (prefixOf p s) (firstIs 32 (drop (length p) s))
+unfoldable pub prefixFits : List ℕ → List ℕ → Bool
+prefixFits p s = and (prefixOf p s) (firstIs 32 (drop (length p) s))
 
 -- the first that fits: its bytes are kept, and the space behind it is passed too
 unfoldable pub firstFit : List (List ℕ) → List ℕ → Prefix
 firstFit [] s = Whole
-firstFit (p ∷ ps) s = pick (fits p s) (Parted (length p) (suc (length p))) (firstFit ps s)
+firstFit (p ∷ ps) s = pick (prefixFits p s) (Parted (length p) (suc (length p))) (firstFit ps s)
 
 -- "if it starts with `d'`, or else with a prefix and a space (prefixes in the order below)"
 unfoldable pub splitOf : List ℕ → Prefix

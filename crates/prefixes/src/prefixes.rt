@@ -1,6 +1,6 @@
 // Prefixes of names (01, Spelling a name): small tables of bytes, walked in the stated order.
 ghost use mathlib.Core.Path.{_≡_};
-ghost use Rattle.prefixes.specs.Prefixes.{fits, firstFit, among, prefixesOf, splitOf, isPrefix};
+ghost use Rattle.prefixes.specs.Prefixes.{prefixFits, firstFit, among, prefixesOf, splitOf, isPrefix};
 ghost use Rattle.languages.specs.Names.{stringsOf};
 use languages::Next;
 
@@ -27,7 +27,7 @@ const SEPHARDIC: [u8; 62] =
 
 // Whether s starts with p and a space.
 fn fits_with_space(s: &[u8], p: &[u8]) -> bool
-    ensures { λ r. ⌜ r ≡ fits (now (p .entry)) (now (s .entry)) ⌝ }
+    ensures { λ r. ⌜ r ≡ prefixFits (now (p .entry)) (now (s .entry)) ⌝ }
 {
     if texts::starts_with(s, p) {
         let n = p.len();

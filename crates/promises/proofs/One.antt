@@ -8,9 +8,9 @@ use lib.ListN.{take, drop}
 use denote.Ref.{now}
 use Rattle.base.proofs.One.{one}
 use Rattle.promises.specs.Settled.{Settled, SettledBy}
-use Rattle.name_parts.specs.Writing.{Put}
+use Rattle.name_parts.specs.Contracts.{Put}
 use Rattle.bundles.proofs.Laws.{numbers-one}
-use Rattle.rule_lists.specs.Outcomes.{Outcome, fine, refused, Told}
+use Rattle.rule_lists.specs.Outcomes.{Loading, fine, notLoaded}
 use Rattle.rule_lists.specs.declared.writing.Written.{Written}
 use Rattle.rule_lists.specs.declared.writing.Written.the-variants.{Done, Refused}
 use Rattle.phoneme_builder.specs.declared.words.Worded.{Worded}
@@ -47,6 +47,7 @@ use Rattle.phoneme_builder.proofs as phoneme_builder
 use Rattle.engine.proofs as engine
 use Rattle.beider_morse.proofs as beider_morse
 use Rattle.bm.proofs as bm
+use Rattle.rule_lists.specs.Contracts.{WrittenIs}
 
 -- one result, and one content at its place among the parameters; of two buffers; of what was put into one
 
@@ -289,10 +290,10 @@ unfoldable pub kept : Written → List ℕ → List ℕ
 kept (Done n) o = o
 kept (Refused c l f) o = []
 
-told-one : {A : Type 0} (bytes : A → List ℕ) (t : Outcome A) (out : List ℕ) (at : ℕ) (x y : Written) (o p : List ℕ) → Told bytes t out o at x → Told bytes t out p at y → _≡_ {A = Written × List ℕ} (x, kept x o) (y, kept y p)
-unfolding Told kept
+told-one : {A : Type 0} (bytes : A → List ℕ) (t : Loading A) (out : List ℕ) (at : ℕ) (x y : Written) (o p : List ℕ) → WrittenIs bytes t out o at x → WrittenIs bytes t out p at y → _≡_ {A = Written × List ℕ} (x, kept x o) (y, kept y p)
+unfolding WrittenIs kept
 told-one bytes (fine v) out at x y o p (m, d, a) (n, e, b) = ap₂ (λ (r : Written) (c : List ℕ). (r, kept r c)) (d ∙ ap Done (one (a .ends) (b .ends)) ∙ sym e) (one (a .wrote) (b .wrote))
-told-one bytes (refused c l f) out at x y o p a b = ap (λ (r : Written). (r, kept r o)) a ∙ sym (ap (λ (r : Written). (r, kept r p)) b)
+told-one bytes (notLoaded c l f) out at x y o p a b = ap (λ (r : Written). (r, kept r o)) a ∙ sym (ap (λ (r : Written). (r, kept r p)) b)
 
 pub «rule_lists-write-lists» : SettledBy rule_lists.write_lists.ended {B = Written × List ℕ} (λ κs a x v. (x, kept x (v .1 .1 .1 .0))) rule_lists.write_lists.Reads.Asked rule_lists.write_lists.Reads.Learnt
 «rule_lists-write-lists» κs a = (tt, λ x y v w. told-one _ _ _ _ x y _ _)

@@ -4,7 +4,7 @@ ghost use Rattle.letters.specs.Reading.{codesOf};
 ghost use Rattle.texts.specs.Parts.{has};
 ghost use Rattle.regex_optim.specs.Contexts.{opening, memberOf, backChar, lastChar, wholeChar, firstChar, withoutCaret, withoutDollar, boxInner, boxed, formIn, kindOf, leftForm, rightForm, charFits, fits};
 ghost use Rattle.regex_optim.specs.Numbers.{formNumbers};
-ghost use Rattle.regex_optim.specs.Steps.{boxChar, boxKind, literalKind, literalFits, boxFits};
+ghost use Rattle.regex_optim.specs.Contracts.{boxChar, boxKind, literalKind, literalFits, boxFits};
 use letters::Step;
 
 // The forms of a context, named as in regex_optim.rs, or that it is none of them (15).

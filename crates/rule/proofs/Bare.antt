@@ -9,15 +9,17 @@ use lib.Dec.{eqb, ltb, leb·suc-suc}
 use lib.ListN.{length, getD, drop, drop-of-length-le}
 use lib.Seq.{drop-cons}
 use borrow.Author.Tests.{le-ltb, ne-eqb, ltb-false, eqb-false, leb-true}
-use Rattle.base.specs.Pick.{pick, and, pick-true, pick-false, pick-all, and-inv, and-first}
+use Rattle.base.specs.Pick.{pick, and}
 use Rattle.letters.specs.Utf8.{decodeAt}
-use Rattle.letters.specs.Reading.{Piece, letter, stray}
+use Rattle.letters.specs.Reading.{Symbol, symbol, strayByte}
 use Rattle.letters.specs.declared.utf8.Step.the-variants.{Char, Ill}
 use Rattle.letters.proofs.Utf8Laws.{decode-one, char-at, ill-in}
 use Rattle.letters.proofs.ReadingLaws.{Pieces, end, one, bad, pieces-of}
 use Rattle.texts.specs.Parts.{tail, front, firstIs, lastIs, placeOf, has}
-use Rattle.rule.specs.Matching.{plainCode, plainIn, ruleText, visible, allVisible, bare}
+use Rattle.rule.specs.Matching.{plainCode, plainIn, ruleText}
 use Rattle.regex_optim.specs.Contexts.{opening}
+use Rattle.base.proofs.PickLaws.{pick-true, pick-false, pick-all, and-inv, and-first}
+use Rattle.rule.specs.Contracts.{visible, allVisible, bare}
 
 -- ---- the loop: what is left from i on decides
 
@@ -89,15 +91,15 @@ module _ (but : ℕ) (s : List ℕ) (v : allVisible but s ≡ true) where
   one-at : (p : ℕ) → p < length s → Char (getD s p 0) 1 ≡ decodeAt s p
   one-at p h = let w = seen-at but s v p h in decode-one s p h (omega (arith, w .high))
 
-  plain-pieces : (p : ℕ) (l : List Piece) → Pieces s p l → plainIn l ≡ true
+  plain-pieces : (p : ℕ) (l : List Symbol) → Pieces s p l → plainIn l ≡ true
   unfolding plainIn
   plain-pieces p [] (end e) = refl
-  plain-pieces p (letter q k ∷ l) (one {n = n} e r) =
+  plain-pieces p (symbol q k ∷ l) (one {n = n} e r) =
       let i : p < length s = char-at s p k n e .start in
       let is : Char (getD s p 0) 1 ≡ Char k n = one-at p i ∙ e in
       let same : getD s p 0 ≡ k = cc in
       pick-true _ _ _ (ap plainCode (sym same) ∙ plain-seen but (getD s p 0) (seen-at but s v p i)) ∙ plain-pieces (p + n) l r
-  plain-pieces p (stray q b ∷ l) (bad e r) = let is : Char (getD s p 0) 1 ≡ Ill = one-at p (ill-in s p e) ∙ e in clash (cc)
+  plain-pieces p (strayByte q b ∷ l) (bad e r) = let is : Char (getD s p 0) 1 ≡ Ill = one-at p (ill-in s p e) ∙ e in clash (cc)
 
   visible-text : ruleText s ≡ true
   unfolding ruleText

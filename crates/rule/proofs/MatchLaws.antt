@@ -11,7 +11,7 @@ use lib.Seq.{take-all}
 use mir.Syntax.{w64}
 use mir.Val.{Fits}
 use borrow.Author.Tests.{lt-ltb, le-ltb}
-use Rattle.base.specs.Pick.{and, pick-true, pick-false, and-first, and-second, and-rest}
+use Rattle.base.specs.Pick.{and}
 use Rattle.letters.specs.Utf8.{decodeAt}
 use Rattle.letters.specs.Order.{sameText}
 use Rattle.letters.specs.declared.utf8.Step.{Step}
@@ -21,6 +21,7 @@ use Rattle.texts.specs.Parts.{prefixOf}
 use Rattle.texts.proofs.Laws.{prefix-short}
 use Rattle.regex_optim.specs.Contexts.{leftForm, rightForm, fits}
 use Rattle.rule.specs.Matching.{plainCode, plainIn, ruleText, codeIn, firstCode, ruleMatches}
+use Rattle.base.proofs.PickLaws.{pick-true, pick-false, and-first, and-second, and-rest}
 
 -- ---- the characters of a rule's string, as far as place p
 

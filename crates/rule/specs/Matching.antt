@@ -2,38 +2,27 @@
 use Prim.Native.Nat.{ℕ, _+_}
 use mathlib.Core.Bool.{Bool, true, false, not}
 use mathlib.Core.List.{List, [], _∷_}
-use lib.Dec.{eqb, leb, ltb}
+use lib.Dec.{eqb, ltb}
 use lib.ListN.{length, take, drop}
 use Rattle.base.specs.Pick.{pick, and}
 use Rattle.letters.specs.Utf8.{decodeAt}
-use Rattle.letters.specs.Reading.{Piece, letter, stray, piecesOf}
+use Rattle.letters.specs.Reading.{Symbol, symbol, strayByte, symbolsOf}
 use Rattle.letters.specs.declared.utf8.Step.{Step}
 use Rattle.letters.specs.declared.utf8.Step.the-variants.{Char, Ill, End}
 use Rattle.texts.specs.Parts.{prefixOf}
-use Rattle.regex_optim.specs.Contexts.{opening, leftForm, rightForm, fits}
+use Rattle.regex_optim.specs.Contexts.{leftForm, rightForm, fits}
 
 -- "any UTF-8 without U+0000 to U+001F, U+007F or the double quote"
 unfoldable pub plainCode : ℕ → Bool
 plainCode c = pick (ltb c 0x20) false (pick (eqb c 0x22) false (not (eqb c 0x7F)))
 
-unfoldable pub plainIn : List Piece → Bool
+unfoldable pub plainIn : List Symbol → Bool
 plainIn [] = true
-plainIn (letter p c ∷ l) = pick (plainCode c) (plainIn l) false
-plainIn (stray p b ∷ l) = false
+plainIn (symbol p c ∷ l) = pick (plainCode c) (plainIn l) false
+plainIn (strayByte p b ∷ l) = false
 
 unfoldable pub ruleText : List ℕ → Bool
-ruleText s = plainIn (piecesOf s)
-
--- quick tests: each byte is a character from `#` to `~` other than one; and, that one being `[`, a text with nothing to be read closer
-unfoldable pub visible : ℕ → ℕ → Bool
-visible but b = pick (ltb b 0x23) false (pick (eqb b but) false (leb b 0x7E))
-
-unfoldable pub allVisible : ℕ → List ℕ → Bool
-allVisible but [] = true
-allVisible but (x ∷ l) = and (visible but x) (allVisible but l)
-
-unfoldable pub bare : List ℕ → Bool
-bare s = allVisible opening s
+ruleText s = plainIn (symbolsOf s)
 
 -- "Rules stand by first character of the pattern"
 unfoldable pub codeIn : Step → ℕ

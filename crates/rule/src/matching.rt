@@ -1,6 +1,7 @@
 // What a rule's string may hold, and whether a rule matches at a place of a text.
 ghost use mathlib.Core.Path.{_≡_};
-ghost use Rattle.rule.specs.Matching.{plainCode, ruleText, visible, allVisible, bare, firstCode, ruleMatches};
+ghost use Rattle.rule.specs.Matching.{plainCode, ruleText, firstCode, ruleMatches};
+ghost use Rattle.rule.specs.Contracts.{visible, allVisible, bare};
 use letters::Step;
 
 // Whether a rule's string may hold the code point: no control, no double quote.

@@ -8,43 +8,46 @@ use native.Mathlib.Omega.{arith}
 use lib.Dec.{eqb, ltb}
 use lib.ListN.{length, take, drop}
 use borrow.Author.Tests.{eqb-true, ltb-false, leb-true, le-leb}
-use Rattle.base.specs.Pick.{pick, pick-inv, and-yes}
+use Rattle.base.specs.Pick.{pick}
 use Rattle.refusals.specs.declared.Refusal.{Refusal}
 use Rattle.refusals.specs.declared.Refusal.the-variants.{FileMissing, PatternEmpty, TooMuch}
 use Rattle.name_parts.proofs.Laws.{clash}
-use Rattle.pack.specs.Packs.{Rule, ordered}
-use Rattle.pack_bytes.specs.Bytes.{textBytes, textPut, countBytes, ruleBytes, listBytes}
-use Rattle.pack_bytes.specs.Bytes as bytes
-use Rattle.bundles.specs.Bundles.{File, Found, missing, found, filesOf, fileNamed}
-use Rattle.bundles.specs.Places.{numbersOf, fileAt}
+use Rattle.pack.specs.Packs.{Rule, orderedByCode}
+use Rattle.pack_bytes.specs.Bytes.{textBytes, countBytes, ruleBytes, listBytes}
+use Rattle.pack_bytes.specs.Contracts as bytes
+use Rattle.bundles.specs.Bundles.{File, Found, missing, found, fileNamed}
+use Rattle.bundles.specs.PlaceContracts.{fileNumbers, fileAt}
 use Rattle.bundles.specs.declared.FileAt.{FileAt}
 use Rattle.bundles.specs.declared.FileAt.the-variants.{At, Missing}
 use Rattle.bundles.proofs.Laws.{missing-is, found-is}
-use Rattle.held.specs.Met.{Met, finished}
-use Rattle.held.specs.Files.{Read, good, readListed}
+use Rattle.held.specs.Met.{Met, finished, bytesOfAll}
+use Rattle.held.specs.Files.{FileRead, wasRead, readListed}
 use Rattle.held.specs.Files as files
-use Rattle.held.specs.Tables.{bytesOf, keyBytes}
+use Rattle.held.specs.Contracts.{keyBytes}
 use Rattle.held.proofs.Finished.{From, finished-from, length-kept}
 use Rattle.held.proofs.Keys.{finished-keys}
 use Rattle.held.proofs.Reading.{listed-entries}
-use Rattle.rule_lists.specs.Outcomes.{Outcome, fine, refused, andThen, Told}
+use Rattle.rule_lists.specs.Outcomes.{Loading, fine, notLoaded, andLoad}
 use Rattle.rule_lists.specs.declared.lines.Fault.{Fault}
 use Rattle.rule_lists.specs.declared.lines.Fault.the-variants.{Is, Without}
-use Rattle.rule_lists.specs.Lines.{lengthFault, orElse, ruleFault, linesOf}
-use Rattle.rule_lists.specs.Tables.{KeptIs, keysOf, Low}
-use Rattle.rule_lists.specs.Walks.{firstOf, filesFor, counted, keptOf, CollectIs}
-use Rattle.rule_lists.specs.Writing.{rulePut, SomeKept, RowsPut}
-use Rattle.rule_lists.specs.Lists.{listIn, listOf}
+use Rattle.rule_lists.specs.Lines.{lengthFault, faultElse, ruleFault, linesOf}
+use Rattle.rule_lists.specs.TableContracts.{KeptIs, keysOf, Low}
+use Rattle.rule_lists.specs.Contracts.{keptAs, CollectIs, WrittenIs}
+use Rattle.rule_lists.specs.WritingContracts.{rulePut, SomeKept, RowsPut}
+use Rattle.rule_lists.specs.Lists.{listIn, listNamed, firstCodeOf, filesFor, countedRules}
 use Rattle.rule_lists.specs.declared.walk.Collected.{Collected}
 use Rattle.rule_lists.specs.declared.walk.Collected.the-variants as collected
 use Rattle.rule_lists.specs.declared.writing.Written.the-variants.{Done, Refused}
 use Rattle.rule_lists.proofs.TableLaws.{kept-rows, kept-low, keys-rows}
 use Rattle.rule_lists.proofs.WalkLaws.{GoodRead, each-read, each-finished, within-all}
+use Rattle.base.proofs.PickLaws.{pick-inv, and-yes}
+use Rattle.bundles.specs.Contracts.{filesOf}
+use Rattle.pack_bytes.specs.Contracts.{textPut}
 
 -- ---- a rule without a fault is written as a pack has it: its strings fit their length bytes
 
-or-first : (a b : Fault) → orElse a b ≡ Without → a ≡ Without
-unfolding orElse
+or-first : (a b : Fault) → faultElse a b ≡ Without → a ≡ Without
+unfolding faultElse
 or-first Without b e = refl
 or-first (Is w) b e = e
 
@@ -72,117 +75,117 @@ rule-short names r e =
     let w = lengths-short (length (r .pattern)) (length (r .left)) (length (r .right)) (length (r .expression)) (or-first _ _ e) in
     ap₂ _++_ (text-short (r .pattern) (w .0)) (ap₂ _++_ (text-short (r .left) (w .1)) (ap₂ _++_ (text-short (r .right) (w .2)) (text-short (r .expression) (w .3))))
 
-rules-short : (names : List ℕ) (rs : List Rule) → bytes.Each (GoodRead names) rs → bytesOf rulePut rs ≡ bytesOf ruleBytes rs
-unfolding bytesOf
+rules-short : (names : List ℕ) (rs : List Rule) → bytes.Each (GoodRead names) rs → bytesOfAll rulePut rs ≡ bytesOfAll ruleBytes rs
+unfolding bytesOfAll
 rules-short names [] bytes.none = refl
 rules-short names (r ∷ rs) (bytes.more h e) = ap₂ _++_ (rule-short names r (h .fault)) (rules-short names rs e)
 
 -- ---- what is told of a file
 
-counted-fine : (x : Read Rule) (t : Met Rule) → counted x ≡ fine t → (x ≡ good t) × (length (finished firstOf t) ≤ 4096)
-unfolding counted
-counted-fine (good u) t e = ⊎-elim (λ w. let q : u ≡ t = cc (w .1) in (ap good q, rw q at (leb-true (length (finished firstOf u)) 4096 (w .0)))) (λ w. clash (cc (w .1))) (pick-inv _ (fine u) (refused TooMuch 0 0) (fine t) e)
-counted-fine (files.refused c l f) t e = clash (cc)
+counted-fine : (x : FileRead Rule) (t : Met Rule) → countedRules x ≡ fine t → (x ≡ wasRead t) × (length (finished firstCodeOf t) ≤ 4096)
+unfolding countedRules
+counted-fine (wasRead u) t e = ⊎-elim (λ w. let q : u ≡ t = cc (w .1) in (ap wasRead q, rw q at (leb-true (length (finished firstCodeOf u)) 4096 (w .0)))) (λ w. clash (cc (w .1))) (pick-inv _ (fine u) (notLoaded TooMuch 0 0) (fine t) e)
+counted-fine (files.notRead c l f) t e = clash (cc)
 
-collect-done : (bundle : List ℕ) (x : Outcome (Met Rule)) (g : Collected) (rows : List ℕ) (n : ℕ) → CollectIs bundle x g rows → g ≡ collected.Rules n → (t : Met Rule) × (x ≡ fine t) × KeptIs bundle rows n (keptOf t)
+collect-done : (bundle : List ℕ) (x : Loading (Met Rule)) (g : Collected) (rows : List ℕ) (n : ℕ) → CollectIs bundle x g rows → g ≡ collected.Rules n → (t : Met Rule) × (x ≡ fine t) × KeptIs bundle rows n (keptAs t)
 unfolding CollectIs
 collect-done bundle (fine t) g rows n w e = let q : w .0 ≡ n = cc (w .1) in (t, refl, rw q at (w .2))
-collect-done bundle (refused c l f) g rows n w e = clash (cc)
+collect-done bundle (notLoaded c l f) g rows n w e = clash (cc)
 
-collect-stop : (bundle : List ℕ) (x : Outcome (Met Rule)) (g : Collected) (rows : List ℕ) (c : Refusal) (l f : ℕ) → CollectIs bundle x g rows → g ≡ collected.Refused c l f → x ≡ refused c l f
+collect-stop : (bundle : List ℕ) (x : Loading (Met Rule)) (g : Collected) (rows : List ℕ) (c : Refusal) (l f : ℕ) → CollectIs bundle x g rows → g ≡ collected.Refused c l f → x ≡ notLoaded c l f
 unfolding CollectIs
 collect-stop bundle (fine t) g rows c l f w e = clash (cc (w .1))
-collect-stop bundle (refused d m k) g rows c l f w e = cc
+collect-stop bundle (notLoaded d m k) g rows c l f w e = cc
 
 -- the list that was read
-module _ (names : List ℕ) (fs : List File) (k : ℕ) (s : List ℕ) (t : Met Rule) (e : counted (readListed (filesFor names fs) k (linesOf names s)) ≡ fine t) where
-  read : readListed (filesFor names fs) k (linesOf names s) ≡ good t
+module _ (names : List ℕ) (fs : List File) (k : ℕ) (s : List ℕ) (t : Met Rule) (e : countedRules (readListed (filesFor names fs) k (linesOf names s)) ≡ fine t) where
+  read : readListed (filesFor names fs) k (linesOf names s) ≡ wasRead t
   read = counted-fine _ t e .0
 
-  few-finished : length (finished firstOf t) ≤ 4096
+  few-finished : length (finished firstCodeOf t) ≤ 4096
   few-finished = counted-fine _ t e .1
 
-  good-finished : bytes.Each (GoodRead names) (finished firstOf t)
-  good-finished = each-finished (GoodRead names) firstOf t (each-read names fs k s t read)
+  good-finished : bytes.Each (GoodRead names) (finished firstCodeOf t)
+  good-finished = each-finished (GoodRead names) firstCodeOf t (each-read names fs k s t read)
 
   -- rows that are kept, written by their keys, are the finished list
-  list-bytes : (bundle rows : List ℕ) (n : ℕ) → KeptIs bundle rows n (keptOf t) → countBytes n ++ keyBytes rulePut (keptOf t) (keysOf rows n 0 []) ≡ listBytes (finished firstOf t)
-  unfolding listBytes keptOf
+  list-bytes : (bundle rows : List ℕ) (n : ℕ) → KeptIs bundle rows n (keptAs t) → countBytes n ++ keyBytes rulePut (keptAs t) (keysOf rows n 0 []) ≡ listBytes (finished firstCodeOf t)
+  unfolding listBytes keptAs
   list-bytes bundle rows n h =
       let short = listed-entries _ k _ t read in
-      let all = length-kept firstOf t short (within-all t) in
-      let size : n ≡ length (finished firstOf t) = omega (arith, h .count, all, few-finished) in
-      let kept : length (keptOf t) ≡ n = all ∙ sym size in
+      let all = length-kept firstCodeOf t short (within-all t) in
+      let size : n ≡ length (finished firstCodeOf t) = omega (arith, h .count, all, few-finished) in
+      let kept : length (keptAs t) ≡ n = all ∙ sym size in
       let few : n ≤ 4096 = omega (arith, few-finished) in
       ap₂ _++_ (ap countBytes size)
-      (ap (keyBytes rulePut (keptOf t)) (ap (λ (m : ℕ). keysOf rows m 0 []) (sym kept) ∙ keys-rows bundle rows (keptOf t) (kept-rows h few))
-      ∙ finished-keys firstOf rulePut t short (within-all t) (omega (arith, kept)) ∙ rules-short names (finished firstOf t) good-finished)
+      (ap (keyBytes rulePut (keptAs t)) (ap (λ (m : ℕ). keysOf rows m 0 []) (sym kept) ∙ keys-rows bundle rows (keptAs t) (kept-rows h few))
+      ∙ finished-keys firstCodeOf rulePut t short (within-all t) (omega (arith, kept)) ∙ rules-short names (finished firstCodeOf t) good-finished)
 
-module _ (bundle names wanted : List ℕ) (f : FileAt) (w : numbersOf f ≡ fileAt bundle wanted) where
-  pub list-missing : f ≡ Missing → (o : List ℕ) (at : ℕ) → Told listBytes (listOf names (filesOf bundle) wanted) o o at (Refused FileMissing 0 0)
-  unfolding listOf listIn Told
+module _ (bundle names wanted : List ℕ) (f : FileAt) (w : fileNumbers f ≡ fileAt bundle wanted) where
+  pub list-missing : f ≡ Missing → (o : List ℕ) (at : ℕ) → WrittenIs listBytes (listNamed names (filesOf bundle) wanted) o o at (Refused FileMissing 0 0)
+  unfolding listNamed listIn WrittenIs
   list-missing q o at = rw (missing-is bundle wanted f w q) refl
 
   module _ (k a b : ℕ) (q : f ≡ At k a b) where
-    list-found : listOf names (filesOf bundle) wanted ≡ andThen (counted (readListed (filesFor names (filesOf bundle)) k (linesOf names (take (b - a) (drop a bundle))))) (λ t. fine (finished firstOf t))
-    unfolding listOf listIn
+    list-found : listNamed names (filesOf bundle) wanted ≡ andLoad (countedRules (readListed (filesFor names (filesOf bundle)) k (linesOf names (take (b - a) (drop a bundle))))) (λ t. fine (finished firstCodeOf t))
+    unfolding listNamed listIn
     list-found = ap (listIn names (filesOf bundle)) (found-is bundle wanted f w k a b q)
 
-    module _ (g : Collected) (rows : List ℕ) (v : CollectIs bundle (counted (readListed (filesFor names (filesOf bundle)) k (linesOf names (take (b - a) (drop a bundle))))) g rows) where
-      pub list-refused : (c : Refusal) (l i : ℕ) → g ≡ collected.Refused c l i → (o o′ : List ℕ) (at : ℕ) → Told listBytes (listOf names (filesOf bundle) wanted) o o′ at (Refused c l i)
-      unfolding Told andThen
+    module _ (g : Collected) (rows : List ℕ) (v : CollectIs bundle (countedRules (readListed (filesFor names (filesOf bundle)) k (linesOf names (take (b - a) (drop a bundle))))) g rows) where
+      pub list-refused : (c : Refusal) (l i : ℕ) → g ≡ collected.Refused c l i → (o o′ : List ℕ) (at : ℕ) → WrittenIs listBytes (listNamed names (filesOf bundle) wanted) o o′ at (Refused c l i)
+      unfolding WrittenIs andLoad
       list-refused c l i e o o′ at = rw (list-found, collect-stop bundle _ g rows c l i v e) refl
 
       module _ (n : ℕ) (e : g ≡ collected.Rules n) where
-        told : (t : Met Rule) × (counted (readListed (filesFor names (filesOf bundle)) k (linesOf names (take (b - a) (drop a bundle)))) ≡ fine t) × KeptIs bundle rows n (keptOf t)
+        told : (t : Met Rule) × (countedRules (readListed (filesFor names (filesOf bundle)) k (linesOf names (take (b - a) (drop a bundle)))) ≡ fine t) × KeptIs bundle rows n (keptAs t)
         told = collect-done bundle _ g rows n v e
 
         pub list-kept : SomeKept bundle rows n
-        list-kept = record { some = (keptOf (told .0), told .2) }
+        list-kept = record { some = (keptAs (told .0), told .2) }
 
         pub list-size : length rows ≡ 16384
         list-size = told .2 .size
 
         pub list-few : n ≤ 4096
-        unfolding keptOf
+        unfolding keptAs
         list-few =
             let short = listed-entries _ k _ (told .0) (read _ _ k _ (told .0) (told .1)) in
-            omega (arith, told .2 .count, length-kept firstOf (told .0) short (within-all (told .0)), few-finished _ _ k _ (told .0) (told .1))
+            omega (arith, told .2 .count, length-kept firstCodeOf (told .0) short (within-all (told .0)), few-finished _ _ k _ (told .0) (told .1))
 
         pub list-low : Low rows n
-        list-low = kept-low bundle rows n (keptOf (told .0)) (told .2) list-few
+        list-low = kept-low bundle rows n (keptAs (told .0)) (told .2) list-few
 
-        pub list-told : (o o′ : List ℕ) (at p : ℕ) → RowsPut bundle rows n o at p o′ → Told listBytes (listOf names (filesOf bundle) wanted) o o′ at (Done p)
-        unfolding Told andThen
-        list-told o o′ at p u = rw (list-found, told .1) (p, refl, rw (list-bytes _ _ k _ (told .0) (told .1) bundle rows n (told .2)) at (u .is (keptOf (told .0)) (told .2)))
+        pub list-told : (o o′ : List ℕ) (at p : ℕ) → RowsPut bundle rows n o at p o′ → WrittenIs listBytes (listNamed names (filesOf bundle) wanted) o o′ at (Done p)
+        unfolding WrittenIs andLoad
+        list-told o o′ at p u = rw (list-found, told .1) (p, refl, rw (list-bytes _ _ k _ (told .0) (told .1) bundle rows n (told .2)) at (u .is (keptAs (told .0)) (told .2)))
 
 pub ruleset file-laws = (list-missing, list-refused, list-kept, list-size, list-few, list-low, list-told)
 
 -- ---- what every list has
 
-ordered-from : (c : ℕ) (rs : List Rule) → From firstOf c rs → ordered rs ≡ true
-unfolding ordered firstOf
+ordered-from : (c : ℕ) (rs : List Rule) → From firstCodeOf c rs → orderedByCode rs ≡ true
+unfolding orderedByCode firstCodeOf
 ordered-from c [] h = refl
 ordered-from c (x ∷ []) h = refl
-ordered-from c (x ∷ y ∷ l) h = and-yes _ _ (le-leb _ _ (h .1 .0)) (ordered-from (firstOf x) (y ∷ l) (h .1))
+ordered-from c (x ∷ y ∷ l) h = and-yes _ _ (le-leb _ _ (h .1 .0)) (ordered-from (firstCodeOf x) (y ∷ l) (h .1))
 
 pub record GoodList (names : List ℕ) (rs : List Rule) : Type 0 where
   pub each : bytes.Each (GoodRead names) rs
   pub few : length rs ≤ 4096
-  pub order : ordered rs ≡ true
+  pub order : orderedByCode rs ≡ true
 
-found-good : (names : List ℕ) (fs : List File) (k : ℕ) (s : List ℕ) (rs : List Rule) (x : Outcome (Met Rule)) → counted (readListed (filesFor names fs) k (linesOf names s)) ≡ x → andThen x (λ t. fine (finished firstOf t)) ≡ fine rs → GoodList names rs
-unfolding andThen
+found-good : (names : List ℕ) (fs : List File) (k : ℕ) (s : List ℕ) (rs : List Rule) (x : Loading (Met Rule)) → countedRules (readListed (filesFor names fs) k (linesOf names s)) ≡ x → andLoad x (λ t. fine (finished firstCodeOf t)) ≡ fine rs → GoodList names rs
+unfolding andLoad
 found-good names fs k s rs (fine t) e h =
-    let same : finished firstOf t ≡ rs = cc in
-    subst (GoodList names) same (record { each = good-finished names fs k s t e; few = few-finished names fs k s t e; order = ordered-from 0 _ (finished-from firstOf t) })
-found-good names fs k s rs (refused c l f) e h = clash (cc)
+    let same : finished firstCodeOf t ≡ rs = cc in
+    subst (GoodList names) same (record { each = good-finished names fs k s t e; few = few-finished names fs k s t e; order = ordered-from 0 _ (finished-from firstCodeOf t) })
+found-good names fs k s rs (notLoaded c l f) e h = clash (cc)
 
 good-in : (names : List ℕ) (fs : List File) (rs : List Rule) (x : Found) → listIn names fs x ≡ fine rs → GoodList names rs
 unfolding listIn
 good-in names fs rs missing h = clash (cc)
 good-in names fs rs (found k s) h = found-good names fs k s rs _ refl h
 
-pub list-good : (names : List ℕ) (fs : List File) (w : List ℕ) (rs : List Rule) → listOf names fs w ≡ fine rs → GoodList names rs
-unfolding listOf
+pub list-good : (names : List ℕ) (fs : List File) (w : List ℕ) (rs : List Rule) → listNamed names fs w ≡ fine rs → GoodList names rs
+unfolding listNamed
 list-good names fs w rs h = good-in names fs rs (fileNamed w 0 fs) h

@@ -13,9 +13,9 @@ use Rattle.refusals.specs.declared.Refusal.{Refusal}
 use Rattle.refusals.specs.declared.Refusal.the-variants.{FileMissing, IncludeTooDeep}
 use Rattle.rule.specs.Matching.{firstCode}
 use Rattle.pack.specs.Packs.{Rule}
-use Rattle.bundles.specs.Bundles.{Found, missing, found, filesOf, fileNamed}
+use Rattle.bundles.specs.Bundles.{Found, missing, found, fileNamed}
 use Rattle.rules_parser.specs.Fields.{partOf}
-use Rattle.rules_parser.specs.Files.{itemAt, itemsAt}
+use Rattle.rules_parser.specs.Files.{itemAt}
 use Rattle.rules_parser.specs.declared.fields.Text.{Text}
 use Rattle.rules_parser.specs.declared.lines.FileKind.the-variants.{Rules}
 use Rattle.rules_parser.specs.declared.lines.Told as line-told
@@ -24,12 +24,12 @@ use Rattle.rules_parser.specs.declared.files.Item.{Item}
 use Rattle.rules_parser.specs.declared.files.Item.the-variants as item
 use Rattle.rules_parser.proofs.Laws.{passed-goes, passed-in, passed-lines, tells-goes, tells-in, items-start, items-end, items-passed, items-tells, items-wrong}
 use Rattle.held.specs.Met.{end, rule, file, entries}
-use Rattle.held.specs.Files.{Line, passed, is-rule, include, bad, Read, good, refused, before, onRead, onContent, readLines, follow}
+use Rattle.held.specs.Files.{Line, passed, is-rule, include, badLine, FileRead, wasRead, notRead, before, onRead, onContent, readLines, follow}
 use Rattle.rule_lists.specs.declared.lines.Fault.{Fault}
 use Rattle.rule_lists.specs.declared.lines.Fault.the-variants.{Is, Without}
-use Rattle.rule_lists.specs.Lines.{ruleFault, ruleIn, judged, lineOf, linesOf, rowBy, rowOf, rowIn, rowAt}
-use Rattle.rule_lists.specs.Tables.{Reads, SpotIs}
-use Rattle.rule_lists.specs.Walks.{contentIn, filesFor, Known, ruled, tally, stateOf, Holds, Ready, RuledIs, not, entryIn, entryOf, EntersIs, Told, readFrom, WalkIs}
+use Rattle.rule_lists.specs.Lines.{ruleFault, ruleIn, judgedRule, lineOf, linesOf}
+use Rattle.rule_lists.specs.TableContracts.{RowReads, SpotIs}
+use Rattle.rule_lists.specs.Contracts.{Known, ruled, tally, stateOf, StateHolds, Ready, RuledIs, not, openingIn, openingOf, EntersIs, Told, readFrom, WalkIs, rowBy, rowTold, rowIn, rowAt}
 use Rattle.rule_lists.specs.declared.lines.Row.{Row}
 use Rattle.rule_lists.specs.declared.lines.Row.the-variants as row
 use Rattle.rule_lists.specs.declared.walk.Task.{Task}
@@ -39,6 +39,9 @@ use Rattle.rule_lists.specs.declared.walk.Walked.{Walked}
 use Rattle.rule_lists.specs.declared.walk.Walked.the-variants.{Done, Refused}
 use Rattle.rule_lists.specs.declared.walk.Entered.{Entered}
 use Rattle.rule_lists.specs.declared.walk.Entered.the-variants.{Go, Not}
+use Rattle.rule_lists.specs.Lists.{contentIn, filesFor}
+use Rattle.bundles.specs.Contracts.{filesOf}
+use Rattle.rules_parser.specs.Contracts.{itemsAt}
 
 pub clash : {A : Type 0} → _≡_ {A = ℕ} 0 1 → A
 clash e = absurd (omega arith)
@@ -59,7 +62,7 @@ pub record RuleRow (names s : List ℕ) (p k n : ℕ) : Type 0 where
   pub is : Rule
   pub first : k ≡ firstCode (is .pattern)
   pub sound : ruleFault names is ≡ Without
-  pub reads : Reads s p is
+  pub reads : RowReads s p is
   pub goes : Goes names s p 1 n (is-rule is)
 
 -- what a row tells of the lines from p on
@@ -67,7 +70,7 @@ unfoldable pub Here : (names s : List ℕ) (p : ℕ) → Row → Type 0
 Here names s p (row.Passed k n) = Goes names s p k n (passed k)
 Here names s p (row.Rule k n) = RuleRow names s p k n
 Here names s p (row.Include t n) = Goes names s p 1 n (include (partOf s t))
-Here names s p (row.Bad k) = (ls : List (Line Rule)) × (linesAt names s p ≡ bad k ∷ ls)
+Here names s p (row.Bad k) = (ls : List (Line Rule)) × (linesAt names s p ≡ badLine k ∷ ls)
 
 module _ (names s : List ℕ) (p : ℕ) (h : p < length s) where
   told-goes : (t : line-told.Told) (n : ℕ) → itemAt Rules s p ≡ item.Tells t n → Goes names s p 1 n (lineOf names s (item.Tells t n))
@@ -76,14 +79,14 @@ module _ (names s : List ℕ) (p : ℕ) (h : p < length s) where
       record { left = ap (map (lineOf names s)) (items-tells Rules s p t n e); ahead = a; inside = tells-in Rules s p t n e; lines = omega arith }
 
   here-by : (i : Item) → itemAt Rules s p ≡ i → Here names s p (rowIn names s i)
-  unfolding Here rowIn lineOf rowOf rowBy judged pick
+  unfolding Here rowIn lineOf rowTold rowBy judgedRule pick
   here-by (item.Passed k n) q =
       let a = passed-goes Rules s p k n q in
       let b = passed-lines Rules s p k n q in
       record { left = ap (map (lineOf names s)) (items-passed Rules s p k n q); ahead = a; inside = passed-in Rules s p k n q; lines = omega arith }
   here-by (item.Tells (told.Rule a b c d) n) q = go (ruleFault names (ruleIn s a b c d)) refl (told-goes _ n q)
     where
-      go : (x : Fault) → ruleFault names (ruleIn s a b c d) ≡ x → Goes names s p 1 n (judged x (ruleIn s a b c d)) → Here names s p (rowBy x (firstCode (partOf s a)) n)
+      go : (x : Fault) → ruleFault names (ruleIn s a b c d) ≡ x → Goes names s p 1 n (judgedRule x (ruleIn s a b c d)) → Here names s p (rowBy x (firstCode (partOf s a)) n)
       go Without e g = record { is = ruleIn s a b c d; first = refl; sound = e; reads = record { a = a; b = b; c = c; d = d; next = n; says = q; is = refl }; goes = g }
       go (Is w) e g = (linesAt names s n, g .left)
   here-by (item.Tells (told.Include t) n) q = told-goes _ n q
@@ -107,7 +110,7 @@ module _ (names s : List ℕ) (p : ℕ) (h : p < length s) where
   unfolding Here
   at-include t n e = here _ e
 
-  at-bad : (k : Refusal) → rowAt names s p ≡ row.Bad k → (ls : List (Line Rule)) × (linesAt names s p ≡ bad k ∷ ls)
+  at-bad : (k : Refusal) → rowAt names s p ≡ row.Bad k → (ls : List (Line Rule)) × (linesAt names s p ≡ badLine k ∷ ls)
   unfolding Here
   at-bad k e = here _ e
 
@@ -115,39 +118,39 @@ module _ (names s : List ℕ) (p : ℕ) (h : p < length s) where
 
 module _ (bundle names : List ℕ) (f l : ℕ) where
   -- the file's own reading, where it may be entered; else the refusal
-  unfoldable Follows : Entered → ℕ → ℕ → Read Rule → Type 0
+  unfoldable Follows : Entered → ℕ → ℕ → FileRead Rule → Type 0
   Follows (Go g a b) left n x = (0 < left) × (n < 256) × (a ≤ b) × (b ≤ length bundle) × (x ≡ readFrom bundle names (left - 1) g (n + 1) (take (b - a) (drop a bundle)))
-  Follows (Not k) left n x = x ≡ refused k l f
+  Follows (Not k) left n x = x ≡ notRead k l f
 
-  follows : (left : ℕ) (g : List ℕ) (n : ℕ) (r : Entered) → EntersIs bundle (entryOf bundle left g n) r → Follows r left n (follow (filesFor names (filesOf bundle)) left g f l n)
-  unfolding Follows follow entryOf EntersIs entryIn contentIn onContent readFrom pick filesFor
-  follows zero g n r e = subst (λ (z : Entered). Follows z zero n (refused IncludeTooDeep l f)) (sym e) refl
+  follows : (left : ℕ) (g : List ℕ) (n : ℕ) (r : Entered) → EntersIs bundle (openingOf bundle left g n) r → Follows r left n (follow (filesFor names (filesOf bundle)) left g f l n)
+  unfolding Follows follow openingOf EntersIs openingIn contentIn onContent readFrom pick filesFor
+  follows zero g n r e = subst (λ (z : Entered). Follows z zero n (notRead IncludeTooDeep l f)) (sym e) refl
   follows (suc left) g n r e = deep (leb 256 n) refl e
     where
-      into : (x : Found) → fileNamed g 0 (filesOf bundle) ≡ x → n < 256 → EntersIs bundle (entryIn x) r
-          → Follows r (suc left) n (onContent (contentIn names x) (refused FileMissing l f) (λ h ls. readLines (follow (filesFor names (filesOf bundle)) left) h 1 (n + 1) ls))
-      into missing q h e = subst (λ (z : Entered). Follows z (suc left) n (refused FileMissing l f)) (sym e) refl
+      into : (x : Found) → fileNamed g 0 (filesOf bundle) ≡ x → n < 256 → EntersIs bundle (openingIn x) r
+          → Follows r (suc left) n (onContent (contentIn names x) (notRead FileMissing l f) (λ h ls. readLines (follow (filesFor names (filesOf bundle)) left) h 1 (n + 1) ls))
+      into missing q h e = subst (λ (z : Entered). Follows z (suc left) n (notRead FileMissing l f)) (sym e) refl
       into (found k c) q h e =
           let w = e .3 in
           let z : suc left - 1 ≡ left = omega arith in
           subst (λ (z : Entered). Follows z (suc left) n (readLines (follow (filesFor names (filesOf bundle)) left) k 1 (n + 1) (linesOf names c))) (sym (e .2))
           (omega arith, h, w .order, w .within, rw (w .is, z) refl)
 
-      deep : (t : Bool) → leb 256 n ≡ t → EntersIs bundle (pick t (not IncludeTooDeep) (entryIn (fileNamed g 0 (filesOf bundle)))) r
-          → Follows r (suc left) n (pick t (refused IncludeTooDeep l f) (onContent (filesFor names (filesOf bundle) g) (refused FileMissing l f) (λ h ls. readLines (follow (filesFor names (filesOf bundle)) left) h 1 (n + 1) ls)))
-      deep true q e = subst (λ (z : Entered). Follows z (suc left) n (refused IncludeTooDeep l f)) (sym e) refl
+      deep : (t : Bool) → leb 256 n ≡ t → EntersIs bundle (pick t (not IncludeTooDeep) (openingIn (fileNamed g 0 (filesOf bundle)))) r
+          → Follows r (suc left) n (pick t (notRead IncludeTooDeep l f) (onContent (filesFor names (filesOf bundle) g) (notRead FileMissing l f) (λ h ls. readLines (follow (filesFor names (filesOf bundle)) left) h 1 (n + 1) ls)))
+      deep true q e = subst (λ (z : Entered). Follows z (suc left) n (notRead IncludeTooDeep l f)) (sym e) refl
       deep false q e = into (fileNamed g 0 (filesOf bundle)) refl (leb-false 256 n q) e
 
 -- ---- what is told, line by line
 
-told-rule : (bundle : List ℕ) (task : Task) (own : ℕ) (st st′ : State) (a : Known) (r : Rule) (x : Read Rule) (w : Walked) (l m : List ℕ) → st′ .followed ≡ st .followed
+told-rule : (bundle : List ℕ) (task : Task) (own : ℕ) (st st′ : State) (a : Known) (r : Rule) (x : FileRead Rule) (w : Walked) (l m : List ℕ) → st′ .followed ≡ st .followed
     → Told bundle task own st′ (ruled task own (st .followed) a r) x w l m → Told bundle task own st a (before (rule r) x) w l m
 unfolding Told before tally entries
-told-rule bundle task own st st′ a r (good t) w l m e v = (v .0, v .1, v .2 ∙ ap (λ (n : ℕ). n + entries t) e, rw e at (v .3))
-told-rule bundle task own st st′ a r (refused c k f) w l m e v = v
+told-rule bundle task own st st′ a r (wasRead t) w l m e v = (v .0, v .1, v .2 ∙ ap (λ (n : ℕ). n + entries t) e, rw e at (v .3))
+told-rule bundle task own st st′ a r (notRead c k f) w l m e v = v
 
 -- the same where the rest is read by how many includes were followed
-told-rule-on : (bundle : List ℕ) (task : Task) (own : ℕ) (st st′ : State) (a : Known) (r : Rule) (k : ℕ → Read Rule) (w : Walked) (l m : List ℕ) → st′ .followed ≡ st .followed
+told-rule-on : (bundle : List ℕ) (task : Task) (own : ℕ) (st st′ : State) (a : Known) (r : Rule) (k : ℕ → FileRead Rule) (w : Walked) (l m : List ℕ) → st′ .followed ≡ st .followed
     → Told bundle task own st′ (ruled task own (st .followed) a r) (k (st′ .followed)) w l m → Told bundle task own st a (before (rule r) (k (st .followed))) w l m
 told-rule-on bundle task own st st′ a r k w l m e v = subst (λ (n : ℕ). Told bundle task own st a (before (rule r) (k n)) w l m) e (told-rule bundle task own st st′ a r (k (st′ .followed)) w l m e v)
 
@@ -156,36 +159,36 @@ abbrev more : State → State
 more st = stateOf (st .followed + 1) (st .noted) (st .kept)
 
 -- the reading of the included file, and then the rest
-abbrev Behind : State → (ℕ → Read Rule) → Read Rule → Read Rule
+abbrev Behind : State → (ℕ → FileRead Rule) → FileRead Rule → FileRead Rule
 Behind st k x = onRead x (λ t. before (file t) (k (st .followed + 1 + entries t)))
 
-module _ (bundle : List ℕ) (task : Task) (own : ℕ) (st : State) (a : Known) (k : ℕ → Read Rule) (w : Walked) (lasts rows : List ℕ) where
-  told-in : (x : Read Rule) (st′ : State) → Told bundle task (st .followed + 1) (more st) a x w lasts rows → w ≡ Done st′
-      → (b : Known) × Holds bundle lasts rows st′ b × ((z : Walked) (l m : List ℕ) → Told bundle task own st′ b (k (st′ .followed)) z l m → Told bundle task own st a (Behind st k x) z l m)
+module _ (bundle : List ℕ) (task : Task) (own : ℕ) (st : State) (a : Known) (k : ℕ → FileRead Rule) (w : Walked) (lasts rows : List ℕ) where
+  told-in : (x : FileRead Rule) (st′ : State) → Told bundle task (st .followed + 1) (more st) a x w lasts rows → w ≡ Done st′
+      → (b : Known) × StateHolds bundle lasts rows st′ b × ((z : Walked) (l m : List ℕ) → Told bundle task own st′ b (k (st′ .followed)) z l m → Told bundle task own st a (Behind st k x) z l m)
   unfolding Told onRead before tally entries
-  told-in (good t) st′ v e =
+  told-in (wasRead t) st′ v e =
       let q : v .0 ≡ st′ = cc (v .1) in
       let n : st′ .followed ≡ st .followed + 1 + entries t = rw q at (v .2) in
       (tally task (st .followed + 1) (st .followed + 1) a t, rw q at (v .3), λ z l m u. rw (← n) (into n (k (st′ .followed)) z l m u))
     where
-      into : st′ .followed ≡ st .followed + 1 + entries t → (x : Read Rule) (z : Walked) (l m : List ℕ)
+      into : st′ .followed ≡ st .followed + 1 + entries t → (x : FileRead Rule) (z : Walked) (l m : List ℕ)
           → Told bundle task own st′ (tally task (st .followed + 1) (st .followed + 1) a t) x z l m → Told bundle task own st a (before (file t) x) z l m
-      into n (good i) z l m u = (u .0, u .1, omega (arith, u .2), rw n at (u .3))
-      into n (refused c j f) z l m u = u
-  told-in (refused c l f) st′ v e = clash (cc)
+      into n (wasRead i) z l m u = (u .0, u .1, omega (arith, u .2), rw n at (u .3))
+      into n (notRead c j f) z l m u = u
+  told-in (notRead c l f) st′ v e = clash (cc)
 
-  told-stop : (x : Read Rule) (c : Refusal) (l f : ℕ) (lasts′ rows′ : List ℕ) → Told bundle task (st .followed + 1) (more st) a x w lasts rows → w ≡ Refused c l f
+  told-stop : (x : FileRead Rule) (c : Refusal) (l f : ℕ) (lasts′ rows′ : List ℕ) → Told bundle task (st .followed + 1) (more st) a x w lasts rows → w ≡ Refused c l f
       → Told bundle task own st a (Behind st k x) (Refused c l f) lasts′ rows′
   unfolding Told onRead
-  told-stop (good t) c l f lasts′ rows′ v e = clash (cc (v .1))
-  told-stop (refused b m g) c l f lasts′ rows′ v e = sym e ∙ v
+  told-stop (wasRead t) c l f lasts′ rows′ v e = clash (cc (v .1))
+  told-stop (notRead b m g) c l f lasts′ rows′ v e = sym e ∙ v
 
 -- ---- what is left and the whole
 
 -- a₀ being known at the start, so much is known now, and what is told of x from here on is told of x₀ from the start on
-pub record Onwards (bundle lasts rows : List ℕ) (task : Task) (own : ℕ) (st : State) (x : Read Rule) (st₀ : State) (a₀ : Known) (x₀ : Read Rule) : Type 0 where
+pub record Onwards (bundle lasts rows : List ℕ) (task : Task) (own : ℕ) (st : State) (x : FileRead Rule) (st₀ : State) (a₀ : Known) (x₀ : FileRead Rule) : Type 0 where
   pub what : Known
-  pub holds : Holds bundle lasts rows st what
+  pub holds : StateHolds bundle lasts rows st what
   pub tells : (w : Walked) (l m : List ℕ) → Told bundle task own st what x w l m → Told bundle task own st₀ a₀ x₀ w l m
 
 pub record Going (bundle names : List ℕ) (f start end left : ℕ) (task : Task) (lasts₀ rows₀ s : List ℕ) (own : ℕ) (st₀ : State) (lasts rows : List ℕ) (st : State) (p line : ℕ) : Type 0 where
@@ -201,7 +204,7 @@ pub record Going (bundle names : List ℕ) (f start end left : ℕ) (task : Task
   pub count : line ≤ p + 1
   pub ready : Ready bundle task st lasts rows
   pub noted : task ≡ Collect → st .noted ≡ st₀ .noted
-  pub is : (a₀ : Known) → Holds bundle lasts₀ rows₀ st₀ a₀
+  pub is : (a₀ : Known) → StateHolds bundle lasts₀ rows₀ st₀ a₀
       → Onwards bundle lasts rows task own st (readLines (follow (filesFor names (filesOf bundle)) left) f line (st .followed) (linesAt names s p)) st₀ a₀ (readFrom bundle names left f own s)
 
 -- buffers that hold what is known are as long as they were
@@ -249,7 +252,7 @@ module _ {bundle names : List ℕ} {f start end left : ℕ} {task : Task} {lasts
     (v : Going bundle names f start end left task lasts₀ rows₀ s own st₀ lasts rows st p line) (h : p < length s) {r : Row} (e : r ≡ rowAt names s p) where
   -- a refusal says nothing of the buffers
   refuses : (c : Refusal) (l g : ℕ) (lasts′ rows′ : List ℕ)
-      → ((a : Known) → Holds bundle lasts rows st a → Told bundle task own st a (readLines (follow (filesFor names (filesOf bundle)) left) f line (st .followed) (linesAt names s p)) (Refused c l g) lasts′ rows′)
+      → ((a : Known) → StateHolds bundle lasts rows st a → Told bundle task own st a (readLines (follow (filesFor names (filesOf bundle)) left) f line (st .followed) (linesAt names s p)) (Refused c l g) lasts′ rows′)
       → WalkIs bundle names f start end left task st₀ lasts₀ rows₀ (Refused c l g) lasts′ rows′
   refuses c l g lasts′ rows′ k = record {
     told = λ a h₀. let o = v .is a h₀ in rw (v .mine, v .part) at (o .tells _ lasts′ rows′ (k (o .what) (o .holds)));
@@ -319,7 +322,7 @@ module _ {bundle names : List ℕ} {f start end left : ℕ} {task : Task} {lasts
     this = at-rule names s p h k n (sym e ∙ q)
 
     spot-is : SpotIs bundle k start end p (this .is)
-    spot-is = record { first = this .first; order = v .order; within = v .within; reads = subst (λ (x : List ℕ). Reads x p (this .is)) (v .part) (this .reads) }
+    spot-is = record { first = this .first; order = v .order; within = v .within; reads = subst (λ (x : List ℕ). RowReads x p (this .is)) (v .part) (this .reads) }
 
     ruled-ready : Ready bundle task st′ lasts′ rows′
     ruled-ready =
@@ -335,7 +338,7 @@ module _ {bundle names : List ℕ} {f start end left : ℕ} {task : Task} {lasts
     })
 
   -- an include
-  module _ {t : Text} {n : ℕ} (q : r ≡ row.Include t n) {g : List ℕ} (gq : g ≡ partOf s t) (d : Entered) (dq : EntersIs bundle (entryOf bundle left g (st .followed)) d) where
+  module _ {t : Text} {n : ℕ} (q : r ≡ row.Include t n) {g : List ℕ} (gq : g ≡ partOf s t) (d : Entered) (dq : EntersIs bundle (openingOf bundle left g (st .followed)) d) where
     goes : Goes names s p 1 n (include g)
     goes = rw gq (at-include names s p h t n (sym e ∙ q))
 
@@ -343,7 +346,7 @@ module _ {bundle names : List ℕ} {f start end left : ℕ} {task : Task} {lasts
     enters = follows bundle names f line left g (st .followed) d dq
 
     -- what is left behind it
-    rest : ℕ → Read Rule
+    rest : ℕ → FileRead Rule
     rest m = readLines (follow (filesFor names (filesOf bundle)) left) f (line + 1) m (linesAt names s n)
 
     pub stop-enter : {k : Refusal} {lasts′ rows′ : List ℕ} → d ≡ Not k → WalkIs bundle names f start end left task st₀ lasts₀ rows₀ (Refused k line f) lasts′ rows′
@@ -379,7 +382,7 @@ module _ {bundle names : List ℕ} {f start end left : ℕ} {task : Task} {lasts
             rw sq (record { some = (y .some .0, record { noted = u .noted; kept = u .kept }); followed = omega arith; whole = y .whole })
 
         module _ {lasts′ rows′ : List ℕ} {w : Walked} (wq : WalkIs bundle names f₁ a b (left - 1) task st₁ lasts rows w lasts′ rows′) where
-          inner : (x : Known) → Holds bundle lasts rows st x → Told bundle task (st .followed + 1) (more st) x (follow (filesFor names (filesOf bundle)) left g f line (st .followed)) w lasts′ rows′
+          inner : (x : Known) → StateHolds bundle lasts rows st x → Told bundle task (st .followed + 1) (more st) x (follow (filesFor names (filesOf bundle)) left g f line (st .followed)) w lasts′ rows′
           unfolding Follows
           inner x i = rw (entry .4) (rw sq at (wq .told x (rw sq (record { noted = i .noted; kept = i .kept }))))
 

@@ -6,7 +6,6 @@ use Prim.Native.Nat.{ℕ, zero, suc}
 use native.Mathlib.Omega.{arith}
 use lib.Dec.{ltb}
 use borrow.Author.Tests.{lt-ltb, eq-eqb}
-use Rattle.base.specs.Pick.{pick-true, and-yes}
 use Rattle.refusals.specs.declared.Refusal.the-variants.{PatternEmpty}
 use Rattle.name_parts.proofs.Laws.{clash}
 use Rattle.regex_optim.specs.declared.OptimizedRegex.{OptimizedRegex}
@@ -14,13 +13,14 @@ use Rattle.regex_optim.specs.declared.OptimizedRegex.the-variants.{AllStringsMa
 use Rattle.phonemes.specs.declared.answers.Expression.{Expression}
 use Rattle.phonemes.specs.declared.answers.Expression.the-variants.{Good, Malformed, Stranger}
 use Rattle.pack.specs.Packs.{Rule, isForm, isGood, ruleGood}
-use Rattle.rule_lists.specs.Lines.{lengthFault, contextFault, expressionFault, orElse, ruleFault}
+use Rattle.rule_lists.specs.Lines.{lengthFault, contextFault, expressionFault, faultElse, ruleFault}
 use Rattle.rule_lists.specs.declared.lines.Fault.{Fault}
 use Rattle.rule_lists.specs.declared.lines.Fault.the-variants.{Is, Without}
 use Rattle.rule_lists.proofs.WalkLaws.{GoodRead}
+use Rattle.base.proofs.PickLaws.{pick-true, and-yes}
 
-else-inv : (a b : Fault) → orElse a b ≡ Without → (a ≡ Without) × (b ≡ Without)
-unfolding orElse
+else-inv : (a b : Fault) → faultElse a b ≡ Without → (a ≡ Without) × (b ≡ Without)
+unfolding faultElse
 else-inv Without b e = (refl, e)
 else-inv (Is w) b e = clash (cc)
 

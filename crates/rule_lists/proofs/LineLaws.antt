@@ -5,7 +5,7 @@ use mathlib.Core.List.{List}
 use Prim.Native.Nat.{ℕ, _≤_, _<_}
 use lib.Dec.{ltb}
 use borrow.Author.Tests.{eq-eqb, ne-eqb, lt-ltb, le-ltb}
-use Rattle.base.specs.Pick.{pick, pick-true, pick-false}
+use Rattle.base.specs.Pick.{pick}
 use Rattle.refusals.specs.declared.Refusal.{Refusal}
 use Rattle.refusals.specs.declared.Refusal.the-variants.{LineUnreadable, ExpressionWrong, OutsideForms, NameUnlisted, TooMuch}
 use Rattle.pack.specs.Packs.{rule}
@@ -27,9 +27,11 @@ use Rattle.rules_parser.specs.declared.files.Item.{Item}
 use Rattle.rules_parser.specs.declared.files.Item.the-variants as item
 use Rattle.rule_lists.specs.declared.lines.Fault.{Fault}
 use Rattle.rule_lists.specs.declared.lines.Fault.the-variants.{Is, Without}
-use Rattle.rule_lists.specs.Lines.{lengthFault, contextFault, expressionFault, orElse, ruleFault, rowBy, rowOf, rowIn, rowAt}
+use Rattle.rule_lists.specs.Lines.{lengthFault, contextFault, expressionFault, faultElse, ruleFault}
 use Rattle.rule_lists.specs.declared.lines.Row.{Row}
 use Rattle.rule_lists.specs.declared.lines.Row.the-variants as row
+use Rattle.base.proofs.PickLaws.{pick-true, pick-false}
+use Rattle.rule_lists.specs.Contracts.{rowBy, rowTold, rowIn, rowAt}
 
 -- ---- the faults of a rule
 
@@ -96,13 +98,13 @@ module _ (p l r e : ℕ) (h : (p ≡ 0 → ⊥)) (i : p ≤ 255) (j : l ≤ 255)
   fault-none m = sym (rest ∙ pick-false _ _ _ (le-ltb 255 e m))
 
 -- each fault by what was answered for it
-pub or-first : (a a′ b : Fault) (w : Refusal) → a ≡ a′ → a ≡ Is w → Is w ≡ orElse a′ b
-unfolding orElse
-or-first a a′ b w e h = ap (λ (x : Fault). orElse x b) (sym h ∙ e)
+pub or-first : (a a′ b : Fault) (w : Refusal) → a ≡ a′ → a ≡ Is w → Is w ≡ faultElse a′ b
+unfolding faultElse
+or-first a a′ b w e h = ap (λ (x : Fault). faultElse x b) (sym h ∙ e)
 
-pub or-next : (a a′ b x : Fault) → a ≡ a′ → a ≡ Without → x ≡ b → x ≡ orElse a′ b
-unfolding orElse
-or-next a a′ b x e z h = h ∙ ap (λ (y : Fault). orElse y b) (sym z ∙ e)
+pub or-next : (a a′ b x : Fault) → a ≡ a′ → a ≡ Without → x ≡ b → x ≡ faultElse a′ b
+unfolding faultElse
+or-next a a′ b x e z h = h ∙ ap (λ (y : Fault). faultElse y b) (sym z ∙ e)
 
 pub context-by : (x : Fault) (f g : OptimizedRegex) → x ≡ contextFault f → f ≡ g → x ≡ contextFault g
 context-by x f g e h = e ∙ ap contextFault h
@@ -140,15 +142,15 @@ module _ (names s p l r e : List ℕ) (a b c d : Text) (n : ℕ) (fault : Fault)
   by : fault ≡ ruleFault names (rule (partOf s a) (partOf s b) (partOf s c) (partOf s d))
   by = is ∙ rw (ep, el, er, ee) refl
 
-  row-by : (x : Fault) → fault ≡ x → rowBy x (firstCode p) n ≡ rowOf names s a b c d n
-  unfolding rowOf
+  row-by : (x : Fault) → fault ≡ x → rowBy x (firstCode p) n ≡ rowTold names s a b c d n
+  unfolding rowTold
   row-by x z = ap₂ (λ (y : Fault) (k : ℕ). rowBy y k n) (sym z ∙ by) (ap firstCode ep)
 
-  pub row-rule : (k : ℕ) → fault ≡ Without → k ≡ firstCode p → row.Rule k n ≡ rowOf names s a b c d n
+  pub row-rule : (k : ℕ) → fault ≡ Without → k ≡ firstCode p → row.Rule k n ≡ rowTold names s a b c d n
   unfolding rowBy
   row-rule k z h = ap (λ (x : ℕ). row.Rule x n) h ∙ row-by Without z
 
-  pub row-fault : (w : Refusal) → fault ≡ Is w → row.Bad w ≡ rowOf names s a b c d n
+  pub row-fault : (w : Refusal) → fault ≡ Is w → row.Bad w ≡ rowTold names s a b c d n
   unfolding rowBy
   row-fault w z = row-by (Is w) z
 
@@ -171,7 +173,7 @@ module _ (names s : List ℕ) (p : ℕ) (i : Item) (is : i ≡ itemAt Rules s p)
     by-told : (u : Told) → t ≡ u → rowIn names s (item.Tells u n) ≡ rowAt names s p
     by-told u g = by-item _ (h ∙ ap (λ (x : Told). item.Tells x n) g)
 
-    pub row-of-rule : (a b c d : Text) (r : Row) → t ≡ told.Rule a b c d → r ≡ rowOf names s a b c d n → r ≡ rowAt names s p
+    pub row-of-rule : (a b c d : Text) (r : Row) → t ≡ told.Rule a b c d → r ≡ rowTold names s a b c d n → r ≡ rowAt names s p
     unfolding rowIn
     row-of-rule a b c d r g e = e ∙ by-told _ g
 

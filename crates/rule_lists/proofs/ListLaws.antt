@@ -5,9 +5,9 @@ use Prim.Native.Nat.{ℕ, suc, _+_, _-_, _≤_, _<_}
 use native.Mathlib.Omega.{arith}
 use lib.ListN.{length, getD, take, drop, length-take, length-append}
 use Rattle.refusals.specs.declared.Refusal.{Refusal}
-use Rattle.name_parts.specs.Writing.{Put}
+use Rattle.name_parts.specs.Contracts.{Put}
 use Rattle.name_parts.proofs.Laws.{clash, put-then, put-long, put-fits}
-use Rattle.languages.specs.Names.{strings, stringsOf, stringAt}
+use Rattle.languages.specs.Names.{strings, stringsOf}
 use Rattle.languages.specs.declared.names.Next.{Next}
 use Rattle.languages.specs.declared.names.Next.the-variants as next
 use Rattle.languages.proofs.Laws.{string-whole, string-cut, strings-all}
@@ -18,26 +18,28 @@ use Rattle.pack.specs.Packs.{Rule}
 use Rattle.pack_bytes.specs.Bytes.{listBytes}
 use Rattle.pack_bytes.proofs.Laws.{bytes-append}
 use Rattle.bundles.specs.Bundles.{File}
-use Rattle.held.specs.Tables.{bytesOf}
-use Rattle.rule_lists.specs.Outcomes.{Outcome, fine, refused, andThen, Told}
-use Rattle.rule_lists.specs.Lists.{listOf, listsOf, prefixOf, rulesPart, approxPart, exactPart, commonPart, twoOf, threeOf, listFiles}
+use Rattle.rule_lists.specs.Outcomes.{Loading, fine, notLoaded, andLoad}
+use Rattle.rule_lists.specs.Lists.{listNamed, listsOf, typePrefix, rulesPart, approxPart, exactPart, commonPart, twoOf, threeOf, listFiles}
 use Rattle.rule_lists.specs.declared.writing.Written.{Written}
 use Rattle.rule_lists.specs.declared.writing.Written.the-variants.{Done, Refused}
+use Rattle.held.specs.Met.{bytesOfAll}
+use Rattle.languages.specs.Contracts.{stringAt}
+use Rattle.rule_lists.specs.Contracts.{WrittenIs}
 
 -- ---- what an answer tells
 
-told-done : {A : Type 0} (f : A → List ℕ) (x : Outcome A) (o o′ : List ℕ) (at p : ℕ) (r : Written) → Told f x o o′ at r → r ≡ Done p → (a : A) × (x ≡ fine a) × Put o o′ at p (f a)
-unfolding Told
+told-done : {A : Type 0} (f : A → List ℕ) (x : Loading A) (o o′ : List ℕ) (at p : ℕ) (r : Written) → WrittenIs f x o o′ at r → r ≡ Done p → (a : A) × (x ≡ fine a) × Put o o′ at p (f a)
+unfolding WrittenIs
 told-done f (fine a) o o′ at p r w q =
     let e = w .1 in
     let same : w .0 ≡ p = cc in
     (a, refl, rw same at (w .2))
-told-done f (refused c l k) o o′ at p r w q = clash (cc)
+told-done f (notLoaded c l k) o o′ at p r w q = clash (cc)
 
-told-refused : {A : Type 0} (f : A → List ℕ) (x : Outcome A) (o o′ : List ℕ) (at : ℕ) (c : Refusal) (l k : ℕ) (r : Written) → Told f x o o′ at r → r ≡ Refused c l k → x ≡ refused c l k
-unfolding Told
+told-refused : {A : Type 0} (f : A → List ℕ) (x : Loading A) (o o′ : List ℕ) (at : ℕ) (c : Refusal) (l k : ℕ) (r : Written) → WrittenIs f x o o′ at r → r ≡ Refused c l k → x ≡ notLoaded c l k
+unfolding WrittenIs
 told-refused f (fine a) o o′ at c l k r w q = let e = w .1 in clash (cc)
-told-refused f (refused d m j) o o′ at c l k r w q =
+told-refused f (notLoaded d m j) o o′ at c l k r w q =
     let code : d ≡ c = cc in
     let line : m ≡ l = cc in
     let file : j ≡ k = cc in
@@ -46,21 +48,21 @@ told-refused f (refused d m j) o o′ at c l k r w q =
 -- ---- one part, and then another
 
 module _ {A B C : Type 0} (f : A → List ℕ) (g : B → List ℕ) (h : C → List ℕ) (k : A → B → C) (e : (a : A) (b : B) → h (k a b) ≡ f a ++ g b) where
-  then-done : (a : A) (y : Outcome B) (o o₁ o₂ : List ℕ) (at p : ℕ) (s : Written) → Put o o₁ at p (f a) → Told g y o₁ o₂ p s → Told h (andThen y (λ b. fine (k a b))) o o₂ at s
-  unfolding Told andThen
+  then-done : (a : A) (y : Loading B) (o o₁ o₂ : List ℕ) (at p : ℕ) (s : Written) → Put o o₁ at p (f a) → WrittenIs g y o₁ o₂ p s → WrittenIs h (andLoad y (λ b. fine (k a b))) o o₂ at s
+  unfolding WrittenIs andLoad
   then-done a (fine b) o o₁ o₂ at p s v w = (w .0, w .1, rw (e a b) (put-then v (w .2)))
-  then-done a (refused c l i) o o₁ o₂ at p s v w = w
+  then-done a (notLoaded c l i) o o₁ o₂ at p s v w = w
 
-  told-then : (x : Outcome A) (y : Outcome B) (o o₁ o₂ : List ℕ) (at p : ℕ) (r s : Written) → Told f x o o₁ at r → r ≡ Done p → Told g y o₁ o₂ p s
-      → Told h (andThen x (λ a. andThen y (λ b. fine (k a b)))) o o₂ at s
-  unfolding andThen
+  told-then : (x : Loading A) (y : Loading B) (o o₁ o₂ : List ℕ) (at p : ℕ) (r s : Written) → WrittenIs f x o o₁ at r → r ≡ Done p → WrittenIs g y o₁ o₂ p s
+      → WrittenIs h (andLoad x (λ a. andLoad y (λ b. fine (k a b)))) o o₂ at s
+  unfolding andLoad
   told-then x y o o₁ o₂ at p r s v q w =
       let d = told-done f x o o₁ at p r v q in
       rw (d .1) (then-done (d .0) y o o₁ o₂ at p s (d .2) w)
 
-told-stop : {A B : Type 0} (f : A → List ℕ) (h : B → List ℕ) (x : Outcome A) (m : A → Outcome B) (o o₁ : List ℕ) (at : ℕ) (r : Written) (c : Refusal) (l i : ℕ) → Told f x o o₁ at r → r ≡ Refused c l i
-    → Told h (andThen x m) o o₁ at (Refused c l i)
-unfolding Told andThen
+told-stop : {A B : Type 0} (f : A → List ℕ) (h : B → List ℕ) (x : Loading A) (m : A → Loading B) (o o₁ : List ℕ) (at : ℕ) (r : Written) (c : Refusal) (l i : ℕ) → WrittenIs f x o o₁ at r → r ≡ Refused c l i
+    → WrittenIs h (andLoad x m) o o₁ at (Refused c l i)
+unfolding WrittenIs andLoad
 told-stop f h x m o o₁ at r c l i v q = rw (told-refused f x o o₁ at c l i r v q) refl
 
 -- ---- a name of three parts
@@ -76,68 +78,68 @@ module _ (pre kind lang : List ℕ) where
     pub name-fits : n ≤ length w₁
     name-fits = omega (arith, name-is .0, length-append pre (kind ++ lang), length-append kind lang, put-long w w₁ 0 n _ x)
 
-    pub name-told : (names : List ℕ) (fs : List File) (o o′ : List ℕ) (at : ℕ) (r : Written) → Told listBytes (listOf names fs (take (n - 0) w₁)) o o′ at r
-        → Told listBytes (listOf names fs (pre ++ (kind ++ lang))) o o′ at r
+    pub name-told : (names : List ℕ) (fs : List File) (o o′ : List ℕ) (at : ℕ) (r : Written) → WrittenIs listBytes (listNamed names fs (take (n - 0) w₁)) o o′ at r
+        → WrittenIs listBytes (listNamed names fs (pre ++ (kind ++ lang))) o o′ at r
     name-told names fs o o′ at r v = let all : n - 0 ≡ n = omega arith in rw (name-is .1) at (rw all at v)
 
 module _ (names : List ℕ) (fs : List File) where
-  lists-append : (ws us : List (List ℕ)) → listsOf names fs (ws ++ us) ≡ andThen (listsOf names fs ws) (λ a. andThen (listsOf names fs us) (λ b. fine (a ++ b)))
-  unfolding listsOf andThen
+  lists-append : (ws us : List (List ℕ)) → listsOf names fs (ws ++ us) ≡ andLoad (listsOf names fs ws) (λ a. andLoad (listsOf names fs us) (λ b. fine (a ++ b)))
+  unfolding listsOf andLoad
   lists-append [] us = self (listsOf names fs us)
     where
-      self : (x : Outcome (List (List Rule))) → x ≡ andThen x (λ b. fine b)
+      self : (x : Loading (List (List Rule))) → x ≡ andLoad x (λ b. fine b)
       self (fine b) = refl
-      self (refused c l f) = refl
-  lists-append (w ∷ ws) us = ap (λ (x : Outcome (List (List Rule))). andThen (listOf names fs w) (λ rs. andThen x (λ rest. fine (rs ∷ rest)))) (lists-append ws us) ∙ turned (listOf names fs w) (listsOf names fs ws) (listsOf names fs us)
+      self (notLoaded c l f) = refl
+  lists-append (w ∷ ws) us = ap (λ (x : Loading (List (List Rule))). andLoad (listNamed names fs w) (λ rs. andLoad x (λ rest. fine (rs ∷ rest)))) (lists-append ws us) ∙ turned (listNamed names fs w) (listsOf names fs ws) (listsOf names fs us)
     where
-      turned : (x : Outcome (List Rule)) (y z : Outcome (List (List Rule)))
-          → andThen x (λ rs. andThen (andThen y (λ a. andThen z (λ b. fine (a ++ b)))) (λ rest. fine (rs ∷ rest))) ≡ andThen (andThen x (λ rs. andThen y (λ rest. fine (rs ∷ rest)))) (λ a. andThen z (λ b. fine (a ++ b)))
+      turned : (x : Loading (List Rule)) (y z : Loading (List (List Rule)))
+          → andLoad x (λ rs. andLoad (andLoad y (λ a. andLoad z (λ b. fine (a ++ b)))) (λ rest. fine (rs ∷ rest))) ≡ andLoad (andLoad x (λ rs. andLoad y (λ rest. fine (rs ∷ rest)))) (λ a. andLoad z (λ b. fine (a ++ b)))
       turned (fine rs) (fine a) (fine b) = refl
-      turned (fine rs) (fine a) (refused c l f) = refl
-      turned (fine rs) (refused c l f) z = refl
-      turned (refused c l f) y z = refl
+      turned (fine rs) (fine a) (notLoaded c l f) = refl
+      turned (fine rs) (notLoaded c l f) z = refl
+      turned (notLoaded c l f) y z = refl
 
   -- as many lists as files
   pub lists-length : (ws : List (List ℕ)) (ls : List (List Rule)) → listsOf names fs ws ≡ fine ls → length ls ≡ length ws
-  unfolding listsOf andThen
+  unfolding listsOf andLoad
   lists-length [] [] e = refl
   lists-length [] (rs ∷ ls) e = clash (cc)
-  lists-length (w ∷ ws) ls e = by (listOf names fs w) (listsOf names fs ws) e (lists-length ws)
+  lists-length (w ∷ ws) ls e = by (listNamed names fs w) (listsOf names fs ws) e (lists-length ws)
     where
-      by : (x : Outcome (List Rule)) (y : Outcome (List (List Rule))) → andThen x (λ rs. andThen y (λ rest. fine (rs ∷ rest))) ≡ fine ls
+      by : (x : Loading (List Rule)) (y : Loading (List (List Rule))) → andLoad x (λ rs. andLoad y (λ rest. fine (rs ∷ rest))) ≡ fine ls
           → ((us : List (List Rule)) → y ≡ fine us → length us ≡ length ws) → length ls ≡ suc (length ws)
       by (fine rs) (fine us) e h = let same : ls ≡ rs ∷ us = cc in ap length same ∙ ap suc (h us refl)
-      by (fine rs) (refused c l f) e h = clash (cc)
-      by (refused c l f) y e h = clash (cc)
+      by (fine rs) (notLoaded c l f) e h = clash (cc)
+      by (notLoaded c l f) y e h = clash (cc)
 
   abbrev Lists : List (List ℕ) → List ℕ → List ℕ → ℕ → Written → Type 0
-  Lists ws o o′ at r = Told (bytesOf listBytes) (listsOf names fs ws) o o′ at r
+  Lists ws o o′ at r = WrittenIs (bytesOfAll listBytes) (listsOf names fs ws) o o′ at r
 
   abbrev One : List ℕ → List ℕ → List ℕ → ℕ → Written → Type 0
-  One w o o′ at r = Told listBytes (listOf names fs w) o o′ at r
+  One w o o′ at r = WrittenIs listBytes (listNamed names fs w) o o′ at r
 
   list-then : (w : List ℕ) (ws : List (List ℕ)) (o o₁ o₂ : List ℕ) (at p : ℕ) (r s : Written) → One w o o₁ at r → r ≡ Done p → Lists ws o₁ o₂ p s → Lists (w ∷ ws) o o₂ at s
-  unfolding listsOf bytesOf
-  list-then w ws o o₁ o₂ at p r s v q u = told-then listBytes (bytesOf listBytes) (bytesOf listBytes) _∷_ (λ rs ls. refl) (listOf names fs w) (listsOf names fs ws) o o₁ o₂ at p r s v q u
+  unfolding listsOf bytesOfAll
+  list-then w ws o o₁ o₂ at p r s v q u = told-then listBytes (bytesOfAll listBytes) (bytesOfAll listBytes) _∷_ (λ rs ls. refl) (listNamed names fs w) (listsOf names fs ws) o o₁ o₂ at p r s v q u
 
   list-last : (w : List ℕ) (o o′ : List ℕ) (at : ℕ) (r : Written) → One w o o′ at r → Lists (w ∷ []) o o′ at r
-  unfolding listsOf andThen Told bytesOf
-  list-last w o o′ at r v = by (listOf names fs w) v
+  unfolding listsOf andLoad WrittenIs bytesOfAll
+  list-last w o o′ at r v = by (listNamed names fs w) v
     where
-      by : (x : Outcome (List Rule)) → Told listBytes x o o′ at r → Told (bytesOf listBytes) (andThen x (λ rs. fine (rs ∷ []))) o o′ at r
+      by : (x : Loading (List Rule)) → WrittenIs listBytes x o o′ at r → WrittenIs (bytesOfAll listBytes) (andLoad x (λ rs. fine (rs ∷ []))) o o′ at r
       by (fine rs) v = (v .0, v .1, rw (append-nil (listBytes rs)) (v .2))
-      by (refused c l f) v = v
+      by (notLoaded c l f) v = v
 
   list-stop : (w : List ℕ) (ws : List (List ℕ)) (o o₁ : List ℕ) (at : ℕ) (r : Written) (c : Refusal) (l i : ℕ) → One w o o₁ at r → r ≡ Refused c l i → Lists (w ∷ ws) o o₁ at (Refused c l i)
   unfolding listsOf
-  list-stop w ws o o₁ at r c l i v q = told-stop listBytes (bytesOf listBytes) (listOf names fs w) _ o o₁ at r c l i v q
+  list-stop w ws o o₁ at r c l i v q = told-stop listBytes (bytesOfAll listBytes) (listNamed names fs w) _ o o₁ at r c l i v q
 
   lists-then : (ws us : List (List ℕ)) (o o₁ o₂ : List ℕ) (at p : ℕ) (r s : Written) → Lists ws o o₁ at r → r ≡ Done p → Lists us o₁ o₂ p s → Lists (ws ++ us) o o₂ at s
   lists-then ws us o o₁ o₂ at p r s v q u = rw (lists-append ws us)
-      (told-then (bytesOf listBytes) (bytesOf listBytes) (bytesOf listBytes) _++_ (bytes-append listBytes) (listsOf names fs ws) (listsOf names fs us) o o₁ o₂ at p r s v q u)
+      (told-then (bytesOfAll listBytes) (bytesOfAll listBytes) (bytesOfAll listBytes) _++_ (bytes-append listBytes) (listsOf names fs ws) (listsOf names fs us) o o₁ o₂ at p r s v q u)
 
   lists-stop : (ws us : List (List ℕ)) (o o₁ : List ℕ) (at : ℕ) (r : Written) (c : Refusal) (l i : ℕ) → Lists ws o o₁ at r → r ≡ Refused c l i → Lists (ws ++ us) o o₁ at (Refused c l i)
-  lists-stop ws us o o₁ at r c l i v q = rw (lists-append ws us) (told-stop (bytesOf listBytes) (bytesOf listBytes) (listsOf names fs ws) _ o o₁ at r c l i v q)
+  lists-stop ws us o o₁ at r c l i v q = rw (lists-append ws us) (told-stop (bytesOfAll listBytes) (bytesOfAll listBytes) (listsOf names fs ws) _ o o₁ at r c l i v q)
 
   -- ---- the lists of a language
 
@@ -193,16 +195,16 @@ module _ (names : List ℕ) (fs : List File) where
 
   -- ---- the prefix of a type
 
-  pub lists-ash : (kind : NameType) (o o′ : List ℕ) (at : ℕ) (r : Written) → kind ≡ Ashkenazi → Lists (listFiles (97 ∷ 115 ∷ 104 ∷ []) (stringsOf names)) o o′ at r → Lists (listFiles (prefixOf kind) (stringsOf names)) o o′ at r
-  unfolding prefixOf
+  pub lists-ash : (kind : NameType) (o o′ : List ℕ) (at : ℕ) (r : Written) → kind ≡ Ashkenazi → Lists (listFiles (97 ∷ 115 ∷ 104 ∷ []) (stringsOf names)) o o′ at r → Lists (listFiles (typePrefix kind) (stringsOf names)) o o′ at r
+  unfolding typePrefix
   lists-ash kind o o′ at r e v = rw e v
 
-  pub lists-gen : (kind : NameType) (o o′ : List ℕ) (at : ℕ) (r : Written) → kind ≡ Generic → Lists (listFiles (103 ∷ 101 ∷ 110 ∷ []) (stringsOf names)) o o′ at r → Lists (listFiles (prefixOf kind) (stringsOf names)) o o′ at r
-  unfolding prefixOf
+  pub lists-gen : (kind : NameType) (o o′ : List ℕ) (at : ℕ) (r : Written) → kind ≡ Generic → Lists (listFiles (103 ∷ 101 ∷ 110 ∷ []) (stringsOf names)) o o′ at r → Lists (listFiles (typePrefix kind) (stringsOf names)) o o′ at r
+  unfolding typePrefix
   lists-gen kind o o′ at r e v = rw e v
 
-  pub lists-sep : (kind : NameType) (o o′ : List ℕ) (at : ℕ) (r : Written) → kind ≡ Sephardic → Lists (listFiles (115 ∷ 101 ∷ 112 ∷ []) (stringsOf names)) o o′ at r → Lists (listFiles (prefixOf kind) (stringsOf names)) o o′ at r
-  unfolding prefixOf
+  pub lists-sep : (kind : NameType) (o o′ : List ℕ) (at : ℕ) (r : Written) → kind ≡ Sephardic → Lists (listFiles (115 ∷ 101 ∷ 112 ∷ []) (stringsOf names)) o o′ at r → Lists (listFiles (typePrefix kind) (stringsOf names)) o o′ at r
+  unfolding typePrefix
   lists-sep kind o o′ at r e v = rw e v
 
 -- a string's length is a byte, so a name with it is short; m is the length of the prefix

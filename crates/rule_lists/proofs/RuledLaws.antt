@@ -4,16 +4,17 @@ use mathlib.Core.Bool.{Bool, true, false}
 use mathlib.Core.List.{List}
 use Prim.Native.Nat.{ℕ, _≤_}
 use native.Mathlib.Omega.{arith}
-use Rattle.base.specs.Pick.{pick-true, pick-false}
 use Rattle.pack.specs.Packs.{Rule}
-use Rattle.held.specs.Tables.{staysIn}
-use Rattle.rule_lists.specs.Tables.{Notes, StaysIs, Keeps, SpotIs}
-use Rattle.rule_lists.specs.Walks.{firstOf, Known, ruled, stateOf, Holds, Ready, RuledIs}
+use Rattle.held.specs.Contracts.{staysIn}
+use Rattle.rule_lists.specs.TableContracts.{Notes, StaysIs, Keeps, SpotIs}
+use Rattle.rule_lists.specs.Contracts.{Known, ruled, stateOf, StateHolds, Ready, RuledIs}
 use Rattle.rule_lists.specs.declared.tables.Spot.{Spot}
 use Rattle.rule_lists.specs.declared.walk.Task.{Task}
 use Rattle.rule_lists.specs.declared.walk.Task.the-variants.{Survey, Collect}
 use Rattle.rule_lists.specs.declared.walk.State.{State}
 use Rattle.rule_lists.proofs.TableLaws.{keep-is}
+use Rattle.base.proofs.PickLaws.{pick-true, pick-false}
+use Rattle.rule_lists.specs.Lists.{firstCodeOf}
 
 pub ready-whole : {bundle : List ℕ} {task : Task} {st : State} {lasts rows : List ℕ} → Ready bundle task st lasts rows → task ≡ Collect → st .noted ≤ 4096
 ready-whole y e = y .whole e
@@ -21,7 +22,7 @@ ready-whole y e = y .whole e
 module _ (bundle : List ℕ) (task : Task) (own : ℕ) (st : State) (spot : Spot) (lasts rows : List ℕ) where
   pub ruled-survey : task ≡ Survey → (m : ℕ) (lasts′ : List ℕ) → Notes lasts (st .noted) (spot .code) own m lasts′
       → RuledIs bundle task own st spot lasts rows (stateOf (st .followed) m (st .kept)) lasts′ rows
-  unfolding ruled firstOf
+  unfolding ruled firstCodeOf
   ruled-survey e m lasts′ o = record {
     followed = refl;
     noted = λ q. let z : _≡_ {A = ℕ} 0 1 = cc in let no-way : ⊥ = omega arith in absurd no-way;
@@ -29,9 +30,9 @@ module _ (bundle : List ℕ) (task : Task) (own : ℕ) (st : State) (spot : Spot
   }
 
   module _ (e : task ≡ Collect) (x : Bool) (y : StaysIs lasts (st .noted) (spot .code) (st .followed) x) where
-    stays-by : (a : Known) (r : Rule) → Holds bundle lasts rows st a → SpotIs bundle (spot .code) (spot .start) (spot .end) (spot .place) r
-        → x ≡ staysIn (firstOf r) (st .followed) (a .lasts)
-    unfolding firstOf
+    stays-by : (a : Known) (r : Rule) → StateHolds bundle lasts rows st a → SpotIs bundle (spot .code) (spot .start) (spot .end) (spot .place) r
+        → x ≡ staysIn (firstCodeOf r) (st .followed) (a .lasts)
+    unfolding firstCodeOf
     stays-by a r h s = rw (s .first) at (y .is (a .lasts) (h .noted))
 
     pub ruled-kept : x ≡ true → (k : ℕ) (rows′ : List ℕ) → Keeps rows (st .kept) spot k rows′

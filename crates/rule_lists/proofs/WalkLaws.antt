@@ -8,7 +8,7 @@ use native.Mathlib.Omega.{arith}
 use lib.Dec.{leb}
 use lib.ListN.{length, take, drop}
 use borrow.Author.Tests.{le-leb, lt-leb, leb-true}
-use Rattle.base.specs.Pick.{pick, pick-true, pick-false, and-inv}
+use Rattle.base.specs.Pick.{pick}
 use Rattle.refusals.specs.declared.Refusal.{Refusal}
 use Rattle.refusals.specs.declared.Refusal.the-variants.{FileMissing, IncludeTooDeep, TooMuch}
 use Rattle.letters.specs.Utf8.{within, lowSecond, highSecond, code2, code3, code4, decode2, decode3, decode4, decodeBytes, decodeAt}
@@ -16,20 +16,20 @@ use Rattle.letters.specs.declared.utf8.Step.{Step}
 use Rattle.letters.specs.declared.utf8.Step.the-variants.{Char, Ill, End}
 use Rattle.rule.specs.Matching.{ruleText, codeIn, firstCode}
 use Rattle.pack.specs.Packs.{Rule}
-use Rattle.pack_bytes.specs.Bytes as bytes
-use Rattle.bundles.specs.Bundles.{File, Found, missing, found, filesOf, fileNamed}
+use Rattle.pack_bytes.specs.Contracts as bytes
+use Rattle.bundles.specs.Bundles.{File, Found, missing, found, fileNamed}
 use Rattle.rules_parser.specs.declared.lines.FileKind.the-variants.{Rules}
 use Rattle.rules_parser.proofs.Laws.{items-start, items-end, rule-pattern, rule-left, rule-right, rule-expression}
-use Rattle.held.specs.Met.{Met, end, rule, file, entries, codes, Map, empty, add, extend, held, spread, finished}
-use Rattle.held.specs.Files.{Line, passed, is-rule, include, bad, Read, good, refused, before, onRead, onContent, readLines, follow, readListed}
-use Rattle.held.specs.Tables.{noted, kept, Each, Within}
+use Rattle.held.specs.Met.{Met, end, rule, file, entries, codes, Map, noRules, add, extend, held, spread, finished}
+use Rattle.held.specs.Files.{Line, passed, is-rule, include, badLine, FileRead, wasRead, notRead, before, onRead, onContent, readLines, follow, readListed}
+use Rattle.held.specs.Contracts.{noted, kept, Each, Within}
 use Rattle.held.proofs.Finished.{length-kept, length-noted}
 use Rattle.held.proofs.Reading.{listed-entries}
 use Rattle.rule_lists.specs.Outcomes as outcome
 use Rattle.rule_lists.specs.declared.lines.Fault.the-variants.{Without}
-use Rattle.rule_lists.specs.Lines.{ruleFault, linesOf, rowAt}
-use Rattle.rule_lists.specs.Tables.{Reads, KeptIs}
-use Rattle.rule_lists.specs.Walks.{firstOf, contentIn, filesFor, Known, known, ruled, tally, stateOf, Room, Holds, Ready, Told, readFrom, WalkIs, counted, keptOf, CollectIs}
+use Rattle.rule_lists.specs.Lines.{ruleFault, linesOf}
+use Rattle.rule_lists.specs.TableContracts.{RowReads, KeptIs}
+use Rattle.rule_lists.specs.Contracts.{Known, known, ruled, tally, stateOf, Room, StateHolds, Ready, Told, readFrom, WalkIs, keptAs, CollectIs, rowAt}
 use Rattle.rule_lists.proofs.TableLaws.{noted-none, kept-none}
 use Rattle.rule_lists.proofs.GoingLaws.{clash, linesAt, Here, here}
 use Rattle.rule_lists.specs.declared.lines.Row.{Row}
@@ -40,6 +40,9 @@ use Rattle.rule_lists.specs.declared.walk.State.{State}
 use Rattle.rule_lists.specs.declared.walk.Walked.{Walked}
 use Rattle.rule_lists.specs.declared.walk.Walked.the-variants.{Done, Refused}
 use Rattle.rule_lists.specs.declared.walk.Collected.the-variants as collected
+use Rattle.base.proofs.PickLaws.{pick-true, pick-false, and-inv}
+use Rattle.rule_lists.specs.Lists.{firstCodeOf, contentIn, filesFor, countedRules}
+use Rattle.bundles.specs.Contracts.{filesOf}
 
 -- ---- a first character is one of Unicode's
 
@@ -78,8 +81,8 @@ code-under (Char c n) h = h
 code-under Ill h = omega arith
 code-under End h = omega arith
 
-pub first-under : (r : Rule) → firstOf r < codes
-unfolding firstOf firstCode decodeAt Under
+pub first-under : (r : Rule) → firstCodeOf r < codes
+unfolding firstCodeOf firstCode decodeAt Under
 first-under r = code-under _ (pick-under _ _ _ (λ e. bytes-under _ _ _ _) tt)
 
 -- ---- every rule that is read
@@ -91,7 +94,7 @@ pub record GoodRead (names : List ℕ) (r : Rule) : Type 0 where
   pub right : ruleText (r .right) ≡ true
   pub expression : ruleText (r .expression) ≡ true
 
-reads-good : (names s : List ℕ) (p : ℕ) (r : Rule) → ruleFault names r ≡ Without → Reads s p r → GoodRead names r
+reads-good : (names s : List ℕ) (p : ℕ) (r : Rule) → ruleFault names r ≡ Without → RowReads s p r → GoodRead names r
 reads-good names s p r e w = subst (GoodRead names) (w .is) (record {
   fault = rw (w .is) e;
   pattern = rule-pattern s p _ _ _ _ _ (w .says);
@@ -106,7 +109,7 @@ LinesGood names [] = Unit {0}
 LinesGood names (passed k ∷ ls) = LinesGood names ls
 LinesGood names (is-rule r ∷ ls) = GoodRead names r × LinesGood names ls
 LinesGood names (include g ∷ ls) = LinesGood names ls
-LinesGood names (bad k ∷ ls) = Unit {0}
+LinesGood names (badLine k ∷ ls) = Unit {0}
 
 lines-at : (names s : List ℕ) (k p : ℕ) → length s - p ≤ k → LinesGood names (linesAt names s p)
 unfolding LinesGood Here
@@ -127,27 +130,27 @@ unfolding linesOf
 lines-good names s = rw (← items-start Rules s) (lines-at names s (length s - 0) 0 (omega arith))
 
 module _ (names : List ℕ) where
-  Sound : Read Rule → Type 0
-  Sound (good t) = Each (GoodRead names) t
-  Sound (refused c l f) = Unit {0}
+  Sound : FileRead Rule → Type 0
+  Sound (wasRead t) = Each (GoodRead names) t
+  Sound (notRead c l f) = Unit {0}
 
-  sound-before : (g : Met Rule → Met Rule) (x : Read Rule) → ((t : Met Rule) → Each (GoodRead names) t → Each (GoodRead names) (g t)) → Sound x → Sound (before g x)
+  sound-before : (g : Met Rule → Met Rule) (x : FileRead Rule) → ((t : Met Rule) → Each (GoodRead names) t → Each (GoodRead names) (g t)) → Sound x → Sound (before g x)
   unfolding Sound before
-  sound-before g (good t) h s = h t s
-  sound-before g (refused c l f) h s = tt
+  sound-before g (wasRead t) h s = h t s
+  sound-before g (notRead c l f) h s = tt
 
-  sound-on : (x : Read Rule) (k : Met Rule → Read Rule) → Sound x → ((t : Met Rule) → Each (GoodRead names) t → Sound (k t)) → Sound (onRead x k)
+  sound-on : (x : FileRead Rule) (k : Met Rule → FileRead Rule) → Sound x → ((t : Met Rule) → Each (GoodRead names) t → Sound (k t)) → Sound (onRead x k)
   unfolding Sound onRead
-  sound-on (good t) k s h = h t s
-  sound-on (refused c l f) k s h = tt
+  sound-on (wasRead t) k s h = h t s
+  sound-on (notRead c l f) k s h = tt
 
-  sound-lines : (go : List ℕ → ℕ → ℕ → ℕ → Read Rule) → ((g : List ℕ) (f l n : ℕ) → Sound (go g f l n)) → (f l n : ℕ) (ls : List (Line Rule)) → LinesGood names ls → Sound (readLines go f l n ls)
+  sound-lines : (go : List ℕ → ℕ → ℕ → ℕ → FileRead Rule) → ((g : List ℕ) (f l n : ℕ) → Sound (go g f l n)) → (f l n : ℕ) (ls : List (Line Rule)) → LinesGood names ls → Sound (readLines go f l n ls)
   unfolding Sound readLines LinesGood Each
   sound-lines go h f l n [] g = tt
   sound-lines go h f l n (passed k ∷ ls) g = sound-lines go h f (l + k) n ls g
   sound-lines go h f l n (is-rule r ∷ ls) g = sound-before (rule r) _ (λ t e. (g .0, e)) (sound-lines go h f (l + 1) n ls (g .1))
   sound-lines go h f l n (include i ∷ ls) g = sound-on (go i f l n) _ (h i f l n) (λ t e. sound-before (file t) _ (λ u d. (e, d)) (sound-lines go h f (l + 1) (n + 1 + entries t) ls g))
-  sound-lines go h f l n (bad k ∷ ls) g = tt
+  sound-lines go h f l n (badLine k ∷ ls) g = tt
 
   module _ (fs : List File) where
     sound-follow : (left : ℕ) (g : List ℕ) (f l n : ℕ) → Sound (follow (filesFor names fs) left g f l n)
@@ -156,12 +159,12 @@ module _ (names : List ℕ) where
     sound-follow (suc left) g f l n = deep (leb 256 n) (fileNamed g 0 fs) (sound-follow left)
       where
         deep : (t : Bool) (x : Found) → ((g : List ℕ) (f l n : ℕ) → Sound (follow (filesFor names fs) left g f l n))
-            → Sound (pick t (refused IncludeTooDeep l f) (onContent (contentIn names x) (refused FileMissing l f) (λ h ls. readLines (follow (filesFor names fs) left) h 1 (n + 1) ls)))
+            → Sound (pick t (notRead IncludeTooDeep l f) (onContent (contentIn names x) (notRead FileMissing l f) (λ h ls. readLines (follow (filesFor names fs) left) h 1 (n + 1) ls)))
         deep true x ih = tt
         deep false missing ih = tt
         deep false (found k c) ih = sound-lines _ ih k 1 (n + 1) (linesOf names c) (lines-good names c)
 
-    pub each-read : (f : ℕ) (s : List ℕ) (t : Met Rule) → readListed (filesFor names fs) f (linesOf names s) ≡ good t → Each (GoodRead names) t
+    pub each-read : (f : ℕ) (s : List ℕ) (t : Met Rule) → readListed (filesFor names fs) f (linesOf names s) ≡ wasRead t → Each (GoodRead names) t
     unfolding readListed Sound
     each-read f s t e = subst Sound e (sound-lines _ (sound-follow 8) f 1 0 (linesOf names s) (lines-good names s))
 
@@ -178,12 +181,12 @@ each-pick false a b p q = q
 
 module _ (P : Rule → Type 0) (first : Rule → ℕ) where
   each-held : (t : Met Rule) (m : Map Rule) → Each P t → ((c : ℕ) → bytes.Each P (m c)) → (c : ℕ) → bytes.Each P (held first m t c)
-  unfolding held add extend empty Each
+  unfolding held add extend noRules Each
   each-held end m e h c = h c
   each-held (rule r t) m e h c = each-held t (add first m r) (e .1) (λ d. each-pick _ _ _ (each-append (m d) (r ∷ []) (h d) (bytes.more (e .0) bytes.none)) (h d)) c
   each-held (file i t) m e h c =
-      let w = each-held i empty (e .0) (λ d. bytes.none) in
-      each-held t (extend m (held first empty i)) (e .1) (λ d. each-pick _ _ _ (h d) (w d)) c
+      let w = each-held i noRules (e .0) (λ d. bytes.none) in
+      each-held t (extend m (held first noRules i)) (e .1) (λ d. each-pick _ _ _ (h d) (w d)) c
 
   each-spread : (m : Map Rule) (k c : ℕ) → ((d : ℕ) → bytes.Each P (m d)) → bytes.Each P (spread m k c)
   unfolding spread
@@ -191,48 +194,48 @@ module _ (P : Rule → Type 0) (first : Rule → ℕ) where
   each-spread m (suc k) c h = each-append (m c) _ (h c) (each-spread m k (suc c) h)
 
   pub each-finished : (t : Met Rule) → Each P t → bytes.Each P (finished first t)
-  unfolding finished empty
-  each-finished t e = each-spread (held first empty t) codes 0 (each-held t empty e (λ d. bytes.none))
+  unfolding finished noRules
+  each-finished t e = each-spread (held first noRules t) codes 0 (each-held t noRules e (λ d. bytes.none))
 
 -- ---- what two walks leave
 
-tally-survey : (t : Met Rule) (own n : ℕ) (vs : List ℕ) (rs : List Rule) → tally Survey own n (known vs rs) t ≡ known (noted firstOf own n vs t) rs
+tally-survey : (t : Met Rule) (own n : ℕ) (vs : List ℕ) (rs : List Rule) → tally Survey own n (known vs rs) t ≡ known (noted firstCodeOf own n vs t) rs
 unfolding tally ruled noted
 tally-survey end own n vs rs = refl
 tally-survey (rule r t) own n vs rs = tally-survey t own n _ rs
 tally-survey (file i t) own n vs rs = ap (λ (a : Known). tally Survey own (n + 1 + entries i) a t) (tally-survey i (n + 1) (n + 1) vs rs) ∙ tally-survey t own (n + 1 + entries i) _ rs
 
-tally-collect : (t : Met Rule) (own n : ℕ) (vs : List ℕ) (rs : List Rule) → tally Collect own n (known vs rs) t ≡ known vs (kept firstOf vs n rs t)
+tally-collect : (t : Met Rule) (own n : ℕ) (vs : List ℕ) (rs : List Rule) → tally Collect own n (known vs rs) t ≡ known vs (kept firstCodeOf vs n rs t)
 unfolding tally ruled kept
 tally-collect end own n vs rs = refl
 tally-collect (rule r t) own n vs rs = tally-collect t own n vs _
 tally-collect (file i t) own n vs rs = ap (λ (a : Known). tally Collect own (n + 1 + entries i) a t) (tally-collect i (n + 1) (n + 1) vs rs) ∙ tally-collect t own (n + 1 + entries i) vs _
 
-pub within-all : (t : Met Rule) → Within firstOf t
+pub within-all : (t : Met Rule) → Within firstCodeOf t
 unfolding Each
 within-all end = tt
 within-all (rule r t) = (first-under r, within-all t)
 within-all (file i t) = (within-all i, within-all t)
 
 -- an answer tells what was read
-told-done : (bundle : List ℕ) (task : Task) (own : ℕ) (st : State) (a : Known) (x : Read Rule) (w : Walked) (st′ : State) (lasts rows : List ℕ) → Told bundle task own st a x w lasts rows → w ≡ Done st′
-    → (t : Met Rule) × (x ≡ good t) × Holds bundle lasts rows st′ (tally task own (st .followed) a t)
+told-done : (bundle : List ℕ) (task : Task) (own : ℕ) (st : State) (a : Known) (x : FileRead Rule) (w : Walked) (st′ : State) (lasts rows : List ℕ) → Told bundle task own st a x w lasts rows → w ≡ Done st′
+    → (t : Met Rule) × (x ≡ wasRead t) × StateHolds bundle lasts rows st′ (tally task own (st .followed) a t)
 unfolding Told
-told-done bundle task own st a (good t) w st′ lasts rows v e = let q : v .0 ≡ st′ = cc (v .1) in (t, refl, rw q at (v .3))
-told-done bundle task own st a (refused c l f) w st′ lasts rows v e = clash (cc)
+told-done bundle task own st a (wasRead t) w st′ lasts rows v e = let q : v .0 ≡ st′ = cc (v .1) in (t, refl, rw q at (v .3))
+told-done bundle task own st a (notRead c l f) w st′ lasts rows v e = clash (cc)
 
-told-refused : (bundle : List ℕ) (task : Task) (own : ℕ) (st : State) (a : Known) (x : Read Rule) (w : Walked) (c : Refusal) (l f : ℕ) (lasts rows : List ℕ) → Told bundle task own st a x w lasts rows → w ≡ Refused c l f → x ≡ refused c l f
+told-refused : (bundle : List ℕ) (task : Task) (own : ℕ) (st : State) (a : Known) (x : FileRead Rule) (w : Walked) (c : Refusal) (l f : ℕ) (lasts rows : List ℕ) → Told bundle task own st a x w lasts rows → w ≡ Refused c l f → x ≡ notRead c l f
 unfolding Told
-told-refused bundle task own st a (good t) w c l f lasts rows v e = clash (cc (v .1))
-told-refused bundle task own st a (refused k m g) w c l f lasts rows v e = cc
+told-refused bundle task own st a (wasRead t) w c l f lasts rows v e = clash (cc (v .1))
+told-refused bundle task own st a (notRead k m g) w c l f lasts rows v e = cc
 
 -- where more than 4,096 are kept or noted, the list is refused
-counts : (t : Met Rule) → entries t ≤ 256 → (length (noted firstOf 0 0 [] t) ≤ length (finished firstOf t)) × (length (keptOf t) ≡ length (finished firstOf t))
-unfolding keptOf
-counts t h = (length-noted firstOf t h (within-all t), length-kept firstOf t h (within-all t))
+counts : (t : Met Rule) → entries t ≤ 256 → (length (noted firstCodeOf 0 0 [] t) ≤ length (finished firstCodeOf t)) × (length (keptAs t) ≡ length (finished firstCodeOf t))
+unfolding keptAs
+counts t h = (length-noted firstCodeOf t h (within-all t), length-kept firstCodeOf t h (within-all t))
 
 module _ (bundle names : List ℕ) (f start end : ℕ) where
-  abbrev Listed : Read Rule
+  abbrev Listed : FileRead Rule
   Listed = readListed (filesFor names (filesOf bundle)) f (linesOf names (take (end - start) (drop start bundle)))
 
   pub ready-survey : {lasts rows : List ℕ} → Room lasts rows → Ready bundle Survey (stateOf 0 0 0) lasts rows
@@ -243,67 +246,67 @@ module _ (bundle names : List ℕ) (f start end : ℕ) where
   }
 
   -- a refusal says nothing of the rows
-  refuses : (c : Refusal) (l g : ℕ) (rows′ : List ℕ) → Listed ≡ refused c l g → CollectIs bundle (counted Listed) (collected.Refused c l g) rows′
-  unfolding counted CollectIs
+  refuses : (c : Refusal) (l g : ℕ) (rows′ : List ℕ) → Listed ≡ notRead c l g → CollectIs bundle (countedRules Listed) (collected.Refused c l g) rows′
+  unfolding countedRules CollectIs
   refuses c l g rows′ e = rw e refl
 
-  too-many : (t : Met Rule) (rows′ : List ℕ) → Listed ≡ good t → 4096 < length (finished firstOf t) → CollectIs bundle (counted Listed) (collected.Refused TooMuch 0 0) rows′
-  unfolding counted CollectIs
-  too-many t rows′ e h = rw (e, pick-false (leb (length (finished firstOf t)) 4096) (outcome.fine t) (outcome.refused TooMuch 0 0) (lt-leb _ 4096 h)) refl
+  too-many : (t : Met Rule) (rows′ : List ℕ) → Listed ≡ wasRead t → 4096 < length (finished firstCodeOf t) → CollectIs bundle (countedRules Listed) (collected.Refused TooMuch 0 0) rows′
+  unfolding countedRules CollectIs
+  too-many t rows′ e h = rw (e, pick-false (leb (length (finished firstCodeOf t)) 4096) (outcome.fine t) (outcome.notLoaded TooMuch 0 0) (lt-leb _ 4096 h)) refl
 
-  all-kept : (t : Met Rule) (n : ℕ) (rows′ : List ℕ) → Listed ≡ good t → length (finished firstOf t) ≤ 4096 → KeptIs bundle rows′ n (keptOf t) → CollectIs bundle (counted Listed) (collected.Rules n) rows′
-  unfolding counted CollectIs
-  all-kept t n rows′ e h k = rw (e, pick-true (leb (length (finished firstOf t)) 4096) (outcome.fine t) (outcome.refused TooMuch 0 0) (le-leb _ 4096 h)) (n, refl, k)
+  all-kept : (t : Met Rule) (n : ℕ) (rows′ : List ℕ) → Listed ≡ wasRead t → length (finished firstCodeOf t) ≤ 4096 → KeptIs bundle rows′ n (keptAs t) → CollectIs bundle (countedRules Listed) (collected.Rules n) rows′
+  unfolding countedRules CollectIs
+  all-kept t n rows′ e h k = rw (e, pick-true (leb (length (finished firstCodeOf t)) 4096) (outcome.fine t) (outcome.notLoaded TooMuch 0 0) (le-leb _ 4096 h)) (n, refl, k)
 
   module _ {lasts rows lasts₁ rows₁ : List ℕ} {w : Walked} (room : Room lasts rows) (one : WalkIs bundle names f start end 8 Survey (stateOf 0 0 0) lasts rows w lasts₁ rows₁) where
     told-one : Told bundle Survey 0 (stateOf 0 0 0) (known [] []) Listed w lasts₁ rows₁
     unfolding readListed readFrom ready-survey
     told-one = one .told (known [] []) (ready-survey room .some .1)
 
-    pub stop-first : {c : Refusal} {l g : ℕ} (rows′ : List ℕ) → w ≡ Refused c l g → CollectIs bundle (counted Listed) (collected.Refused c l g) rows′
+    pub stop-first : {c : Refusal} {l g : ℕ} (rows′ : List ℕ) → w ≡ Refused c l g → CollectIs bundle (countedRules Listed) (collected.Refused c l g) rows′
     stop-first {c} {l} {g} rows′ e = refuses c l g rows′ (told-refused bundle Survey 0 _ _ Listed w c l g lasts₁ rows₁ told-one e)
 
     module _ {st : State} (e : w ≡ Done st) where
-      met : (t : Met Rule) × (Listed ≡ good t) × Holds bundle lasts₁ rows₁ st (tally Survey 0 0 (known [] []) t)
+      met : (t : Met Rule) × (Listed ≡ wasRead t) × StateHolds bundle lasts₁ rows₁ st (tally Survey 0 0 (known [] []) t)
       met = told-done bundle Survey 0 _ _ Listed w st lasts₁ rows₁ told-one e
 
-      holds : Holds bundle lasts₁ rows₁ st (known (noted firstOf 0 0 [] (met .0)) [])
+      holds : StateHolds bundle lasts₁ rows₁ st (known (noted firstCodeOf 0 0 [] (met .0)) [])
       holds = rw (tally-survey (met .0) 0 0 [] []) at (met .2)
 
-      sizes : (length (noted firstOf 0 0 [] (met .0)) ≤ length (finished firstOf (met .0))) × (length (keptOf (met .0)) ≡ length (finished firstOf (met .0)))
+      sizes : (length (noted firstCodeOf 0 0 [] (met .0)) ≤ length (finished firstCodeOf (met .0))) × (length (keptAs (met .0)) ≡ length (finished firstCodeOf (met .0)))
       sizes = counts (met .0) (listed-entries _ f _ (met .0) (met .1))
 
-      pub stop-noted : (rows′ : List ℕ) → 4096 < st .noted → CollectIs bundle (counted Listed) (collected.Refused TooMuch 0 0) rows′
+      pub stop-noted : (rows′ : List ℕ) → 4096 < st .noted → CollectIs bundle (countedRules Listed) (collected.Refused TooMuch 0 0) rows′
       stop-noted rows′ h = too-many (met .0) rows′ (met .1) (omega (arith, holds .noted .count, sizes .0))
 
       module _ (few : st .noted ≤ 4096) where
-        start-two : Holds bundle lasts₁ rows₁ (stateOf 0 (st .noted) 0) (known (noted firstOf 0 0 [] (met .0)) [])
+        start-two : StateHolds bundle lasts₁ rows₁ (stateOf 0 (st .noted) 0) (known (noted firstCodeOf 0 0 [] (met .0)) [])
         start-two = record { noted = holds .noted; kept = kept-none bundle rows₁ (holds .kept .size) }
 
         pub ready-collect : Ready bundle Collect (stateOf 0 (st .noted) 0) lasts₁ rows₁
         ready-collect = record { some = (_, start-two); followed = omega arith; whole = λ c. few }
 
         module _ {lasts₂ rows₂ : List ℕ} {w₂ : Walked} (two : WalkIs bundle names f start end 8 Collect (stateOf 0 (st .noted) 0) lasts₁ rows₁ w₂ lasts₂ rows₂) where
-          told-two : Told bundle Collect 0 (stateOf 0 (st .noted) 0) (known (noted firstOf 0 0 [] (met .0)) []) Listed w₂ lasts₂ rows₂
+          told-two : Told bundle Collect 0 (stateOf 0 (st .noted) 0) (known (noted firstCodeOf 0 0 [] (met .0)) []) Listed w₂ lasts₂ rows₂
           unfolding readListed readFrom
           told-two = two .told _ start-two
 
-          pub stop-second : {c : Refusal} {l g : ℕ} (rows′ : List ℕ) → w₂ ≡ Refused c l g → CollectIs bundle (counted Listed) (collected.Refused c l g) rows′
+          pub stop-second : {c : Refusal} {l g : ℕ} (rows′ : List ℕ) → w₂ ≡ Refused c l g → CollectIs bundle (countedRules Listed) (collected.Refused c l g) rows′
           stop-second {c} {l} {g} rows′ i = refuses c l g rows′ (told-refused bundle Collect 0 _ _ Listed w₂ c l g lasts₂ rows₂ told-two i)
 
           module _ {st₂ : State} (i : w₂ ≡ Done st₂) where
-            kept-is : KeptIs bundle rows₂ (st₂ .kept) (keptOf (met .0))
-            unfolding keptOf
+            kept-is : KeptIs bundle rows₂ (st₂ .kept) (keptAs (met .0))
+            unfolding keptAs
             kept-is =
                 let u = told-done bundle Collect 0 _ _ Listed w₂ st₂ lasts₂ rows₂ told-two i in
                 let q : u .0 ≡ met .0 = cc (u .1, met .1) in
-                let k : Holds bundle lasts₂ rows₂ st₂ (known (noted firstOf 0 0 [] (met .0)) (kept firstOf (noted firstOf 0 0 [] (met .0)) 0 [] (u .0))) = rw (tally-collect (u .0) 0 0 (noted firstOf 0 0 [] (met .0)) []) at (u .2) in
-                subst (λ (t : Met Rule). KeptIs bundle rows₂ (st₂ .kept) (kept firstOf (noted firstOf 0 0 [] (met .0)) 0 [] t)) q (k .kept)
+                let k : StateHolds bundle lasts₂ rows₂ st₂ (known (noted firstCodeOf 0 0 [] (met .0)) (kept firstCodeOf (noted firstCodeOf 0 0 [] (met .0)) 0 [] (u .0))) = rw (tally-collect (u .0) 0 0 (noted firstCodeOf 0 0 [] (met .0)) []) at (u .2) in
+                subst (λ (t : Met Rule). KeptIs bundle rows₂ (st₂ .kept) (kept firstCodeOf (noted firstCodeOf 0 0 [] (met .0)) 0 [] t)) q (k .kept)
 
-            pub stop-kept : (rows′ : List ℕ) → 4096 < st₂ .kept → CollectIs bundle (counted Listed) (collected.Refused TooMuch 0 0) rows′
+            pub stop-kept : (rows′ : List ℕ) → 4096 < st₂ .kept → CollectIs bundle (countedRules Listed) (collected.Refused TooMuch 0 0) rows′
             stop-kept rows′ h = too-many (met .0) rows′ (met .1) (omega (arith, kept-is .count, sizes .1))
 
-            pub collects : st₂ .kept ≤ 4096 → CollectIs bundle (counted Listed) (collected.Rules (st₂ .kept)) rows₂
+            pub collects : st₂ .kept ≤ 4096 → CollectIs bundle (countedRules Listed) (collected.Rules (st₂ .kept)) rows₂
             collects h = all-kept (met .0) _ rows₂ (met .1) (omega (arith, kept-is .count, sizes .1)) kept-is
 
 pub ruleset collect-laws = (ready-survey, stop-first, stop-noted, ready-collect, stop-second, stop-kept, collects)

@@ -7,11 +7,11 @@ use native.Mathlib.Numerals.{add-one}
 use native.Mathlib.Omega.{arith}
 use lib.ListN.{length, getD, take}
 use lib.Seq.{getD-take, take-suc}
-use Rattle.name_parts.specs.Writing.{Put, cap}
+use Rattle.name_parts.specs.Contracts.{Put, cap}
 use Rattle.name_parts.proofs.Laws.{slice-room, put-none, put-then, put-long, put-place}
 use Rattle.pack.specs.Packs.{Rule}
-use Rattle.pack_bytes.specs.Bytes.{textPut, countBytes}
-use Rattle.held.specs.Tables.{atPlace, keyBytes}
+use Rattle.pack_bytes.specs.Bytes.{countBytes}
+use Rattle.held.specs.Contracts.{atPlace, keyBytes}
 use Rattle.rules_parser.specs.Fields.{partOf}
 use Rattle.rules_parser.proofs.NumberLaws.{item-one}
 use Rattle.rules_parser.specs.Files.{itemAt}
@@ -22,9 +22,10 @@ use Rattle.rules_parser.specs.declared.lines.Told.the-variants as told
 use Rattle.rules_parser.specs.declared.files.Item.{Item}
 use Rattle.rules_parser.specs.declared.files.Item.the-variants as item
 use Rattle.rule_lists.specs.Lines.{ruleIn}
-use Rattle.rule_lists.specs.Tables.{Reads, KeptIs, keysOf}
-use Rattle.rule_lists.specs.Writing.{rulePut, itemPut, rowPut, SomeKept, RowFits, rowAtPut, RowsPut}
+use Rattle.rule_lists.specs.TableContracts.{RowReads, KeptIs, keysOf}
+use Rattle.rule_lists.specs.WritingContracts.{rulePut, itemPut, rowPut, SomeKept, RowFits, rowAtPut, RowsPut}
 use Rattle.rule_lists.proofs.TableLaws.{rows-at, key-at}
+use Rattle.pack_bytes.specs.Contracts.{textPut}
 
 -- ---- a rule: its four strings one after the other
 pub rule-put : (s : List ℕ) (a b c d : Text) (o o₁ o₂ o₃ o₄ : List ℕ) (at p q r e : ℕ) (t u v w : List ℕ)
@@ -81,7 +82,7 @@ key-snoc f rs [] k = append-nil _
 key-snoc f rs (x ∷ ks) k = ap (λ (l : List ℕ). atPlace f rs (x % 4096) ++ l) (key-snoc f rs ks k) ∙ sym (append-assoc (atPlace f rs (x % 4096)) (keyBytes f rs ks) (atPlace f rs (k % 4096)))
 
 -- what is written of a line that is a rule
-reads-put : (s : List ℕ) (place : ℕ) (r : Rule) → Reads s place r → rowPut s place ≡ rulePut r
+reads-put : (s : List ℕ) (place : ℕ) (r : Rule) → RowReads s place r → rowPut s place ≡ rulePut r
 unfolding rowPut itemPut
 reads-put s place r w = ap (itemPut s) (w .says) ∙ ap rulePut (w .is)
 

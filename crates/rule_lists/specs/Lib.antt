@@ -1,6 +1,6 @@
 pub mod Outcomes
 pub mod Lines
-pub mod Tables
-pub mod Walks
-pub mod Writing
+pub mod TableContracts
+pub mod Contracts
+pub mod WritingContracts
 pub mod Lists

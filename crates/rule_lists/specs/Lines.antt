@@ -8,14 +8,13 @@ use Rattle.refusals.specs.declared.Refusal.the-variants.{LineUnreadable, Patter
 use Rattle.regex_optim.specs.Contexts.{leftForm, rightForm, kindOf}
 use Rattle.regex_optim.specs.declared.OptimizedRegex.{OptimizedRegex}
 use Rattle.regex_optim.specs.declared.OptimizedRegex.the-variants.{AllStringsMatcher, IsEmpty, Equals, StartsWith, EndsWith, EqualsChar, StartsWithChar, EndsWithChar, Outside}
-use Rattle.rule.specs.Matching.{firstCode}
 use Rattle.phonemes.specs.Expressions.{checkedOf}
 use Rattle.phonemes.specs.declared.answers.Expression.{Expression}
 use Rattle.phonemes.specs.declared.answers.Expression.the-variants.{Good, Malformed, Stranger}
 use Rattle.pack.specs.Packs.{Rule, rule}
-use Rattle.held.specs.Files.{Line, passed, is-rule, include, bad}
+use Rattle.held.specs.Files.{Line, passed, is-rule, include, badLine}
 use Rattle.rules_parser.specs.Fields.{partOf}
-use Rattle.rules_parser.specs.Files.{itemAt, itemsOf}
+use Rattle.rules_parser.specs.Files.{itemsOf}
 use Rattle.rules_parser.specs.declared.fields.Text.{Text}
 use Rattle.rules_parser.specs.declared.lines.FileKind.the-variants.{Rules}
 use Rattle.rules_parser.specs.declared.lines.Told.the-variants as told
@@ -23,8 +22,6 @@ use Rattle.rules_parser.specs.declared.files.Item.{Item}
 use Rattle.rules_parser.specs.declared.files.Item.the-variants as item
 use Rattle.rule_lists.specs.declared.lines.Fault.{Fault}
 use Rattle.rule_lists.specs.declared.lines.Fault.the-variants.{Is, Without}
-use Rattle.rule_lists.specs.declared.lines.Row.{Row}
-use Rattle.rule_lists.specs.declared.lines.Row.the-variants as row
 
 -- ---- the faults of a rule, each its refusal, or none
 
@@ -52,15 +49,15 @@ expressionFault Malformed = Is ExpressionWrong
 expressionFault Stranger = Is NameUnlisted
 
 -- the first fault, else the second
-unfoldable pub orElse : Fault → Fault → Fault
-orElse Without b = b
-orElse (Is w) b = Is w
+unfoldable pub faultElse : Fault → Fault → Fault
+faultElse Without b = b
+faultElse (Is w) b = Is w
 
 unfoldable pub ruleFault : List ℕ → Rule → Fault
 ruleFault names r =
-    orElse (lengthFault (length (r .pattern)) (length (r .left)) (length (r .right)) (length (r .expression)))
-    (orElse (contextFault (kindOf (leftForm (r .left))))
-    (orElse (contextFault (kindOf (rightForm (r .right)))) (expressionFault (checkedOf names (r .expression)))))
+    faultElse (lengthFault (length (r .pattern)) (length (r .left)) (length (r .right)) (length (r .expression)))
+    (faultElse (contextFault (kindOf (leftForm (r .left))))
+    (faultElse (contextFault (kindOf (rightForm (r .right)))) (expressionFault (checkedOf names (r .expression)))))
 
 -- ---- a line
 
@@ -68,38 +65,18 @@ ruleFault names r =
 abbrev pub ruleIn : List ℕ → Text → Text → Text → Text → Rule
 ruleIn s a b c d = rule (partOf s a) (partOf s b) (partOf s c) (partOf s d)
 
-unfoldable pub judged : Fault → Rule → Line Rule
-judged Without r = is-rule r
-judged (Is w) r = bad w
+unfoldable pub judgedRule : Fault → Rule → Line Rule
+judgedRule Without r = is-rule r
+judgedRule (Is w) r = badLine w
 
 unfoldable pub lineOf : List ℕ → List ℕ → Item → Line Rule
 lineOf names s (item.Passed k n) = passed k
-lineOf names s (item.Tells (told.Rule a b c d) n) = judged (ruleFault names (ruleIn s a b c d)) (ruleIn s a b c d)
+lineOf names s (item.Tells (told.Rule a b c d) n) = judgedRule (ruleFault names (ruleIn s a b c d)) (ruleIn s a b c d)
 lineOf names s (item.Tells (told.Include t) n) = include (partOf s t)
-lineOf names s (item.Tells (told.Guess a b v) n) = bad LineUnreadable
-lineOf names s (item.Tells (told.Name t) n) = bad LineUnreadable
-lineOf names s item.Wrong = bad LineUnreadable
+lineOf names s (item.Tells (told.Guess a b v) n) = badLine LineUnreadable
+lineOf names s (item.Tells (told.Name t) n) = badLine LineUnreadable
+lineOf names s item.Wrong = badLine LineUnreadable
 
 -- the lines of a file
 unfoldable pub linesOf : List ℕ → List ℕ → List (Line Rule)
 linesOf names s = map (lineOf names s) (itemsOf Rules s)
-
--- ---- the same as the code reads it
-
-unfoldable pub rowBy : Fault → ℕ → ℕ → Row
-rowBy Without code next = row.Rule code next
-rowBy (Is w) code next = row.Bad w
-
-unfoldable pub rowOf : List ℕ → List ℕ → Text → Text → Text → Text → ℕ → Row
-rowOf names s a b c d next = rowBy (ruleFault names (ruleIn s a b c d)) (firstCode (partOf s a)) next
-
-unfoldable pub rowIn : List ℕ → List ℕ → Item → Row
-rowIn names s (item.Passed k n) = row.Passed k n
-rowIn names s (item.Tells (told.Rule a b c d) n) = rowOf names s a b c d n
-rowIn names s (item.Tells (told.Include t) n) = row.Include t n
-rowIn names s (item.Tells (told.Guess a b v) n) = row.Bad LineUnreadable
-rowIn names s (item.Tells (told.Name t) n) = row.Bad LineUnreadable
-rowIn names s item.Wrong = row.Bad LineUnreadable
-
-unfoldable pub rowAt : List ℕ → List ℕ → ℕ → Row
-rowAt names s p = rowIn names s (itemAt Rules s p)

@@ -1,7 +1,8 @@
 // The lines of a rule file: what each says, or its fault.
 ghost use mathlib.Core.Path.{_≡_};
 ghost use Rattle.pack.specs.Packs.{rule};
-ghost use Rattle.rule_lists.specs.Lines.{lengthFault, contextFault, expressionFault, ruleFault, rowOf, rowAt};
+ghost use Rattle.rule_lists.specs.Lines.{lengthFault, contextFault, expressionFault, ruleFault};
+ghost use Rattle.rule_lists.specs.Contracts.{rowTold, rowAt};
 use phonemes::Expression;
 use refusals::Refusal;
 use regex_optim::OptimizedRegex;
@@ -115,7 +116,7 @@ fn row_of(
     expression: Text,
     next: usize,
 ) -> Row
-    ensures { λ r. ⌜ r ≡ rowOf (now (names .entry)) (now (s .entry)) pattern left right expression next ⌝ }
+    ensures { λ r. ⌜ r ≡ rowTold (now (names .entry)) (now (s .entry)) pattern left right expression next ⌝ }
 {
     let first = rules_parser::part(s, pattern);
     match rule_fault(

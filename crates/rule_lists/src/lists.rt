@@ -2,14 +2,13 @@
 ghost use mathlib.Core.List.{_++_};
 ghost use Prim.Native.Nat.{_+_, _≤_};
 ghost use lib.ListN.{length};
-ghost use Rattle.name_parts.specs.Writing.{Put};
+ghost use Rattle.name_parts.specs.Contracts.{Put};
 ghost use Rattle.languages.specs.Names.{stringsOf};
 ghost use Rattle.pack_bytes.specs.Bytes.{listBytes};
-ghost use Rattle.held.specs.Tables.{bytesOf};
-ghost use Rattle.bundles.specs.Bundles.{filesOf};
-ghost use Rattle.rule_lists.specs.Lists.{listOf, listsOf, twoOf, threeOf, listFiles, commonPart};
-ghost use Rattle.rule_lists.specs.Walks.{Room};
-ghost use Rattle.rule_lists.specs.Outcomes.{Told};
+ghost use Rattle.rule_lists.specs.Lists.{listNamed, listsOf, twoOf, threeOf, listFiles, commonPart};
+ghost use Rattle.rule_lists.specs.Contracts.{Room, WrittenIs};
+ghost use Rattle.held.specs.Met.{bytesOfAll};
+ghost use Rattle.bundles.specs.Contracts.{filesOf};
 use crate::walk::Collected;
 use crate::writing::Written;
 use bundles::FileAt;
@@ -28,7 +27,7 @@ fn write_list(
     at: usize,
 ) -> Written
     requires { ⌜ Room (now lasts) (now rows) ⌝ }
-    ensures { λ r. ⌜ Told listBytes (listOf (now (names .entry)) (filesOf (now (bundle .entry))) (now (wanted .entry))) (now (out .entry)) (now (out .exit)) at r ⌝ }
+    ensures { λ r. ⌜ WrittenIs listBytes (listNamed (now (names .entry)) (filesOf (now (bundle .entry))) (now (wanted .entry))) (now (out .entry)) (now (out .exit)) at r ⌝ }
 {
     match bundles::find_file(bundle, wanted) {
         FileAt::At { number, start, end } => {
@@ -73,7 +72,7 @@ fn write_named(
 ) -> Written
     requires { ⌜ Room (now lasts) (now rows) ⌝ }
     requires { ⌜ length (now prefix) + (length (now kind) + length (now language)) ≤ 320 ⌝ }
-    ensures { λ r. ⌜ Told listBytes (listOf (now (names .entry)) (filesOf (now (bundle .entry))) (now (prefix .entry) ++ (now (kind .entry) ++ now (language .entry)))) (now (out .entry)) (now (out .exit)) at r ⌝ }
+    ensures { λ r. ⌜ WrittenIs listBytes (listNamed (now (names .entry)) (filesOf (now (bundle .entry))) (now (prefix .entry) ++ (now (kind .entry) ++ now (language .entry)))) (now (out .entry)) (now (out .exit)) at r ⌝ }
 {
     let mut wanted = [0u8; 320];
     let n = put_name(prefix, kind, language, &mut wanted);
@@ -93,7 +92,7 @@ fn write_two(
 ) -> Written
     requires { ⌜ Room (now lasts) (now rows) ⌝ }
     requires { ⌜ length (now prefix) + length (now language) ≤ 300 ⌝ }
-    ensures { λ r. ⌜ Told (bytesOf listBytes) (listsOf (now (names .entry)) (filesOf (now (bundle .entry))) (twoOf (now (prefix .entry)) (now (language .entry)))) (now (out .entry)) (now (out .exit)) at r ⌝ }
+    ensures { λ r. ⌜ WrittenIs (bytesOfAll listBytes) (listsOf (now (names .entry)) (filesOf (now (bundle .entry))) (twoOf (now (prefix .entry)) (now (language .entry)))) (now (out .entry)) (now (out .exit)) at r ⌝ }
 {
     match write_named(
         bundle,
@@ -136,7 +135,7 @@ fn write_three(
 ) -> Written
     requires { ⌜ Room (now lasts) (now rows) ⌝ }
     requires { ⌜ length (now prefix) + length (now language) ≤ 300 ⌝ }
-    ensures { λ r. ⌜ Told (bytesOf listBytes) (listsOf (now (names .entry)) (filesOf (now (bundle .entry))) (threeOf (now (prefix .entry)) (now (language .entry)))) (now (out .entry)) (now (out .exit)) at r ⌝ }
+    ensures { λ r. ⌜ WrittenIs (bytesOfAll listBytes) (listsOf (now (names .entry)) (filesOf (now (bundle .entry))) (threeOf (now (prefix .entry)) (now (language .entry)))) (now (out .entry)) (now (out .exit)) at r ⌝ }
 {
     match write_named(
         bundle,
@@ -168,7 +167,7 @@ fn write_common(
 ) -> Written
     requires { ⌜ Room (now lasts) (now rows) ⌝ }
     requires { ⌜ length (now prefix) ≤ 40 ⌝ }
-    ensures { λ r. ⌜ Told (bytesOf listBytes) (listsOf (now (names .entry)) (filesOf (now (bundle .entry))) (twoOf (now (prefix .entry)) commonPart)) (now (out .entry)) (now (out .exit)) at r ⌝ }
+    ensures { λ r. ⌜ WrittenIs (bytesOfAll listBytes) (listsOf (now (names .entry)) (filesOf (now (bundle .entry))) (twoOf (now (prefix .entry)) commonPart)) (now (out .entry)) (now (out .exit)) at r ⌝ }
 {
     write_two(bundle, names, prefix, b"common", lasts, rows, out, at)
 }
@@ -185,7 +184,7 @@ fn write_all(
 ) -> Written
     requires { ⌜ Room (now lasts) (now rows) ⌝ }
     requires { ⌜ length (now prefix) ≤ 40 ⌝ }
-    ensures { λ r. ⌜ Told (bytesOf listBytes) (listsOf (now (names .entry)) (filesOf (now (bundle .entry))) (listFiles (now (prefix .entry)) (stringsOf (now (names .entry))))) (now (out .entry)) (now (out .exit)) at r ⌝ }
+    ensures { λ r. ⌜ WrittenIs (bytesOfAll listBytes) (listsOf (now (names .entry)) (filesOf (now (bundle .entry))) (listFiles (now (prefix .entry)) (stringsOf (now (names .entry))))) (now (out .entry)) (now (out .exit)) at r ⌝ }
 {
     let mut from: usize = 0;
     let mut place = at;
@@ -228,7 +227,7 @@ pub fn write_lists(
     out: &mut [u8],
     at: usize,
 ) -> Written
-    ensures { λ r. ⌜ Told (bytesOf listBytes) (listsOf (now (names .entry)) (filesOf (now (bundle .entry))) (listFiles (Rattle.rule_lists.specs.Lists.prefixOf kind) (stringsOf (now (names .entry))))) (now (out .entry)) (now (out .exit)) at r ⌝ }
+    ensures { λ r. ⌜ WrittenIs (bytesOfAll listBytes) (listsOf (now (names .entry)) (filesOf (now (bundle .entry))) (listFiles (Rattle.rule_lists.specs.Lists.prefixOf kind) (stringsOf (now (names .entry))))) (now (out .entry)) (now (out .exit)) at r ⌝ }
 {
     let mut lasts = [0u64; 4096];
     let mut rows = [0usize; 16384];

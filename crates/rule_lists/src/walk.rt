@@ -3,10 +3,11 @@
 ghost use mathlib.Core.Path.{_≡_};
 ghost use Prim.Native.Nat.{_+_, _-_, _≤_, _<_};
 ghost use lib.ListN.{length, take, drop};
-ghost use Rattle.bundles.specs.Bundles.{filesOf};
 ghost use Rattle.held.specs.Files.{readListed};
 ghost use Rattle.rule_lists.specs.Lines.{linesOf};
-ghost use Rattle.rule_lists.specs.Walks.{filesFor, Room, Ready, RuledIs, entryOf, EntersIs, WalkIs, counted, CollectIs, stateOf};
+ghost use Rattle.rule_lists.specs.Contracts.{Room, Ready, RuledIs, openingOf, EntersIs, WalkIs, CollectIs, stateOf};
+ghost use Rattle.rule_lists.specs.Lists.{filesFor, countedRules};
+ghost use Rattle.bundles.specs.Contracts.{filesOf};
 use crate::lines::Row;
 use crate::tables::Spot;
 use bundles::FileAt;
@@ -92,7 +93,7 @@ fn on_rule(
 
 // Whether the file of a name may be entered, where `left` more may be nested and `followed` includes were followed.
 fn enter(bundle: &[u8], left: usize, name: &[u8], followed: usize) -> Entered
-    ensures { λ r. ⌜ EntersIs (now (bundle .entry)) (entryOf (now (bundle .entry)) left (now (name .entry)) followed) r ⌝ }
+    ensures { λ r. ⌜ EntersIs (now (bundle .entry)) (openingOf (now (bundle .entry)) left (now (name .entry)) followed) r ⌝ }
 {
     if left == 0 {
         return Entered::Not {
@@ -242,7 +243,7 @@ pub(crate) fn collect(
 ) -> Collected
     requires { ⌜ (start ≤ end) × (end ≤ length (now bundle)) ⌝ }
     requires { ⌜ Room (now lasts) (now rows) ⌝ }
-    ensures { λ r. ⌜ CollectIs (now (bundle .entry)) (counted (readListed (filesFor (now (names .entry)) (filesOf (now (bundle .entry)))) file (linesOf (now (names .entry)) (take (end - start) (drop start (now (bundle .entry))))))) r (now (rows .exit)) ⌝ }
+    ensures { λ r. ⌜ CollectIs (now (bundle .entry)) (countedRules (readListed (filesFor (now (names .entry)) (filesOf (now (bundle .entry)))) file (linesOf (now (names .entry)) (take (end - start) (drop start (now (bundle .entry))))))) r (now (rows .exit)) ⌝ }
 {
     let fresh = State {
         followed: 0,

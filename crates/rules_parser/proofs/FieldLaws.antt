@@ -10,8 +10,8 @@ use lib.Dec.{eqb, leb}
 use lib.ListN.{length, getD, take, drop, drop-of-length-le, length-drop, List·getD-eq-default}
 use lib.Seq.{drop-cons, take-all, take-nil}
 use borrow.Author.Tests.{lt-ltb, le-ltb, eq-eqb, ne-eqb}
-use Rattle.base.specs.Pick.{pick, pick-true, pick-false}
-use Rattle.rules_parser.specs.Fields.{partOf, passesOf, run, spanEnd, pairAt, text, quotedAt, wordAt, fieldAt, partedAt, endsAt, tailOk}
+use Rattle.base.specs.Pick.{pick}
+use Rattle.rules_parser.specs.Fields.{partOf, passesOf, spanOf, spanEnd, pairAt, text, quotedAt, bareAt, fieldAt, partedAt, endsAt, tailOk}
 use Rattle.rules_parser.specs.declared.fields.Kind.{Kind}
 use Rattle.rules_parser.specs.declared.fields.Kind.the-variants.{Blank, NotBlank, NotQuote, NotLf}
 use Rattle.rules_parser.specs.declared.fields.FieldKind.{FieldKind}
@@ -19,6 +19,7 @@ use Rattle.rules_parser.specs.declared.fields.FieldKind.the-variants.{Qu
 use Rattle.rules_parser.specs.declared.fields.Text.{Text}
 use Rattle.rules_parser.specs.declared.fields.Field.{Field}
 use Rattle.rules_parser.specs.declared.fields.Field.the-variants.{Is, No}
+use Rattle.base.proofs.PickLaws.{pick-true, pick-false}
 
 -- ---- kinds of bytes
 module _ (k : Kind) (b : ℕ) (x : Bool) where
@@ -48,20 +49,20 @@ pub eqb-by : (x y b : ℕ) → x ≡ y → eqb x b ≡ eqb y b
 eqb-by x y b e = rw e refl
 
 -- ---- a run of bytes of a kind, x being where it ends
-span-at : (k : Kind) (s : List ℕ) (i : ℕ) → i < length s → spanEnd k s i ≡ i + pick (passesOf k (getD s i 0)) (suc (run k (drop (i + 1) s))) 0
-unfolding spanEnd run
+span-at : (k : Kind) (s : List ℕ) (i : ℕ) → i < length s → spanEnd k s i ≡ i + pick (passesOf k (getD s i 0)) (suc (spanOf k (drop (i + 1) s))) 0
+unfolding spanEnd spanOf
 span-at k s i h = rw (add-one, drop-cons s i 0) refl
 
 module _ (k : Kind) (s : List ℕ) (x i : ℕ) where
   pub span-more : (t : Bool) → i < length s → t ≡ passesOf k (getD s i 0) → t ≡ true → x ≡ spanEnd k s i → x ≡ spanEnd k s (i + 1)
   unfolding spanEnd
-  span-more t h e p inv = inv ∙ span-at k s i h ∙ rw (← e, pick-true t (suc (run k (drop (i + 1) s))) 0 p) (omega arith)
+  span-more t h e p inv = inv ∙ span-at k s i h ∙ rw (← e, pick-true t (suc (spanOf k (drop (i + 1) s))) 0 p) (omega arith)
 
   pub span-stop : (t : Bool) → i < length s → t ≡ passesOf k (getD s i 0) → t ≡ false → x ≡ spanEnd k s i → i ≡ x
-  span-stop t h e p inv = sym (inv ∙ span-at k s i h ∙ rw (← e, pick-false t (suc (run k (drop (i + 1) s))) 0 p) (omega arith))
+  span-stop t h e p inv = sym (inv ∙ span-at k s i h ∙ rw (← e, pick-false t (suc (spanOf k (drop (i + 1) s))) 0 p) (omega arith))
 
   pub span-done : length s ≤ i → x ≡ spanEnd k s i → i ≡ x
-  unfolding spanEnd run
+  unfolding spanEnd spanOf
   span-done h inv = sym (inv ∙ rw (drop-of-length-le s h) (omega arith))
 
   pub span-low : x ≡ spanEnd k s i → i ≤ x
@@ -88,19 +89,19 @@ module _ (s : List ℕ) (p : ℕ) where
   unfolding quotedAt
   quoted-past h = sym (pick-false _ _ _ (le-ltb _ _ h))
 
-  pub word-is : (e : ℕ) → e ≡ spanEnd NotBlank s p → p < e → Is (text p (e - p)) e ≡ wordAt s p
-  unfolding wordAt
+  pub word-is : (e : ℕ) → e ≡ spanEnd NotBlank s p → p < e → Is (text p (e - p)) e ≡ bareAt s p
+  unfolding bareAt
   word-is e q h = rw (← q) (sym (pick-true _ _ _ (lt-ltb p e h)))
 
-  pub word-none : (e : ℕ) → e ≡ spanEnd NotBlank s p → e ≤ p → No ≡ wordAt s p
-  unfolding wordAt
+  pub word-none : (e : ℕ) → e ≡ spanEnd NotBlank s p → e ≤ p → No ≡ bareAt s p
+  unfolding bareAt
   word-none e q h = rw (← q) (sym (pick-false _ _ _ (le-ltb p e h)))
 
   pub field-quoted : (k : FieldKind) (r : Field) → k ≡ Quoted → r ≡ quotedAt s p → r ≡ fieldAt k s p
   unfolding fieldAt
   field-quoted k r e f = f ∙ rw e refl
 
-  pub field-plain : (k : FieldKind) (r : Field) → k ≡ Plain → r ≡ wordAt s p → r ≡ fieldAt k s p
+  pub field-plain : (k : FieldKind) (r : Field) → k ≡ Plain → r ≡ bareAt s p → r ≡ fieldAt k s p
   unfolding fieldAt
   field-plain k r e f = f ∙ rw e refl
 

@@ -9,8 +9,8 @@ use lib.Dec.{leb, ltb, eqb}
 use lib.ListN.{length, getD, take, drop, drop-of-length-le, length-drop}
 use lib.Seq.{drop-cons}
 use borrow.Author.Tests.{lt-ltb, le-ltb, le-leb, lt-leb, eq-eqb, ne-eqb}
-use Rattle.base.specs.Pick.{pick, pick-true, pick-false, pick-all}
-use Rattle.rules_parser.specs.Fields.{passesOf, run, spanEnd, pairAt}
+use Rattle.base.specs.Pick.{pick}
+use Rattle.rules_parser.specs.Fields.{passesOf, spanOf, spanEnd, pairAt}
 use Rattle.rules_parser.specs.Lines.{lineAt}
 use Rattle.rules_parser.specs.Files.{countedOf, closeIn, closeAt, textEnd, nextLine, restBlank, onClose, commentAt, onLine, itemAt}
 use Rattle.rules_parser.specs.declared.fields.Kind.{Kind}
@@ -23,6 +23,7 @@ use Rattle.rules_parser.specs.declared.files.Close.{Close}
 use Rattle.rules_parser.specs.declared.files.Close.the-variants.{At, Open}
 use Rattle.rules_parser.specs.declared.files.Item.{Item}
 use Rattle.rules_parser.specs.declared.files.Item.the-variants.{Passed, Tells, Wrong}
+use Rattle.base.proofs.PickLaws.{pick-true, pick-false, pick-all}
 
 -- ---- the end of a comment, x being the answer
 pub close-step : (s : List ℕ) (i n : ℕ) → i < length s
@@ -109,8 +110,8 @@ module _ (s : List ℕ) (p q : ℕ) (sk : q ≡ spanEnd blanks s p) where
 
 pub ruleset comments = (comment-past, comment-open, comment-text, comment-ends)
 
-pub run-high : (k : Kind) (t : List ℕ) → run k t ≤ length t
-unfolding run
+pub run-high : (k : Kind) (t : List ℕ) → spanOf k t ≤ length t
+unfolding spanOf
 run-high k [] = zero-le
 run-high k (b ∷ t) = pick-all (λ (n : ℕ). n ≤ suc (length t)) (passesOf k b) _ _ (suc-le-suc (run-high k t)) zero-le
 

@@ -8,7 +8,7 @@ use lib.Dec.{eqb}
 use lib.ListN.{length, getD, take, drop, length-append, length-drop}
 use lib.Seq.{take-add, drop-at, length-take-le, take-append-seam}
 use borrow.Author.Tests.{eqb-true, eqb-false, not-false, leb-true, le-leb}
-use Rattle.base.specs.Pick.{pick, pick-true, pick-false}
+use Rattle.base.specs.Pick.{pick}
 use Rattle.texts.specs.Parts.{lastIs}
 use Rattle.rules_parser.specs.Fields.{passesOf, spanEnd, pairAt}
 use Rattle.rules_parser.specs.Files.{countedOf, closeIn, textEnd, nextLine, restBlank}
@@ -19,6 +19,7 @@ use Rattle.rules_parser.proofs.GrammarFields.{Of, Stops, split, spanned
 use Rattle.rules_parser.specs.declared.fields.Kind.the-variants.{Blank, NotLf}
 use Rattle.rules_parser.specs.declared.files.Close.{Close}
 use Rattle.rules_parser.specs.declared.files.Close.the-variants.{At, Open}
+use Rattle.base.proofs.PickLaws.{pick-true, pick-false}
 
 -- ---- lists
 

@@ -11,8 +11,8 @@ use lib.Dec.{eqb, ltb}
 use lib.ListN.{length, getD, drop, length-drop, length-append, List·getD-eq-default, drop-of-length-le}
 use lib.Seq.{drop-cons, drop-drop, drop-append-seam, drop-append-le, take-append-seam}
 use borrow.Author.Tests.{lt-ltb, le-ltb, le-leb, ltb-true, ltb-false, eq-eqb, ne-eqb, eqb-true, eqb-false, not-true, not-false}
-use Rattle.base.specs.Pick.{pick, pick-true, pick-false, pick-inv}
-use Rattle.rules_parser.specs.Fields.{partOf, passesOf, run, spanEnd, pairAt, text, quotedAt, wordAt, fieldAt, partedAt, endsAt, tailOk}
+use Rattle.base.specs.Pick.{pick}
+use Rattle.rules_parser.specs.Fields.{partOf, passesOf, spanOf, spanEnd, pairAt, text, quotedAt, bareAt, fieldAt, partedAt, endsAt, tailOk}
 use Rattle.rules_parser.specs.Grammar.{Shape, Every, BlankByte, NoBlank, Other, Blanks, Gap, Word, InQuotes, CommentLine, Just, Anything, _⨾_}
 use Rattle.rules_parser.proofs.Ahead.{pick-where}
 use Rattle.rules_parser.specs.declared.fields.Kind.{Kind}
@@ -22,6 +22,7 @@ use Rattle.rules_parser.specs.declared.fields.FieldKind.the-variants.{Qu
 use Rattle.rules_parser.specs.declared.fields.Text.{Text}
 use Rattle.rules_parser.specs.declared.fields.Field.{Field}
 use Rattle.rules_parser.specs.declared.fields.Field.the-variants.{Is, No}
+use Rattle.base.proofs.PickLaws.{pick-true, pick-false, pick-inv}
 
 -- ---- kinds of bytes
 
@@ -79,16 +80,16 @@ unfoldable pub Stops : Kind → Shape
 Stops k [] = Unit {0}
 Stops k (b ∷ r) = passesOf k b ≡ false
 
-run-is : (k : Kind) (w r : List ℕ) → Every (Of k) w → Stops k r → run k (w ++ r) ≡ length w
-unfolding Every Stops run
+run-is : (k : Kind) (w r : List ℕ) → Every (Of k) w → Stops k r → spanOf k (w ++ r) ≡ length w
+unfolding Every Stops spanOf
 run-is k [] [] e h = refl
 run-is k [] (b ∷ r) e h = pick-false _ _ _ h
 run-is k (b ∷ w) r e h = pick-true _ _ _ (passes-of k b (e .0)) ∙ ap suc (run-is k w r (e .1) h)
 
-run-least : (k : Kind) (w r : List ℕ) → Every (Of k) w → length w ≤ run k (w ++ r)
-unfolding Every run
+run-least : (k : Kind) (w r : List ℕ) → Every (Of k) w → length w ≤ spanOf k (w ++ r)
+unfolding Every spanOf
 run-least k [] r e = zero-le
-run-least k (b ∷ w) r e = rw (pick-true (passesOf k b) (suc (run k (w ++ r))) 0 (passes-of k b (e .0))) (suc-le-suc (run-least k w r (e .1)))
+run-least k (b ∷ w) r e = rw (pick-true (passesOf k b) (suc (spanOf k (w ++ r))) 0 (passes-of k b (e .0))) (suc-le-suc (run-least k w r (e .1)))
 
 pub record Split (k : Kind) (l : List ℕ) : Type 0 where
   pub front : List ℕ
@@ -246,8 +247,8 @@ word-in s p h =
     met Plain s p (spanEnd NotBlank s p) (spanEnd NotBlank s p - p) f f (drop (spanEnd NotBlank s p) s) (w .place) p inside (w .place) (omega (arith, w .end))
     (refl, (λ z. omega (arith, some, ap length z)), w .every)
 
-word-met : (s : List ℕ) (p : ℕ) → Where (Met Plain s p) (wordAt s p)
-unfolding wordAt Where
+word-met : (s : List ℕ) (p : ℕ) → Where (Met Plain s p) (bareAt s p)
+unfolding bareAt Where
 word-met s p = pick-where (Where (Met Plain s p)) _ _ _ (λ h. word-in s p (ltb-true _ _ h)) (λ h. tt)
 
 pub field-met : (k : FieldKind) (s : List ℕ) (p : ℕ) → Where (Met k s p) (fieldAt k s p)
@@ -306,8 +307,8 @@ quoted-given s p w r e h =
       place = next-is s (p + 1 + length w) 34 r d;
     }
 
-word-given : (s : List ℕ) (p : ℕ) (w r : List ℕ) → drop p s ≡ w ++ r → (w ≡ [] → ⊥) → Every NoBlank w → Stops NotBlank r → Given s (wordAt s p) w r
-unfolding wordAt Of
+word-given : (s : List ℕ) (p : ℕ) (w r : List ℕ) → drop p s ≡ w ++ r → (w ≡ [] → ⊥) → Every NoBlank w → Stops NotBlank r → Given s (bareAt s p) w r
+unfolding bareAt Of
 word-given s p [] r e n h g = absurd (n refl)
 word-given s p (b ∷ w) r e n h g =
     let l : p < length s = place-in s p b (w ++ r) e in

@@ -8,11 +8,10 @@ use native.Mathlib.Omega.{arith}
 use lib.Dec.{ltb}
 use lib.ListN.{length, take, drop, length-drop, take-append-drop, drop-of-length-le}
 use borrow.Author.Tests.{lt-leb, ltb-true, ltb-false}
-use Rattle.base.specs.Pick.{pick-true, pick-false}
 use Rattle.rules_parser.specs.Fields.{spanEnd}
 use Rattle.rules_parser.specs.Lines.{lineAt}
-use Rattle.rules_parser.specs.Files.{closeAt, nextLine, onClose, commentAt, onLine, itemAt, itemsAt, itemsOf}
-use Rattle.rules_parser.specs.Grammar.{Every, Other, BlankByte, Blanks, OpeningLine, CommentLine, FirstLine, at-end, at-lf, at-cr-lf, Said, saidOf, Found, passed, said, wrong, foundOf, Block, Begins, blank, comment, block, says, Reads, over, next, stop}
+use Rattle.rules_parser.specs.Files.{closeAt, nextLine, onClose, commentAt, onLine, itemAt, itemsOf}
+use Rattle.rules_parser.specs.Grammar.{Every, Other, BlankByte, Blanks, OpeningLine, CommentLine, FirstLine, at-end, at-lf, at-cr-lf, Said, saidOf, FoundItem, passed, said, wrong, foundOf, Block, Begins, blank, comment, block, says, Reads, over, next, stop}
 use Rattle.rules_parser.proofs.Ahead.{pick-where}
 use Rattle.rules_parser.proofs.Laws.{items-start, items-end, items-passed, items-tells, items-wrong, passed-goes, tells-goes}
 use Rattle.rules_parser.proofs.GrammarFields.{Of, Stops, span-is, place-in, place-more, place-some, text-ends, plain}
@@ -26,6 +25,8 @@ use Rattle.rules_parser.specs.declared.files.Close.{Close}
 use Rattle.rules_parser.specs.declared.files.Close.the-variants.{At, Open}
 use Rattle.rules_parser.specs.declared.files.Item.{Item}
 use Rattle.rules_parser.specs.declared.files.Item.the-variants.{Passed, Tells, Wrong}
+use Rattle.base.proofs.PickLaws.{pick-true, pick-false}
+use Rattle.rules_parser.specs.Contracts.{itemsAt}
 
 -- ---- a line keeps what it begins with
 
@@ -61,7 +62,7 @@ More s left (Passed n q) = drop q s ≡ left
 More s left (Tells t q) = drop q s ≡ left
 More s left Wrong = ⊥
 
-pub record Item-as (s : List ℕ) (i : Item) (x : Found) (left : List ℕ) : Type 0 where
+pub record Item-as (s : List ℕ) (i : Item) (x : FoundItem) (left : List ℕ) : Type 0 where
   pub found : foundOf s i ≡ x
   pub more : More s left i
 
@@ -135,7 +136,7 @@ module _ (k : FileKind) (s : List ℕ) (p : ℕ) (o : p < length s) (n : ℕ) (l
       (record { found = refl; more = cut s m (b .trail) left j .next })
 
 -- what begins at p is given so
-pub item-complete : (k : FileKind) (s : List ℕ) (p : ℕ) → p < length s → {x : Found} {left : List ℕ} → Begins k (drop p s) x left → Item-as s (itemAt k s p) x left
+pub item-complete : (k : FileKind) (s : List ℕ) (p : ℕ) → p < length s → {x : FoundItem} {left : List ℕ} → Begins k (drop p s) x left → Item-as s (itemAt k s p) x left
 item-complete k s p o (blank {l} {left} f h) = blank-item k s p o l left f h
 item-complete k s p o (comment {l} {left} f h) = comment-item k s p o l left f h
 item-complete k s p o (block {n} {left} b) = block-item k s p o n left b
@@ -210,10 +211,10 @@ item-sound k s p o = rw (item-line k s p o l left f) (go (lineAt k (take (p + le
 
 -- ---- a file
 
-reads-next : {k : FileKind} {x : Found} {left : List ℕ} {xs : List Found} (r : List ℕ) (b : ℕ) (t : List ℕ) → r ≡ b ∷ t → Begins k r x left → Reads k left xs → Reads k r (x ∷ xs)
+reads-next : {k : FileKind} {x : FoundItem} {left : List ℕ} {xs : List FoundItem} (r : List ℕ) (b : ℕ) (t : List ℕ) → r ≡ b ∷ t → Begins k r x left → Reads k left xs → Reads k r (x ∷ xs)
 reads-next r b t e w h = rw e (next (rw e at w) h)
 
-reads-stop : (k : FileKind) (r : List ℕ) (b : ℕ) (t : List ℕ) → r ≡ b ∷ t → ((x : Found) (left : List ℕ) → Begins k r x left → ⊥) → Reads k r (wrong ∷ [])
+reads-stop : (k : FileKind) (r : List ℕ) (b : ℕ) (t : List ℕ) → r ≡ b ∷ t → ((x : FoundItem) (left : List ℕ) → Begins k r x left → ⊥) → Reads k r (wrong ∷ [])
 reads-stop k r b t e n = rw e (stop (rw e at n))
 
 from-past : (k : FileKind) (s : List ℕ) (p : ℕ) → length s ≤ p → Reads k (drop p s) (map (foundOf s) (itemsAt k s p))
@@ -239,7 +240,7 @@ from-sound (suc n) k s p h = go (ltb p (length s)) refl (λ q. from-sound n k s 
         from-item k s p o (λ q l. ih q (omega arith)) (itemAt k s p) refl (item-sound k s p o)
     go false e ih = from-past k s p (ltb-false _ _ e)
 
-from-complete : {k : FileKind} {r : List ℕ} {xs : List Found} → Reads k r xs → (s : List ℕ) (p : ℕ) → drop p s ≡ r → xs ≡ map (foundOf s) (itemsAt k s p)
+from-complete : {k : FileKind} {r : List ℕ} {xs : List FoundItem} → Reads k r xs → (s : List ℕ) (p : ℕ) → drop p s ≡ r → xs ≡ map (foundOf s) (itemsAt k s p)
 unfolding foundOf More Begun
 from-complete {k} over s p e = sym (ap (map (foundOf s)) (items-end k s p (omega (arith, length-drop p s, ap length e))))
 from-complete {k} (next {b} {t} {left} {x} {xs} w h) s p e = go (itemAt k s p) refl (item-complete k s p (place-in s p b t e) (rw e w)) (from-complete h s)
@@ -262,7 +263,7 @@ left-one s left left′ (Tells t q) v w = sym v ∙ w
 left-one s left left′ Wrong v w = absurd v
 
 -- a text begins in one way
-pub one-beginning : (k : FileKind) (s : List ℕ) (x y : Found) (left left′ : List ℕ) → 0 < length s → Begins k s x left → Begins k s y left′ → (x ≡ y) × (left ≡ left′)
+pub one-beginning : (k : FileKind) (s : List ℕ) (x y : FoundItem) (left left′ : List ℕ) → 0 < length s → Begins k s x left → Begins k s y left′ → (x ≡ y) × (left ≡ left′)
 one-beginning k s x y left left′ o v w =
     let a = item-complete k s 0 o v in
     let b = item-complete k s 0 o w in
@@ -273,9 +274,9 @@ pub file-sound : (k : FileKind) (s : List ℕ) → Reads k s (map (foundOf s) (i
 file-sound k s = rw (items-start k s) at (from-sound (length s) k s 0 (omega arith))
 
 -- and nothing else is
-pub file-complete : (k : FileKind) (s : List ℕ) (xs : List Found) → Reads k s xs → xs ≡ map (foundOf s) (itemsOf k s)
+pub file-complete : (k : FileKind) (s : List ℕ) (xs : List FoundItem) → Reads k s xs → xs ≡ map (foundOf s) (itemsOf k s)
 file-complete k s xs w = from-complete w s 0 refl ∙ ap (map (foundOf s)) (items-start k s)
 
 -- the grammar reads a file in one way
-pub one-reading : (k : FileKind) (s : List ℕ) (xs ys : List Found) → Reads k s xs → Reads k s ys → xs ≡ ys
+pub one-reading : (k : FileKind) (s : List ℕ) (xs ys : List FoundItem) → Reads k s xs → Reads k s ys → xs ≡ ys
 one-reading k s xs ys v w = file-complete k s xs v ∙ sym (file-complete k s ys w)

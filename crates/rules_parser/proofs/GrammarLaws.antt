@@ -8,7 +8,7 @@ use native.Mathlib.Omega.{arith}
 use lib.ListN.{length, drop}
 use lib.Seq.{drop-drop}
 use borrow.Author.Tests.{le-leb, lt-leb, leb-true, eqb-true}
-use Rattle.base.specs.Pick.{pick, and, pick-true, pick-false, and-yes, and-inv}
+use Rattle.base.specs.Pick.{pick, and}
 use Rattle.letters.specs.Order.{sameText}
 use Rattle.texts.specs.Parts.{prefixOf}
 use Rattle.languages.specs.Names.{languageName, allLetters, isLetter, common}
@@ -29,6 +29,7 @@ use Rattle.rules_parser.specs.declared.lines.Told.{Told}
 use Rattle.rules_parser.specs.declared.lines.Told.the-variants.{Rule, Include, Guess, Name}
 use Rattle.rules_parser.specs.declared.lines.Line.{Line}
 use Rattle.rules_parser.specs.declared.lines.Line.the-variants.{Blank, Comment, Opens, Tells, Bad}
+use Rattle.base.proofs.PickLaws.{pick-true, pick-false, and-yes, and-inv}
 
 -- ---- sound: s is the file f up to the end of the line l
 

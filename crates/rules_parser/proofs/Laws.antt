@@ -6,11 +6,10 @@ use Prim.Native.Nat.{ℕ, zero, suc, _+_, _-_, _≤_, _<_}
 use native.Mathlib.Omega.{arith}
 use lib.ListN.{length}
 use borrow.Author.Tests.{lt-ltb, le-ltb, ltb-true}
-use Rattle.base.specs.Pick.{pick-true, pick-false, pick-cong}
 use Rattle.languages.specs.Names.{languageName}
 use Rattle.rule.specs.Matching.{ruleText}
 use Rattle.rules_parser.specs.Fields.{partOf}
-use Rattle.rules_parser.specs.Files.{itemAt, onNext, itemsFrom, itemsAt, itemsOf}
+use Rattle.rules_parser.specs.Files.{itemAt, onNext, itemsFrom, itemsOf}
 use Rattle.rules_parser.proofs.Ahead.{Ahead, item-ahead}
 use Rattle.rules_parser.proofs.Sound.{Says, says}
 use Rattle.rules_parser.specs.declared.fields.Text.{Text}
@@ -20,6 +19,8 @@ use Rattle.rules_parser.specs.declared.lines.Told.{Told}
 use Rattle.rules_parser.specs.declared.lines.Told.the-variants.{Rule, Guess, Name}
 use Rattle.rules_parser.specs.declared.files.Item.{Item}
 use Rattle.rules_parser.specs.declared.files.Item.the-variants.{Passed, Tells, Wrong}
+use Rattle.base.proofs.PickLaws.{pick-true, pick-false, pick-cong}
+use Rattle.rules_parser.specs.Contracts.{itemsAt}
 
 -- ---- an item goes on, within the file
 

@@ -2,12 +2,12 @@
 use mathlib.Core.Path.{refl}
 use Rattle.base.specs.Pick.{pick, and}
 use Rattle.letters.specs.Utf8.{within, lowSecond, highSecond, code2, code3, code4, decode2, decode3, decode4, decodeBytes, decodeAt}
-use Rattle.letters.specs.Reading.{piecesOn, piecesFrom, piecesOf}
+use Rattle.letters.specs.Reading.{symbolsOn, symbolsFrom, symbolsOf}
 use Rattle.letters.specs.Order.{sameText}
 use Rattle.texts.specs.Parts.{prefixOf}
 use Rattle.languages.specs.Names.{isLetter, allLetters, languageName}
 use Rattle.rule.specs.Matching.{plainCode, plainIn, ruleText}
-use Rattle.rules_parser.specs.Fields.{partOf, passesOf, run, spanEnd, pairAt, quotedAt, wordAt, fieldAt, partedAt, endsAt, tailOk}
+use Rattle.rules_parser.specs.Fields.{partOf, passesOf, spanOf, spanEnd, pairAt, quotedAt, bareAt, fieldAt, partedAt, endsAt, tailOk}
 use Rattle.rules_parser.specs.Lines.{onField, textAt, ruleTold, lastTwo, fourAt, includeAt, ruleAt, guessTold, acceptTold, guessEnd, guessAt, nameTold, nameAt, toldAt, lineAt}
 use Rattle.rules_parser.specs.Files.{countedOf, closeIn, closeAt, textEnd, nextLine, restBlank, onClose, commentAt, onLine, itemAt, onNext, itemsFrom, itemsOf}
 use Rattle.rules_parser.specs.Grammar.{saidOf, foundOf}
@@ -16,8 +16,8 @@ use Rattle.rules_parser.specs.LineExamples.{bytes, comments, lines, AllF
 -- what the examples compute with
 computing : Unit {0}
 unfolding
-    pick and within lowSecond highSecond code2 code3 code4 decode2 decode3 decode4 decodeBytes decodeAt piecesOn piecesFrom piecesOf sameText prefixOf
-    isLetter allLetters languageName plainCode plainIn ruleText partOf passesOf run spanEnd pairAt quotedAt wordAt fieldAt partedAt endsAt tailOk
+    pick and within lowSecond highSecond code2 code3 code4 decode2 decode3 decode4 decodeBytes decodeAt symbolsOn symbolsFrom symbolsOf sameText prefixOf
+    isLetter allLetters languageName plainCode plainIn ruleText partOf passesOf spanOf spanEnd pairAt quotedAt bareAt fieldAt partedAt endsAt tailOk
     onField textAt ruleTold lastTwo fourAt includeAt ruleAt guessTold acceptTold guessEnd guessAt nameTold nameAt toldAt lineAt
     countedOf closeIn closeAt textEnd nextLine restBlank onClose commentAt onLine itemAt onNext itemsFrom itemsOf saidOf foundOf bytes
 computing = tt

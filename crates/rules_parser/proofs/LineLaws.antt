@@ -7,7 +7,7 @@ use native.Mathlib.Nat.{le-of-eq}
 use lib.ListN.{length, take, drop, length-drop}
 use lib.Seq.{take-all}
 use borrow.Author.Tests.{le-leb, lt-leb}
-use Rattle.base.specs.Pick.{pick, pick-true, pick-false}
+use Rattle.base.specs.Pick.{pick}
 use Rattle.letters.specs.Order.{sameText}
 use Rattle.texts.specs.Parts.{prefixOf}
 use Rattle.languages.specs.Names.{languageName}
@@ -23,6 +23,7 @@ use Rattle.rules_parser.specs.declared.lines.FileKind.the-variants.{Lang
 use Rattle.rules_parser.specs.declared.lines.Told.the-variants.{Name}
 use Rattle.rules_parser.specs.declared.lines.Line.{Line}
 use Rattle.rules_parser.specs.declared.lines.Line.the-variants.{Blank, Comment, Opens, Tells, Bad}
+use Rattle.base.proofs.PickLaws.{pick-true, pick-false}
 
 -- ---- tests of a text, x being the part that it is and t what a call said of it
 module _ (s x : List ℕ) (c : Text) (e : x ≡ partOf s c) (t : Bool) where

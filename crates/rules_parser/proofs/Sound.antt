@@ -7,10 +7,9 @@ use native.Mathlib.Omega.{arith}
 use lib.ListN.{length, take, drop, length-take, length-drop}
 use lib.Seq.{take-take}
 use borrow.Author.Tests.{ltb-true}
-use Rattle.base.specs.Pick.{and-inv}
 use Rattle.languages.specs.Names.{languageName}
 use Rattle.rule.specs.Matching.{ruleText}
-use Rattle.rules_parser.specs.Fields.{partOf, spanEnd, quotedAt, wordAt, fieldAt, partedAt}
+use Rattle.rules_parser.specs.Fields.{partOf, spanEnd, quotedAt, bareAt, fieldAt, partedAt}
 use Rattle.rules_parser.specs.Lines.{onField, textAt, ruleTold, lastTwo, fourAt, includeAt, ruleAt, guessTold, acceptTold, guessEnd, guessAt, nameTold, nameAt, toldAt, lineAt}
 use Rattle.rules_parser.specs.Files.{closeAt, textEnd, onClose, commentAt, onLine, itemAt}
 use Rattle.rules_parser.proofs.FileLaws.{run-high}
@@ -31,6 +30,7 @@ use Rattle.rules_parser.specs.declared.files.Close.{Close}
 use Rattle.rules_parser.specs.declared.files.Close.the-variants.{At, Open}
 use Rattle.rules_parser.specs.declared.files.Item.{Item}
 use Rattle.rules_parser.specs.declared.files.Item.the-variants.{Passed, Tells, Wrong}
+use Rattle.base.proofs.PickLaws.{and-inv}
 
 -- a part of a slice that is cut behind it
 part-cut : (a n e : ℕ) (s : List ℕ) → a + n ≤ e → take n (drop a (take e s)) ≡ take n (drop a s)
@@ -52,8 +52,8 @@ quoted-within s p =
     inside : p < length s → spanEnd NotQuote s (p + 1) < length s → p + 1 + (spanEnd NotQuote s (p + 1) - (p + 1)) ≤ length s
     inside h l = let w = span-in NotQuote s (p + 1) (omega arith) in omega (arith, w .0)
 
-word-within : (s : List ℕ) (p : ℕ) → Within s (wordAt s p)
-unfolding wordAt Within spanEnd
+word-within : (s : List ℕ) (p : ℕ) → Within s (bareAt s p)
+unfolding bareAt Within spanEnd
 word-within s p =
     pick-where (Within s) _ _ _
     (λ h. let l : p < spanEnd NotBlank s p = ltb-true _ _ h in omega (arith, run-high NotBlank (drop p s), length-drop p s)) (λ h. tt)

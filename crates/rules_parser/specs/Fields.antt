@@ -25,13 +25,13 @@ passesOf NotQuote b = not (eqb b 34)
 passesOf NotLf b = not (eqb b 10)
 
 -- how many bytes in front are of the kind
-unfoldable pub run : Kind → List ℕ → ℕ
-run k [] = 0
-run k (b ∷ t) = pick (passesOf k b) (suc (run k t)) 0
+unfoldable pub spanOf : Kind → List ℕ → ℕ
+spanOf k [] = 0
+spanOf k (b ∷ t) = pick (passesOf k b) (suc (spanOf k t)) 0
 
 -- the first place from p on whose byte is not of the kind
 unfoldable pub spanEnd : Kind → List ℕ → ℕ → ℕ
-spanEnd k s p = p + run k (drop p s)
+spanEnd k s p = p + spanOf k (drop p s)
 
 abbrev pub skip : List ℕ → ℕ → ℕ
 skip s p = spanEnd Blank s p
@@ -51,12 +51,12 @@ quotedAt s p = pick (ltb p (length s)) (pick (eqb (getD s p 0) 34) (closed (span
     closed e = pick (ltb e (length s)) (Is (text (p + 1) (e - (p + 1))) (e + 1)) No
 
 -- one byte or more up to the next blank
-unfoldable pub wordAt : List ℕ → ℕ → Field
-wordAt s p = pick (ltb p (spanEnd NotBlank s p)) (Is (text p (spanEnd NotBlank s p - p)) (spanEnd NotBlank s p)) No
+unfoldable pub bareAt : List ℕ → ℕ → Field
+bareAt s p = pick (ltb p (spanEnd NotBlank s p)) (Is (text p (spanEnd NotBlank s p - p)) (spanEnd NotBlank s p)) No
 
 unfoldable pub fieldAt : FieldKind → List ℕ → ℕ → Field
 fieldAt Quoted s p = quotedAt s p
-fieldAt Plain s p = wordAt s p
+fieldAt Plain s p = bareAt s p
 
 -- a field behind one blank or more
 unfoldable pub partedAt : FieldKind → List ℕ → ℕ → Field

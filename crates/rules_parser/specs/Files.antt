@@ -77,9 +77,5 @@ unfoldable pub itemsFrom : ℕ → FileKind → List ℕ → ℕ → List Item
 itemsFrom zero kind s p = []
 itemsFrom (suc k) kind s p = pick (ltb p (length s)) (onNext (itemAt kind s p) (itemsFrom k kind s)) []
 
--- the same with just that fuel
-abbrev pub itemsAt : FileKind → List ℕ → ℕ → List Item
-itemsAt kind s p = itemsFrom (length s - p) kind s p
-
 unfoldable pub itemsOf : FileKind → List ℕ → List Item
 itemsOf kind s = itemsFrom (length s) kind s 0

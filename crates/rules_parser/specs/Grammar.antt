@@ -159,10 +159,10 @@ lineEnds [] = 0
 lineEnds (b ∷ l) = pick (eqb b lf) (suc (lineEnds l)) (lineEnds l)
 
 -- lines to pass, or what a line says, or no line at all (12)
-pub data Found : Type 0 where
-  passed : (lines : ℕ) → Found
-  said : Said → Found
-  wrong : Found
+pub data FoundItem : Type 0 where
+  passed : (lines : ℕ) → FoundItem
+  said : Said → FoundItem
+  wrong : FoundItem
 
 -- r is a comment "opened by `/*` as first text and closed by `*/`, not sharing its star, as last text of that or a later line",
 -- and what is left behind its last line. The first `*/` closes
@@ -179,17 +179,17 @@ pub record Block (r : List ℕ) (lines : ℕ) (left : List ℕ) : Type 0 where
   pub trails : Blanks trail
 
 -- what r begins with, and what is left of it: "Every file has blank lines and comments"
-pub data Begins (k : FileKind) (r : List ℕ) : Found → List ℕ → Type 0 where
+pub data Begins (k : FileKind) (r : List ℕ) : FoundItem → List ℕ → Type 0 where
   blank : {l left : List ℕ} → FirstLine r l left → Blanks l → Begins k r (passed 1) left
   comment : {l left : List ℕ} → FirstLine r l left → CommentLine l → Begins k r (passed 1) left
   block : {n : ℕ} {left : List ℕ} → Block r n left → Begins k r (passed n) left
   says : {l left : List ℕ} {x : Said} → FirstLine r l left → LineSays k l x → Begins k r (said x) left
 
 -- a whole file. What begins in no such way is 12, "an unclosed one is 12 where it opens" too, and nothing behind it is read
-pub data Reads (k : FileKind) : List ℕ → List Found → Type 0 where
+pub data Reads (k : FileKind) : List ℕ → List FoundItem → Type 0 where
   over : Reads k [] []
-  next : {b : ℕ} {t left : List ℕ} {x : Found} {xs : List Found} → Begins k (b ∷ t) x left → Reads k left xs → Reads k (b ∷ t) (x ∷ xs)
-  stop : {b : ℕ} {t : List ℕ} → ((x : Found) (left : List ℕ) → Begins k (b ∷ t) x left → ⊥) → Reads k (b ∷ t) (wrong ∷ [])
+  next : {b : ℕ} {t left : List ℕ} {x : FoundItem} {xs : List FoundItem} → Begins k (b ∷ t) x left → Reads k left xs → Reads k (b ∷ t) (x ∷ xs)
+  stop : {b : ℕ} {t : List ℕ} → ((x : FoundItem) (left : List ℕ) → Begins k (b ∷ t) x left → ⊥) → Reads k (b ∷ t) (wrong ∷ [])
 
 -- ---- what the reader gives, in the grammar's words: the bytes of the places, f being the file
 
@@ -199,7 +199,7 @@ saidOf f (Include t) = include (partOf f t)
 saidOf f (Guess a b v) = guess (partOf f a) (partOf f b) v
 saidOf f (Name t) = name (partOf f t)
 
-unfoldable pub foundOf : List ℕ → Item → Found
+unfoldable pub foundOf : List ℕ → Item → FoundItem
 foundOf f (Passed n q) = passed n
 foundOf f (Tells t q) = said (saidOf f t)
 foundOf f Wrong = wrong

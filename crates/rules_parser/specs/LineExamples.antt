@@ -6,7 +6,7 @@ use mathlib.Core.Path.{_≡_}
 use mathlib.Core.Bool.{true, false}
 use mathlib.Core.List.{List, [], _∷_, map}
 use Rattle.rules_parser.specs.Files.{itemsOf}
-use Rattle.rules_parser.specs.Grammar.{Found, passed, said, wrong, rule, include, guess, name, foundOf}
+use Rattle.rules_parser.specs.Grammar.{FoundItem, passed, said, wrong, rule, include, guess, name, foundOf}
 use Rattle.rules_parser.specs.declared.lines.FileKind.{FileKind}
 use Rattle.rules_parser.specs.declared.lines.FileKind.the-variants.{Languages, Guesses, Rules}
 
@@ -15,51 +15,51 @@ unfoldable pub bytes : String → List ℕ
 bytes none = []
 bytes (c then s) = code c ∷ bytes s
 
-pub record Row : Type 0 where
+pub record LineRow : Type 0 where
   pub kind : FileKind
   pub file : List ℕ
-  pub found : List Found
+  pub found : List FoundItem
 
-abbrev pub row : FileKind → String → List Found → Row
-row k s f = record { kind = k; file = bytes s; found = f }
+abbrev pub lineRow : FileKind → String → List FoundItem → LineRow
+lineRow k s f = record { kind = k; file = bytes s; found = f }
 
 -- what the reader finds is what the row says
-abbrev pub AllFound : List Row → Type 0
+abbrev pub AllFound : List LineRow → Type 0
 AllFound [] = Unit {0}
 AllFound (r ∷ rs) = (map (foundOf (r .file)) (itemsOf (r .kind) (r .file)) ≡ r .found) × AllFound rs
 
-abbrev pub aToO : Found
+abbrev pub aToO : FoundItem
 aToO = said (rule (bytes "a") [] [] (bytes "o"))
 
-unfoldable pub comments : List Row
+unfoldable pub comments : List LineRow
 comments =
-    row Rules "/*/" (wrong ∷ [])
-    ∷ row Rules "/**/" (passed 1 ∷ [])
-    ∷ row Rules " /* a */\t\r\n" (passed 1 ∷ [])
-    ∷ row Rules "/* a */ b" (wrong ∷ [])
-    ∷ row Rules "/* a */ /* b */" (wrong ∷ [])
-    ∷ row Rules "/* a\n\"b\"\n" (wrong ∷ [])
-    ∷ row Languages "/* a\nb\r\nc */\nany" (passed 3 ∷ said (name (bytes "any")) ∷ [])
-    ∷ row Guesses "\n // /* a\n\t" (passed 1 ∷ passed 1 ∷ passed 1 ∷ [])
+    lineRow Rules "/*/" (wrong ∷ [])
+    ∷ lineRow Rules "/**/" (passed 1 ∷ [])
+    ∷ lineRow Rules " /* a */\t\r\n" (passed 1 ∷ [])
+    ∷ lineRow Rules "/* a */ b" (wrong ∷ [])
+    ∷ lineRow Rules "/* a */ /* b */" (wrong ∷ [])
+    ∷ lineRow Rules "/* a\n\"b\"\n" (wrong ∷ [])
+    ∷ lineRow Languages "/* a\nb\r\nc */\nany" (passed 3 ∷ said (name (bytes "any")) ∷ [])
+    ∷ lineRow Guesses "\n // /* a\n\t" (passed 1 ∷ passed 1 ∷ passed 1 ∷ [])
     ∷ []
 
-unfoldable pub lines : List Row
+unfoldable pub lines : List LineRow
 lines =
-    row Rules "\"a\" \"\" \"\" \"o\"\r\n" (aToO ∷ [])
-    ∷ row Rules "\t\"a\"\t\"\" \"\"  \"o\" \n" (aToO ∷ [])
-    ∷ row Rules "\"a\" \"\" \"\" \"o\"\r" (wrong ∷ [])
-    ∷ row Rules "\"a\" \"\" \"\"\r\"o\"\n" (wrong ∷ [])
-    ∷ row Rules "\"a\" \"\" \"\" \"o\"//c\n" (aToO ∷ [])
-    ∷ row Rules "\"a\" \"\" \"\" \"o\" /* c */\n" (wrong ∷ [])
-    ∷ row Rules "\"a\" \"\"\"\" \"o\"\n" (wrong ∷ [])
-    ∷ row Rules "#include x//c" (said (include (bytes "x//c")) ∷ [])
-    ∷ row Rules "#include\tx \n" (said (include (bytes "x")) ∷ [])
-    ∷ row Rules "#include x // c\n" (wrong ∷ [])
-    ∷ row Guesses "^a de+fr true\n" (said (guess (bytes "^a") (bytes "de+fr") true) ∷ [])
-    ∷ row Guesses "/a any false" (said (guess (bytes "/a") (bytes "any") false) ∷ [])
-    ∷ row Guesses "#include any true" (said (guess (bytes "#include") (bytes "any") true) ∷ [])
-    ∷ row Guesses "a any true // c" (wrong ∷ [])
-    ∷ row Languages " any\t\r\n" (said (name (bytes "any")) ∷ [])
-    ∷ row Languages "any // c" (wrong ∷ [])
-    ∷ row Languages "common" (wrong ∷ [])
+    lineRow Rules "\"a\" \"\" \"\" \"o\"\r\n" (aToO ∷ [])
+    ∷ lineRow Rules "\t\"a\"\t\"\" \"\"  \"o\" \n" (aToO ∷ [])
+    ∷ lineRow Rules "\"a\" \"\" \"\" \"o\"\r" (wrong ∷ [])
+    ∷ lineRow Rules "\"a\" \"\" \"\"\r\"o\"\n" (wrong ∷ [])
+    ∷ lineRow Rules "\"a\" \"\" \"\" \"o\"//c\n" (aToO ∷ [])
+    ∷ lineRow Rules "\"a\" \"\" \"\" \"o\" /* c */\n" (wrong ∷ [])
+    ∷ lineRow Rules "\"a\" \"\"\"\" \"o\"\n" (wrong ∷ [])
+    ∷ lineRow Rules "#include x//c" (said (include (bytes "x//c")) ∷ [])
+    ∷ lineRow Rules "#include\tx \n" (said (include (bytes "x")) ∷ [])
+    ∷ lineRow Rules "#include x // c\n" (wrong ∷ [])
+    ∷ lineRow Guesses "^a de+fr true\n" (said (guess (bytes "^a") (bytes "de+fr") true) ∷ [])
+    ∷ lineRow Guesses "/a any false" (said (guess (bytes "/a") (bytes "any") false) ∷ [])
+    ∷ lineRow Guesses "#include any true" (said (guess (bytes "#include") (bytes "any") true) ∷ [])
+    ∷ lineRow Guesses "a any true // c" (wrong ∷ [])
+    ∷ lineRow Languages " any\t\r\n" (said (name (bytes "any")) ∷ [])
+    ∷ lineRow Languages "any // c" (wrong ∷ [])
+    ∷ lineRow Languages "common" (wrong ∷ [])
     ∷ []

@@ -1,7 +1,7 @@
 // The fields of a line. A slice ends where the line's text ends, and places count from the slice's start.
 ghost use mathlib.Core.Path.{_≡_};
 ghost use lib.ListN.{getD};
-ghost use Rattle.rules_parser.specs.Fields.{passesOf, spanEnd, pairAt, quotedAt, wordAt, fieldAt, partedAt, partOf, endsAt, tailOk};
+ghost use Rattle.rules_parser.specs.Fields.{passesOf, spanEnd, pairAt, quotedAt, bareAt, fieldAt, partedAt, partOf, endsAt, tailOk};
 
 // What a run of bytes consists of.
 pub(crate) enum Kind {
@@ -116,7 +116,7 @@ fn quoted_at(s: &[u8], p: usize) -> Field
 
 // The bytes up to the next blank, where there is one or more.
 fn word_at(s: &[u8], p: usize) -> Field
-    ensures { λ r. ⌜ r ≡ wordAt (now (s .entry)) p ⌝ }
+    ensures { λ r. ⌜ r ≡ bareAt (now (s .entry)) p ⌝ }
 {
     let e = span(s, p, Kind::NotBlank);
     if p < e {

@@ -9,8 +9,9 @@ use lib.Dec.{eqb, ltb}
 use lib.ListN.{length, getD, take, drop, drop-of-length-le, length-drop}
 use lib.Seq.{drop-cons, take-all, take-length}
 use borrow.Author.Tests.{lt-ltb, le-ltb, eq-eqb, ne-eqb}
-use Rattle.base.specs.Pick.{pick, and, pick-true, pick-false, and-no}
+use Rattle.base.specs.Pick.{pick, and}
 use Rattle.texts.specs.Parts.{tail, front, firstIs, lastIs, placeOf, has, prefixOf, suffixOf}
+use Rattle.base.proofs.PickLaws.{pick-true, pick-false, and-no}
 
 -- ---- the first and the last byte
 

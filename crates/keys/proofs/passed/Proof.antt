@@ -2,7 +2,7 @@ use mathlib.Core.Path.{_≡_}
 use Prim.Native.Nat.{ℕ, _≤_}
 use Rattle.engine.specs.declared.lines.Lines.{Lines}
 use Rattle.engine.specs.declared.lines.Lines.the-variants.{Done}
-use Rattle.keys.specs.Waiting.{Within}
+use Rattle.keys.specs.Contracts.{Within}
 use borrow.Author.Needs.{needs}
 use Rattle.keys.proofs.passed.Statement.{statement}
 use Rattle.keys.proofs.passed.Tie as tie

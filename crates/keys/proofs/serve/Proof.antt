@@ -1,6 +1,6 @@
 use mathlib.Core.Path.{_≡_}
 use lib.ListN.{length}
-use Rattle.keys.specs.Waiting.{Waits}
+use Rattle.keys.specs.Contracts.{Waits}
 use borrow.Author.Needs.{needs}
 use Rattle.keys.proofs.serve.Statement.{statement}
 use Rattle.keys.proofs.serve.Tie as tie

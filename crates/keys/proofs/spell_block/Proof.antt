@@ -3,12 +3,12 @@ use mathlib.Core.List.{List}
 use Prim.Native.Nat.{ℕ}
 use native.Mathlib.Omega.{arith}
 use lib.ListN.{length}
-use Rattle.engine.specs.Calls.{Outcome}
+use Rattle.engine.specs.Calls.{CallOutcome}
 use Rattle.engine.specs.Lines.{LinesIs}
 use Rattle.engine.specs.declared.lines.Lines.{Lines}
 use Rattle.engine.specs.declared.lines.Lines.the-variants.{Done, NoRoom}
 use Rattle.engine.proofs.LinesLaws.{lines-read, lines-written}
-use Rattle.keys.specs.Waiting.{Within}
+use Rattle.keys.specs.Contracts.{Within}
 use borrow.Author.Needs.{needs}
 use Rattle.keys.proofs.spell_block.Statement.{statement}
 use Rattle.keys.proofs.spell_block.Tie as tie
@@ -16,7 +16,7 @@ use Rattle.keys.proofs.spell_block.Reads as reads
 use Rattle.keys.proofs.spell_block.Lts as lts
 use Rattle.beider_morse.proofs.spell_lines.Reads as spell-lines-reads
 
-within : {call : List ℕ → Outcome} {block out o : List ℕ} (r : Lines) → LinesIs call block out r o → length o ≡ length out → Within r (length block) (length o)
+within : {call : List ℕ → CallOutcome} {block out o : List ℕ} (r : Lines) → LinesIs call block out r o → length o ≡ length out → Within r (length block) (length o)
 unfolding Within
 within (Done read written) x e = (lines-read x, omega (arith, lines-written x))
 within (NoRoom needed) x e = tt

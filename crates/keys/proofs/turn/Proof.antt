@@ -4,7 +4,7 @@ use native.Mathlib.Omega.{arith}
 use lib.ListN.{length, take, length-take}
 use Rattle.engine.specs.declared.lines.Lines.{Lines}
 use Rattle.engine.specs.declared.lines.Lines.the-variants.{Done, NoRoom}
-use Rattle.keys.specs.Waiting.{Within}
+use Rattle.keys.specs.Contracts.{Within}
 use borrow.Author.Needs.{needs}
 use Rattle.keys.proofs.turn.Statement.{statement}
 use Rattle.keys.proofs.turn.Tie as tie

@@ -1,4 +1,3 @@
-use Rattle.base.specs.Pick.{cases}
 use Rattle.lang.specs.Patterns.{framed}
 use borrow.Author.Needs.{needs}
 use Rattle.lang.proofs.Forms.{framed-laws}
@@ -8,6 +7,7 @@ use Rattle.lang.proofs.is_framed.Reads as reads
 use Rattle.lang.proofs.is_framed.Lts as lts
 use Rattle.lang.proofs.is_blankless.Reads as is-blankless-reads
 use Rattle.texts.proofs.first_is.Reads as first-is-reads
+use Rattle.base.proofs.PickLaws.{cases}
 
 first-is-requires : tie.Need-first-is-requires
 first-is-requires c κs = search (framed-laws, needs)

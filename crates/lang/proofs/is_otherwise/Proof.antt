@@ -1,10 +1,10 @@
 use borrow.Author.Needs.{needs}
-use Rattle.lang.specs.Shortcuts.{otherwise}
-use Rattle.base.specs.Pick.{cases}
+use Rattle.lang.specs.Contracts.{otherwise}
 use Rattle.lang.proofs.is_otherwise.Statement.{statement}
 use Rattle.lang.proofs.is_otherwise.Tie as tie
 use Rattle.lang.proofs.is_otherwise.Reads as reads
 use Rattle.lang.proofs.is_otherwise.Lts as lts
+use Rattle.base.proofs.PickLaws.{cases}
 
 shared-slice-read-if2 : tie.Need-shared-slice-read-if2
 shared-slice-read-if2 c = search (cases, needs)

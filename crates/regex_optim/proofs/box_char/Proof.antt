@@ -1,5 +1,4 @@
-use Rattle.base.specs.Pick.{cases}
-use Rattle.regex_optim.specs.Steps.{boxChar}
+use Rattle.regex_optim.specs.Contracts.{boxChar}
 use borrow.Author.Needs.{needs}
 use Rattle.regex_optim.proofs.box_char.Statement.{statement}
 use Rattle.regex_optim.proofs.box_char.Tie as tie
@@ -8,6 +7,7 @@ use Rattle.regex_optim.proofs.box_char.Lts as lts
 use Rattle.regex_optim.proofs.first_char.Reads as first-char-reads
 use Rattle.regex_optim.proofs.last_char.Reads as last-char-reads
 use Rattle.regex_optim.proofs.whole_char.Reads as whole-char-reads
+use Rattle.base.proofs.PickLaws.{cases}
 
 whole-char-requires : tie.Need-whole-char-requires
 whole-char-requires c κs = search needs

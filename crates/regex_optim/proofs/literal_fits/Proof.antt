@@ -1,5 +1,4 @@
-use Rattle.base.specs.Pick.{cases}
-use Rattle.regex_optim.specs.Steps.{literalFits}
+use Rattle.regex_optim.specs.Contracts.{literalFits}
 use borrow.Author.Needs.{needs}
 use Rattle.regex_optim.proofs.literal_fits.Statement.{statement}
 use Rattle.regex_optim.proofs.literal_fits.Tie as tie
@@ -8,6 +7,7 @@ use Rattle.regex_optim.proofs.literal_fits.Lts as lts
 use Rattle.letters.proofs.same.Reads as same-reads
 use Rattle.texts.proofs.ends_with.Reads as ends-with-reads
 use Rattle.texts.proofs.starts_with.Reads as starts-with-reads
+use Rattle.base.proofs.PickLaws.{cases}
 
 same-requires : tie.Need-same-requires
 same-requires c κs = search needs

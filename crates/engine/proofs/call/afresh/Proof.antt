@@ -1,5 +1,5 @@
 use mathlib.Core.Path.{refl}
-use Rattle.engine.specs.Walks.{afreshOf}
+use Rattle.engine.specs.Contracts.{afreshOf}
 use Rattle.engine.proofs.call.afresh.Statement.{statement}
 use Rattle.engine.proofs.call.afresh.Tie as tie
 use Rattle.engine.proofs.call.afresh.Reads as reads

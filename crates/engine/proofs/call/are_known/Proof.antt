@@ -1,11 +1,11 @@
 use borrow.Author.Needs.{needs}
-use Rattle.base.specs.Pick.{cases}
 use Rattle.engine.specs.Calls.{settingsKnown}
 use Rattle.engine.proofs.call.are_known.Statement.{statement}
 use Rattle.engine.proofs.call.are_known.Tie as tie
 use Rattle.engine.proofs.call.are_known.Reads as reads
 use Rattle.engine.proofs.call.are_known.Lts as lts
 use Rattle.engine.proofs.call.is_known.Reads as is-known-reads
+use Rattle.base.proofs.PickLaws.{cases}
 
 is-known-requires : tie.Need-is-known-requires
 is-known-requires c κs = search needs

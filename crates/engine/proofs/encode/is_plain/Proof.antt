@@ -1,10 +1,10 @@
-use Rattle.base.specs.Pick.{cases}
 use borrow.Author.Needs.{needs}
 use Rattle.engine.proofs.encode.is_plain.Statement.{statement}
 use Rattle.engine.proofs.encode.is_plain.Tie as tie
 use Rattle.engine.proofs.encode.is_plain.Reads as reads
 use Rattle.engine.proofs.encode.is_plain.Lts as lts
 use Rattle.name_parts.proofs.one_word.Reads as one-word-reads
+use Rattle.base.proofs.PickLaws.{cases}
 
 one-word-requires : tie.Need-one-word-requires
 one-word-requires c κs = search needs

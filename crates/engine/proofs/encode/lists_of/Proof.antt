@@ -1,5 +1,5 @@
 use borrow.Author.Needs.{needs}
-use Rattle.engine.specs.Walks.{listsOf}
+use Rattle.engine.specs.Contracts.{listNumbers}
 use Rattle.engine.proofs.encode.lists_of.Statement.{statement}
 use Rattle.engine.proofs.encode.lists_of.Tie as tie
 use Rattle.engine.proofs.encode.lists_of.Reads as reads
@@ -24,7 +24,7 @@ add-t10 : tie.Need-add-t10
 add-t10 c = search needs
 
 returns : tie.Need-returns
-unfolding listsOf
+unfolding listNumbers
 returns c = search needs
 
 pub lists-of-spec : {M : Type 1} → statement M

@@ -1,5 +1,4 @@
 use mathlib.Core.Path.{refl}
-use Rattle.base.specs.Pick.{pick-yes, pick-no}
 use Rattle.engine.proofs.EncodeLaws.{start-told, start-below, plain-told, front-in, front-is, joined-few}
 use borrow.Author.Needs.{needs}
 use Rattle.engine.proofs.encode.spell_plain.Statement.{statement}
@@ -10,6 +9,7 @@ use Rattle.engine.proofs.encode.spell_word.Reads as spell-word-reads
 use Rattle.engine.proofs.encode.start_of.Reads as start-of-reads
 use Rattle.name_parts.proofs.join_words.Reads as join-words-reads
 use Rattle.name_parts.proofs.next_word.Reads as next-word-reads
+use Rattle.base.proofs.PickLaws.{pick-yes, pick-no}
 
 start-of-requires : tie.Need-start-of-requires
 start-of-requires c κs = search needs

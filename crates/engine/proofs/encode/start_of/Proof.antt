@@ -1,11 +1,11 @@
 use Rattle.languages.proofs.NumberLaws.{set-one}
-use Rattle.base.specs.Pick.{cases}
 use borrow.Author.Needs.{needs}
 use Rattle.engine.proofs.encode.start_of.Statement.{statement}
 use Rattle.engine.proofs.encode.start_of.Tie as tie
 use Rattle.engine.proofs.encode.start_of.Reads as reads
 use Rattle.engine.proofs.encode.start_of.Lts as lts
 use Rattle.pack.proofs.guess_languages.Reads as guess-languages-reads
+use Rattle.base.proofs.PickLaws.{cases}
 
 guess-languages-requires : tie.Need-guess-languages-requires
 guess-languages-requires c κs = search needs

@@ -1,10 +1,10 @@
 use borrow.Author.Needs.{needs}
-use Rattle.base.specs.Pick.{cases}
-use Rattle.engine.specs.Walks.{notedIn}
+use Rattle.engine.specs.Contracts.{notedIn}
 use Rattle.engine.proofs.index.note.Statement.{statement}
 use Rattle.engine.proofs.index.note.Tie as tie
 use Rattle.engine.proofs.index.note.Reads as reads
 use Rattle.engine.proofs.index.note.Lts as lts
+use Rattle.base.proofs.PickLaws.{cases}
 
 add-e : tie.Need-add-e
 add-e c = search needs

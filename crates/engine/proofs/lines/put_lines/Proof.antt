@@ -4,7 +4,7 @@ use native.Mathlib.Omega.{arith}
 use lib.ListN.{length}
 use borrow.Author.Needs.{needs}
 use Rattle.engine.specs.Calls.{callOf}
-use Rattle.engine.specs.Walks.{Scratch}
+use Rattle.engine.specs.Contracts.{Scratch}
 use Rattle.engine.proofs.NameLaws.{scratch-kept}
 use Rattle.engine.proofs.LinesLaws.{Going, going-in, going-start, going-long, going-room, going-end, going-most, going-less, going-stop, going-next}
 use Rattle.engine.proofs.lines.put_lines.Statement.{statement}

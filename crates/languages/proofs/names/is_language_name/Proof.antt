@@ -1,5 +1,4 @@
 use Rattle.languages.specs.Names.{languageName}
-use Rattle.base.specs.Pick.{cases}
 use borrow.Author.Needs.{needs}
 use Rattle.languages.proofs.names.is_language_name.Statement.{statement}
 use Rattle.languages.proofs.names.is_language_name.Tie as tie
@@ -7,6 +6,7 @@ use Rattle.languages.proofs.names.is_language_name.Reads as reads
 use Rattle.languages.proofs.names.is_language_name.Lts as lts
 use Rattle.languages.proofs.names.all_letters.Reads as all-letters-reads
 use Rattle.letters.proofs.same.Reads as same-reads
+use Rattle.base.proofs.PickLaws.{cases}
 
 returns : tie.Need-returns
 unfolding languageName

@@ -1,11 +1,11 @@
 use native.Mathlib.Omega.{arith}
-use Rattle.languages.specs.Names.{stringAt}
-use Rattle.base.specs.Pick.{cases}
 use borrow.Author.Needs.{needs}
 use Rattle.languages.proofs.names.string_at.Statement.{statement}
 use Rattle.languages.proofs.names.string_at.Tie as tie
 use Rattle.languages.proofs.names.string_at.Reads as reads
 use Rattle.languages.proofs.names.string_at.Lts as lts
+use Rattle.base.proofs.PickLaws.{cases}
+use Rattle.languages.specs.Contracts.{stringAt}
 
 returns : tie.Need-returns
 unfolding stringAt

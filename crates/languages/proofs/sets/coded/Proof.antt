@@ -1,5 +1,5 @@
 use Rattle.base.proofs.Arms.{told}
-use Rattle.languages.specs.Coded.{coded}
+use Rattle.languages.specs.Contracts.{coded}
 use borrow.Author.Needs.{needs}
 use Rattle.languages.proofs.sets.coded.Statement.{statement}
 use Rattle.languages.proofs.sets.coded.Tie as tie

@@ -1,5 +1,4 @@
 use Rattle.letters.specs.Utf8.{decode2}
-use Rattle.base.specs.Pick.{cases}
 use borrow.Author.Needs.{needs}
 use Rattle.letters.proofs.utf8.decode_2.Statement.{statement}
 use Rattle.letters.proofs.utf8.decode_2.Tie as tie
@@ -7,6 +6,7 @@ use Rattle.letters.proofs.utf8.decode_2.Reads as reads
 use Rattle.letters.proofs.utf8.decode_2.Lts as lts
 use Rattle.letters.proofs.utf8.code_2.Reads as code-2-reads
 use Rattle.letters.proofs.utf8.is_within.Reads as is-within-reads
+use Rattle.base.proofs.PickLaws.{cases}
 
 is-within-requires : tie.Need-is-within-requires
 is-within-requires c κs = search needs

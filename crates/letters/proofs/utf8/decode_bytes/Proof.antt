@@ -1,5 +1,4 @@
 use Rattle.letters.specs.Utf8.{decodeBytes}
-use Rattle.base.specs.Pick.{cases}
 use borrow.Author.Needs.{needs}
 use Rattle.letters.proofs.utf8.decode_bytes.Statement.{statement}
 use Rattle.letters.proofs.utf8.decode_bytes.Tie as tie
@@ -9,6 +8,7 @@ use Rattle.letters.proofs.utf8.decode_2.Reads as decode-2-reads
 use Rattle.letters.proofs.utf8.decode_3.Reads as decode-3-reads
 use Rattle.letters.proofs.utf8.decode_4.Reads as decode-4-reads
 use Rattle.letters.proofs.utf8.is_within.Reads as is-within-reads
+use Rattle.base.proofs.PickLaws.{cases}
 
 is-within-requires : tie.Need-is-within-requires
 is-within-requires c κs = search needs

@@ -1,6 +1,5 @@
 use Rattle.letters.proofs.Utf8Laws.{decodeAt-in}
 use Rattle.letters.specs.Utf8.{decodeAt}
-use Rattle.base.specs.Pick.{cases}
 use borrow.Author.Needs.{needs}
 use Rattle.letters.proofs.utf8.decode_long.Statement.{statement}
 use Rattle.letters.proofs.utf8.decode_long.Tie as tie
@@ -8,6 +7,7 @@ use Rattle.letters.proofs.utf8.decode_long.Reads as reads
 use Rattle.letters.proofs.utf8.decode_long.Lts as lts
 use Rattle.letters.proofs.utf8.byte_at.Reads as byte-at-reads
 use Rattle.letters.proofs.utf8.decode_bytes.Reads as decode-bytes-reads
+use Rattle.base.proofs.PickLaws.{cases}
 
 byte-at-requires : tie.Need-byte-at-requires
 byte-at-requires c κs = search needs

@@ -1,5 +1,4 @@
 use borrow.Author.Needs.{needs}
-use Rattle.base.specs.Pick.{tests}
 use Rattle.loader.proofs.LoadingLaws.{loading}
 use Rattle.loader.proofs.loading.load.Statement.{statement}
 use Rattle.loader.proofs.loading.load.Tie as tie
@@ -8,6 +7,7 @@ use Rattle.loader.proofs.loading.load.Lts as lts
 use Rattle.bundles.proofs.check_bundle.Reads as check-bundle-reads
 use Rattle.loader.proofs.loading.kind_of.Reads as kind-of-reads
 use Rattle.loader.proofs.loading.load_files.Reads as load-files-reads
+use Rattle.base.proofs.PickLaws.{tests}
 
 kind-of-requires : tie.Need-kind-of-requires
 kind-of-requires c κs = search (loading, tests, needs)

@@ -1,8 +1,8 @@
-use Rattle.base.specs.Pick.{cases}
 use Rattle.name_parts.proofs.joining.parted.Statement.{statement}
 use Rattle.name_parts.proofs.joining.parted.Tie as tie
 use Rattle.name_parts.proofs.joining.parted.Reads as reads
 use Rattle.name_parts.proofs.joining.parted.Lts as lts
+use Rattle.base.proofs.PickLaws.{cases}
 
 returns : tie.Need-returns
 returns c = search cases

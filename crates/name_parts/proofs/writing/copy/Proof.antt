@@ -1,6 +1,6 @@
 use Prim.Native.Nat.{_-_}
 use lib.ListN.{length, take}
-use Rattle.name_parts.specs.Writing.{Put}
+use Rattle.name_parts.specs.Contracts.{Put}
 use borrow.Author.Needs.{needs}
 use Rattle.name_parts.proofs.WritingLaws.{writing-laws}
 use Rattle.name_parts.proofs.writing.copy.Statement.{statement}

@@ -1,5 +1,4 @@
 use borrow.Author.Needs.{needs}
-use Rattle.base.specs.Pick.{cases}
 use Rattle.pack.specs.Guessing.{narrowedBy}
 use Rattle.pack.proofs.guessing.narrow.Statement.{statement}
 use Rattle.pack.proofs.guessing.narrow.Tie as tie
@@ -7,6 +6,7 @@ use Rattle.pack.proofs.guessing.narrow.Reads as reads
 use Rattle.pack.proofs.guessing.narrow.Lts as lts
 use Rattle.pack.proofs.guessing.is_match.Reads as is-match-reads
 use Rattle.languages.proofs.subtract.Reads as subtract-reads
+use Rattle.base.proofs.PickLaws.{cases}
 
 is-match-requires : tie.Need-is-match-requires
 is-match-requires c κs = search (cases, needs)

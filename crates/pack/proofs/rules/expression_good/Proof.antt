@@ -1,6 +1,5 @@
 use borrow.Author.Needs.{needs}
-use Rattle.base.specs.Pick.{cases}
-use Rattle.pack.specs.Walks.{expressionGood}
+use Rattle.pack.specs.Contracts.{expressionGood}
 use Rattle.pack.proofs.RuleLaws.{rule-test-laws}
 use Rattle.pack.proofs.rules.expression_good.Statement.{statement}
 use Rattle.pack.proofs.rules.expression_good.Tie as tie
@@ -11,6 +10,7 @@ use Rattle.rule.proofs.is_bare.Reads as is-bare-reads
 use Rattle.rule.proofs.is_rule_text.Reads as is-rule-text-reads
 use Rattle.texts.proofs.first_is.Reads as first-is-reads
 use Rattle.texts.proofs.last_is.Reads as last-is-reads
+use Rattle.base.proofs.PickLaws.{cases}
 
 is-bare-requires : tie.Need-is-bare-requires
 is-bare-requires c κs = search (cases, rule-test-laws, needs)

@@ -1,11 +1,11 @@
 use borrow.Author.Needs.{needs}
-use Rattle.base.specs.Pick.{cases}
-use Rattle.pack.specs.Walks.{patternGood}
+use Rattle.pack.specs.Contracts.{patternGood}
 use Rattle.pack.proofs.rules.pattern_good.Statement.{statement}
 use Rattle.pack.proofs.rules.pattern_good.Tie as tie
 use Rattle.pack.proofs.rules.pattern_good.Reads as reads
 use Rattle.pack.proofs.rules.pattern_good.Lts as lts
 use Rattle.rule.proofs.is_rule_text.Reads as is-rule-text-reads
+use Rattle.base.proofs.PickLaws.{cases}
 
 is-rule-text-requires : tie.Need-is-rule-text-requires
 is-rule-text-requires c κs = search (cases, needs)

@@ -1,11 +1,11 @@
 use borrow.Author.Needs.{needs}
-use Rattle.base.specs.Pick.{cases}
-use Rattle.pack.specs.Walks.{metBy}
+use Rattle.pack.specs.Contracts.{metBy}
 use Rattle.pack.proofs.sections.meets_any.Statement.{statement}
 use Rattle.pack.proofs.sections.meets_any.Tie as tie
 use Rattle.pack.proofs.sections.meets_any.Reads as reads
 use Rattle.pack.proofs.sections.meets_any.Lts as lts
 use Rattle.letters.proofs.same.Reads as same-reads
+use Rattle.base.proofs.PickLaws.{cases}
 
 slice-aggregate-same : tie.Need-slice-aggregate-same
 slice-aggregate-same c = search (cases, needs)

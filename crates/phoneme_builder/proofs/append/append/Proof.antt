@@ -1,6 +1,6 @@
 use borrow.Author.Needs.{needs}
 use native.Mathlib.Omega.{arith}
-use Rattle.phoneme_builder.specs.Buffers.{arena}
+use Rattle.phoneme_builder.specs.BufferContracts.{arena}
 use Rattle.phoneme_builder.proofs.PartLaws.{walk-in}
 use Rattle.phoneme_builder.proofs.AppendLaws.{Appending, appending-start, appending-end, appending-long, appending-next, index-in, count-in}
 use Rattle.phoneme_builder.proofs.append.append.Statement.{statement}

@@ -1,7 +1,7 @@
 use borrow.Author.Needs.{needs}
 use native.Mathlib.Omega.{arith}
 use Prim.Native.Nat.{_-_}
-use Rattle.phoneme_builder.specs.Buffers.{arena, alternatives}
+use Rattle.phoneme_builder.specs.BufferContracts.{arena, alternatives}
 use Rattle.phoneme_builder.proofs.PartLaws.{walk-in}
 use Rattle.phoneme_builder.proofs.ApplyLaws.{Applying, applying-start, applying-stop, applying-end, applying-next, applying-long}
 use Rattle.phoneme_builder.proofs.apply.apply.Statement.{statement}

@@ -1,8 +1,8 @@
 use borrow.Author.Needs.{needs}
 use Prim.Native.Nat.{_-_}
 use native.Mathlib.Omega.{arith}
-use Rattle.languages.specs.Coded.{decoded}
-use Rattle.phoneme_builder.specs.Buffers.{arena, entry, entriesAt}
+use Rattle.languages.specs.Contracts.{decoded}
+use Rattle.phoneme_builder.specs.BufferContracts.{arena, entry, entriesAt}
 use Rattle.phoneme_builder.proofs.ApplyLaws.{Offering, offering-start, offering-stop, offering-end, offering-next, offering-long, alt-long, alt-order, alt-end, alt-code}
 use Rattle.phoneme_builder.proofs.apply.apply_row.Statement.{statement}
 use Rattle.phoneme_builder.proofs.apply.apply_row.Tie as tie

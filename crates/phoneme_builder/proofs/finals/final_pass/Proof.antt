@@ -3,8 +3,8 @@ use native.Mathlib.Omega.{arith}
 use Prim.Native.Nat.{_-_}
 use mathlib.Core.Path.{_≡_}
 use lib.ListN.{length}
-use Rattle.phoneme_builder.specs.Buffers.{arena}
-use Rattle.phoneme_builder.specs.Tables.{matcher}
+use Rattle.phoneme_builder.specs.BufferContracts.{arena}
+use Rattle.phoneme_builder.specs.TableContracts.{matcher}
 use Rattle.phoneme_builder.proofs.PartLaws.{few-at, text-in}
 use Rattle.phoneme_builder.proofs.FinalLaws.{Finishing, finishing-start, finishing-old, finishing-end, finishing-next, finishing-long, finishing-many}
 use Rattle.phoneme_builder.proofs.finals.final_pass.Statement.{statement}

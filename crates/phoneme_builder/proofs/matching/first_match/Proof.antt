@@ -3,7 +3,7 @@ use mathlib.Core.Path.{refl, ap}
 use Prim.Native.Nat.{ℕ}
 use native.Mathlib.Omega.{arith}
 use Rattle.pack.proofs.RuleLaws.{pattern-order, pattern-fits, left-order, left-fits, right-order, right-fits}
-use Rattle.phoneme_builder.specs.Tables.{entryFor, matcher}
+use Rattle.phoneme_builder.specs.TableContracts.{entryFor, matcher}
 use Rattle.phoneme_builder.proofs.MatchLaws.{Finding, finding-start, finding-done, finding-cut, finding-next, finding-found}
 use Rattle.phoneme_builder.proofs.matching.first_match.Statement.{statement}
 use Rattle.phoneme_builder.proofs.matching.first_match.Tie as tie

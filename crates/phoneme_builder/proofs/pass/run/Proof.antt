@@ -3,9 +3,9 @@ use Prim.Native.Nat.{_-_}
 use mathlib.Core.Path.{_≡_}
 use lib.ListN.{length}
 use native.Mathlib.Omega.{arith}
-use Rattle.phoneme_builder.specs.Buffers.{arena, entriesAt}
+use Rattle.phoneme_builder.specs.BufferContracts.{arena, entriesAt}
 use Rattle.phoneme_builder.specs.Passes.{turnsOf, run}
-use Rattle.phoneme_builder.specs.Tables.{matcher}
+use Rattle.phoneme_builder.specs.TableContracts.{matcher}
 use Rattle.phoneme_builder.proofs.PassLaws.{Running, running-start, running-end, running-to, running-apart, running-into, running-kept, running-long, running-step, running-skip}
 use Rattle.phoneme_builder.proofs.pass.run.Statement.{statement}
 use Rattle.phoneme_builder.proofs.pass.run.Tie as tie

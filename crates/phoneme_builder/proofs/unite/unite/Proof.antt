@@ -1,8 +1,8 @@
 use borrow.Author.Needs.{needs}
 use native.Mathlib.Omega.{arith}
 use Prim.Native.Nat.{_-_}
-use Rattle.languages.specs.Coded.{decoded}
-use Rattle.phoneme_builder.specs.Buffers.{arena}
+use Rattle.languages.specs.Contracts.{decoded}
+use Rattle.phoneme_builder.specs.BufferContracts.{arena}
 use Rattle.phoneme_builder.proofs.PartLaws.{walk-in}
 use Rattle.phoneme_builder.proofs.UniteLaws.{Uniting, uniting-start, uniting-end, uniting-next, uniting-full}
 use Rattle.phoneme_builder.proofs.unite.unite.Statement.{statement}

@@ -2,7 +2,7 @@ use borrow.Author.Needs.{needs}
 use native.Mathlib.Omega.{arith}
 use Rattle.phoneme_builder.proofs.FinalLaws.{apart-first, apart-second, finished-texts, finished-set, finished-long, finished-many, then-raised, first-long, first-many}
 use Rattle.phoneme_builder.specs.Passes.{finalPass}
-use Rattle.phoneme_builder.specs.Tables.{matcher}
+use Rattle.phoneme_builder.specs.TableContracts.{matcher}
 use Rattle.phoneme_builder.proofs.words.final_passes.Statement.{statement}
 use Rattle.phoneme_builder.proofs.words.final_passes.Tie as tie
 use Rattle.phoneme_builder.proofs.words.final_passes.Reads as reads

@@ -1,5 +1,5 @@
 use borrow.Author.Needs.{needs}
-use Rattle.phoneme_builder.specs.Walks.{raisedBy}
+use Rattle.phoneme_builder.specs.Contracts.{raisedBy}
 use Rattle.phoneme_builder.proofs.FinalLaws.{raised-into}
 use Rattle.phoneme_builder.proofs.words.raised.Statement.{statement}
 use Rattle.phoneme_builder.proofs.words.raised.Tie as tie

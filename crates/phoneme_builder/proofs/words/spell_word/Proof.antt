@@ -3,7 +3,7 @@ use native.Mathlib.Omega.{arith}
 use mathlib.Core.List.{List}
 use Rattle.choices.specs.Apply.{Entry}
 use Rattle.phoneme_builder.specs.Passes.{finalPass, then, wordOf}
-use Rattle.phoneme_builder.specs.Tables.{matcher}
+use Rattle.phoneme_builder.specs.TableContracts.{matcher}
 use Rattle.phoneme_builder.proofs.FinalLaws.{main-texts, main-long, main-set, main-side, main-started, then-raised, first-long}
 use Rattle.phoneme_builder.proofs.words.spell_word.Statement.{statement}
 use Rattle.phoneme_builder.proofs.words.spell_word.Tie as tie

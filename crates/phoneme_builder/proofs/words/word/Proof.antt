@@ -1,14 +1,14 @@
 use borrow.Author.Needs.{needs}
 use mathlib.Core.Path.{refl}
 use lib.ListN.{length}
-use Rattle.phoneme_builder.specs.Tables.{areLists}
-use Rattle.phoneme_builder.specs.Walks.{areBuffers}
-use Rattle.base.specs.Pick.{yes-by}
+use Rattle.phoneme_builder.specs.TableContracts.{areLists}
+use Rattle.phoneme_builder.specs.Contracts.{areBuffers}
 use Rattle.phoneme_builder.proofs.WordLaws.{set-below, rooms-by, alts-by, lists-by, fit-limit, fit-buffers, fit-lists, code-by, of-set, texts-in, word-done, word-long, word-many, word-unfit, not-so}
 use Rattle.phoneme_builder.proofs.words.word.Statement.{statement}
 use Rattle.phoneme_builder.proofs.words.word.Tie as tie
 use Rattle.phoneme_builder.proofs.words.word.Reads as reads
 use Rattle.phoneme_builder.proofs.words.word.Lts as lts
+use Rattle.base.proofs.PickLaws.{yes-by}
 
 is-fit-requires : tie.Need-is-fit-requires
 is-fit-requires c κs = search needs

@@ -1,8 +1,8 @@
-use Rattle.base.specs.Pick.{cases}
 use Rattle.phonemes.proofs.phonemes.both.Statement.{statement}
 use Rattle.phonemes.proofs.phonemes.both.Tie as tie
 use Rattle.phonemes.proofs.phonemes.both.Reads as reads
 use Rattle.phonemes.proofs.phonemes.both.Lts as lts
+use Rattle.base.proofs.PickLaws.{cases}
 
 returns : tie.Need-returns
 returns c = search cases

@@ -1,5 +1,4 @@
-use Rattle.base.specs.Pick.{cases}
-use Rattle.phonemes.specs.Walks.{hasExtra}
+use Rattle.phonemes.specs.Contracts.{hasExtra}
 use borrow.Author.Needs.{needs}
 use Rattle.phonemes.proofs.phonemes.has_extra.Statement.{statement}
 use Rattle.phonemes.proofs.phonemes.has_extra.Tie as tie
@@ -7,6 +6,7 @@ use Rattle.phonemes.proofs.phonemes.has_extra.Reads as reads
 use Rattle.phonemes.proofs.phonemes.has_extra.Lts as lts
 use Rattle.texts.proofs.first_is.Reads as first-is-reads
 use Rattle.texts.proofs.last_is.Reads as last-is-reads
+use Rattle.base.proofs.PickLaws.{cases}
 
 first-is-requires : tie.Need-first-is-requires
 first-is-requires c κs = search needs

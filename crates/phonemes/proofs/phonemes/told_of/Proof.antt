@@ -1,16 +1,16 @@
-use Rattle.base.specs.Pick.{cases}
-use Rattle.phonemes.specs.Walks.{told}
+use Rattle.phonemes.specs.Contracts.{expressionTold}
 use Rattle.phonemes.proofs.phonemes.told_of.Statement.{statement}
 use Rattle.phonemes.proofs.phonemes.told_of.Tie as tie
 use Rattle.phonemes.proofs.phonemes.told_of.Reads as reads
 use Rattle.phonemes.proofs.phonemes.told_of.Lts as lts
+use Rattle.base.proofs.PickLaws.{cases}
 
 returns : tie.Need-returns
-unfolding told
+unfolding expressionTold
 returns c = search cases
 
 returns-2 : tie.Need-returns-2
-unfolding told
+unfolding expressionTold
 returns-2 c = search cases
 
 pub told-of-spec : {M : Type 1} → statement M

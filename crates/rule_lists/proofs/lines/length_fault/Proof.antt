@@ -1,8 +1,8 @@
-use Rattle.base.specs.Pick.{cases}
 use Rattle.rule_lists.proofs.LineLaws.{fault-laws}
 use Rattle.rule_lists.specs.Lines.{lengthFault}
 use Rattle.rule_lists.proofs.lines.length_fault.Statement.{statement}
 use Rattle.rule_lists.proofs.lines.length_fault.Tie as tie
+use Rattle.base.proofs.PickLaws.{cases}
 
 returns : tie.Need-returns
 unfolding lengthFault

@@ -2,7 +2,6 @@ use native.Mathlib.Omega.{arith}
 use mathlib.Core.Path.{_≡_}
 use Prim.Native.Nat.{_-_}
 use lib.ListN.{length}
-use Rattle.bundles.specs.Bundles.{filesOf}
 use borrow.Author.Needs.{needs}
 use Rattle.rule_lists.proofs.ListLaws.{Listing, string-short, all-laws}
 use Rattle.rule_lists.proofs.lists.write_all.Statement.{statement}
@@ -12,6 +11,7 @@ use Rattle.rule_lists.proofs.lists.write_all.Lts as lts
 use Rattle.languages.proofs.string_at.Reads as string-at-reads
 use Rattle.rule_lists.proofs.lists.write_common.Reads as write-common-reads
 use Rattle.rule_lists.proofs.lists.write_three.Reads as write-three-reads
+use Rattle.bundles.specs.Contracts.{filesOf}
 
 abbrev Inv-loop : tie.InvT-loop
 Inv-loop bundle names prefix lasts₀ rows₀ out₀ at from₀ place₀ lasts rows out from place =

@@ -1,9 +1,9 @@
-use Rattle.base.specs.Pick.{cases}
 use Rattle.rules_parser.specs.Fields.{pairAt}
 use Rattle.rules_parser.proofs.FieldLaws.{eqb-by}
 use borrow.Author.Needs.{needs}
 use Rattle.rules_parser.proofs.fields.pair.Statement.{statement}
 use Rattle.rules_parser.proofs.fields.pair.Tie as tie
+use Rattle.base.proofs.PickLaws.{cases}
 
 shared-slice-read-if2 : tie.Need-shared-slice-read-if2
 shared-slice-read-if2 c = search needs

@@ -1,8 +1,8 @@
-use Rattle.base.specs.Pick.{cases}
 use Rattle.rules_parser.proofs.FieldLaws.{kinds}
 use borrow.Author.Needs.{needs}
 use Rattle.rules_parser.proofs.fields.passes.Statement.{statement}
 use Rattle.rules_parser.proofs.fields.passes.Tie as tie
+use Rattle.base.proofs.PickLaws.{cases}
 
 enum-told : tie.Need-enum-told
 enum-told c = search needs

@@ -1,8 +1,8 @@
-use Rattle.base.specs.Pick.{cases}
 use Rattle.rules_parser.specs.Files.{countedOf}
 use borrow.Author.Needs.{needs}
 use Rattle.rules_parser.proofs.files.counted.Statement.{statement}
 use Rattle.rules_parser.proofs.files.counted.Tie as tie
+use Rattle.base.proofs.PickLaws.{cases}
 
 add-result : tie.Need-add-result
 add-result c = search needs

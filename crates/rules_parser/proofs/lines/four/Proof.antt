@@ -1,9 +1,9 @@
-use Rattle.base.specs.Pick.{cases}
 use Rattle.rules_parser.specs.Lines.{fourAt}
 use Rattle.rules_parser.proofs.LineLaws.{in-order}
 use borrow.Author.Needs.{needs}
 use Rattle.rules_parser.proofs.lines.four.Statement.{statement}
 use Rattle.rules_parser.proofs.lines.four.Tie as tie
+use Rattle.base.proofs.PickLaws.{cases}
 
 field-at-requires : tie.Need-field-at-requires
 field-at-requires c κs = search needs

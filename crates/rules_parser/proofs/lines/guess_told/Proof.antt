@@ -1,8 +1,8 @@
-use Rattle.base.specs.Pick.{cases}
 use Rattle.rules_parser.specs.Lines.{guessTold}
 use borrow.Author.Needs.{needs}
 use Rattle.rules_parser.proofs.lines.guess_told.Statement.{statement}
 use Rattle.rules_parser.proofs.lines.guess_told.Tie as tie
+use Rattle.base.proofs.PickLaws.{cases}
 
 text-good-requires : tie.Need-text-good-requires
 text-good-requires c κs = search needs

@@ -1,8 +1,8 @@
-use Rattle.base.specs.Pick.{pick-no, and-second, yes-by, no-by, cases}
 use Rattle.rules_parser.specs.Lines.{ruleTold}
 use borrow.Author.Needs.{needs}
 use Rattle.rules_parser.proofs.lines.rule_told.Statement.{statement}
 use Rattle.rules_parser.proofs.lines.rule_told.Tie as tie
+use Rattle.base.proofs.PickLaws.{pick-no, and-second, yes-by, no-by, cases}
 
 text-good-requires : tie.Need-text-good-requires
 text-good-requires c κs = search needs

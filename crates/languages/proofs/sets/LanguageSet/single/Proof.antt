@@ -1,11 +1,11 @@
 use Rattle.base.proofs.Arms.{told}
-use Rattle.base.specs.Pick.{cases}
 use Rattle.languages.specs.Sets.{singleOf}
 use borrow.Author.Needs.{needs}
 use Rattle.languages.proofs.sets.LanguageSet.single.Statement.{statement}
 use Rattle.languages.proofs.sets.LanguageSet.single.Tie as tie
 use Rattle.languages.proofs.sets.LanguageSet.single.Reads as reads
 use Rattle.languages.proofs.sets.LanguageSet.single.Lts as lts
+use Rattle.base.proofs.PickLaws.{cases}
 
 enum-told : tie.Need-enum-told
 enum-told c = search needs

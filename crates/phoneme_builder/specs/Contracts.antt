@@ -14,7 +14,7 @@ use Rattle.refusals.specs.Numbers.{numberOf}
 use Rattle.refusals.specs.declared.Refusal.the-variants.{TextTooLong, TooManyTexts}
 use Rattle.phoneme_builder.specs.Sets.{Spelling, refusal, texts}
 use Rattle.phoneme_builder.specs.Passes.{offered, Match, none, by, Turn, Ran, tooLong, ran, flagged, run, raised, joined}
-use Rattle.phoneme_builder.specs.Buffers.{AltsIn, alternatives, IsSet, textsOf, part, Arena, SetAt, entriesAt, Stayed, Only, Rooms}
+use Rattle.phoneme_builder.specs.BufferContracts.{AltsIn, alternatives, IsSet, markedTexts, part, Arena, SetAt, entriesAt, Stayed, Only, Rooms}
 use Rattle.phoneme_builder.specs.declared.pass.Turned.{Turned}
 use Rattle.phoneme_builder.specs.declared.pass.Turned.the-variants as turned
 use Rattle.phoneme_builder.specs.declared.pass.Passed.{Passed}
@@ -144,7 +144,7 @@ pub record TextsIn (store marks : List ℕ) (n : ℕ) : Type 0 where
   pub set : IsSet (part 32768 0 store) (part 256 0 marks) n
 
 unfoldable pub textsIn : List ℕ → List ℕ → ℕ → List Text
-textsIn store marks n = textsOf (part 32768 0 store) (part 256 0 marks) n
+textsIn store marks n = markedTexts (part 32768 0 store) (part 256 0 marks) n
 
 -- the bytes of texts, with a bar behind each
 unfoldable pub barred : List Text → ℕ
@@ -164,28 +164,28 @@ unfoldable pub areBuffers : ℕ → ℕ → ℕ → Bool
 areBuffers store marks alts = and (eqb store 131072) (and (eqb marks 1024) (eqb alts 256))
 
 -- the texts of a set
-abbrev pub spellings : List Entry → List Text
-spellings l = map (λ (e : Entry). e .text) l
+abbrev pub spellingsIn : List Entry → List Text
+spellingsIn l = map (λ (e : Entry). e .text) l
 
 -- what a word's answer says in the paper's numbers: its length and flag, or a refusal's number; or that the call was not fit
-pub data Answer : Type 0 where
-  done : ℕ → Bool → Answer
-  refusedBy : ℕ → Answer
-  unfit : Answer
+pub data WordAnswer : Type 0 where
+  done : ℕ → Bool → WordAnswer
+  wordRefused : ℕ → WordAnswer
+  unfit : WordAnswer
 
-unfoldable pub answerOf : Worded → Answer
+unfoldable pub answerOf : Worded → WordAnswer
 answerOf (worded.Done length flag) = done length flag
-answerOf worded.TooLong = refusedBy (numberOf TextTooLong)
-answerOf worded.TooMany = refusedBy (numberOf TooManyTexts)
+answerOf worded.TooLong = wordRefused (numberOf TextTooLong)
+answerOf worded.TooMany = wordRefused (numberOf TooManyTexts)
 answerOf worded.Unfit = unfit
 
-unfoldable pub answered : Spelling → Answer
-answered (refusal why) = refusedBy (numberOf why)
-answered (texts l flag) = done (length (joined (spellings l))) flag
+unfoldable pub answered : Spelling → WordAnswer
+answered (refusal why) = wordRefused (numberOf why)
+answered (texts l flag) = done (length (joined (spellingsIn l))) flag
 
 unfoldable pub placedAs : Spelling → List ℕ → ℕ → List ℕ
 placedAs (refusal c) out at = out
-placedAs (texts l flag) out at = placed out at (joined (spellings l))
+placedAs (texts l flag) out at = placed out at (joined (spellingsIn l))
 
 -- the promise of `word`: the answer and the content of `out`
 pub record WordIs (fit : Bool) (s : Spelling) (out out′ : List ℕ) (at : ℕ) (r : Worded) : Type 0 where

@@ -7,22 +7,21 @@ use lib.Dec.{eqb, leb}
 use lib.ListN.{length, getD, set, take}
 use lib.Seq.{sets}
 use Rattle.base.specs.Pick.{pick}
-use Rattle.languages.specs.Sets.{BitsBelow}
 use Rattle.languages.specs.Names.{namePlace}
 use Rattle.languages.specs.declared.sets.LanguageSet.{LanguageSet}
-use Rattle.name_parts.specs.Writing.{cap, Put}
+use Rattle.name_parts.specs.Contracts.{cap, Put}
 use Rattle.prefixes.specs.declared.prefixes.Prefix.{Prefix}
 use Rattle.prefixes.specs.declared.prefixes.Prefix.the-variants as prefix
-use Rattle.pack.specs.Packs.{Pack, Verdict, accepted, refused, packOf, listCount, any}
-use Rattle.pack.specs.Places.{textBytes, placesOf}
+use Rattle.pack.specs.Packs.{Pack, Verdict, accepted, refused, packOf, listCount, any, stringsLength}
+use Rattle.pack.specs.PlaceContracts.{placesOf}
 use Rattle.refusals.specs.declared.Refusal.the-variants.{TextTooLong, TooManyTexts, NoRoom}
 use Rattle.choices.specs.Texts.{Text}
 use Rattle.phoneme_builder.specs.Passes.{firstMatch}
-use Rattle.phoneme_builder.specs.Tables.{matcher}
+use Rattle.phoneme_builder.specs.TableContracts.{matcher}
 use Rattle.phoneme_builder.specs.declared.words.Worded.{Worded}
 use Rattle.phoneme_builder.specs.declared.words.Worded.the-variants.{Done, TooLong, TooMany, Unfit}
-use Rattle.engine.specs.Spelling.{Spelt, bad, good, Steps, or}
-use Rattle.engine.specs.Calls.{listOf, stepsBy, startSet, typeOf, Outcome, refusedBy}
+use Rattle.engine.specs.Spelling.{Spelt, unspelt, speltAs, Steps, or}
+use Rattle.engine.specs.Calls.{listNumbered, stepsBy, startSet, typeOf, CallOutcome, refusedBy, key}
 use Rattle.engine.specs.declared.spelling.Spelled.{Spelled}
 use Rattle.engine.specs.declared.spelling.Spelled.the-variants as spelled
 use Rattle.engine.specs.declared.call.Settings.{Settings}
@@ -34,6 +33,13 @@ use Rattle.engine.specs.declared.encode.Ends.{Ends}
 use Rattle.engine.specs.declared.encode.Lists.{Lists}
 use Rattle.engine.specs.declared.spelling.Named.{Named}
 use Rattle.engine.specs.declared.spelling.Named.the-variants.{Fine, Wrong}
+use Rattle.engine.specs.declared.spelling.Spelled.the-variants.{Refused}
+use Rattle.languages.specs.Contracts.{BitsBelow}
+
+-- the answer that has these numbers
+unfoldable pub toldOf : CallOutcome → ℕ → Spelled
+toldOf (refusedBy why place) room = Refused why place
+toldOf (key t f) room = pick (leb (length t) room) (Done (length t) f) (Refused NoRoom (min (length t) 4294967295))
 
 -- ---- the pack
 
@@ -48,13 +54,13 @@ packIn s = packBy (packOf s)
 -- by a table of lists the rules of a pack's first n lists are found
 pub record ByTable (s table : List ℕ) (n : ℕ) : Type 0 where
   pub long : length table ≡ 12642
-  pub found : (k : ℕ) → k < n → matcher s table k ≡ firstMatch (listOf (packIn s) k)
+  pub found : (k : ℕ) → k < n → matcher s table k ≡ firstMatch (listNumbered (packIn s) k)
 
 -- the numbers of an accepted pack, and a table by which its rules are found
 pub record AtDesk (s places : List ℕ) (languages guesses other : ℕ) : Type 0 where
   pub is : packOf s ≡ accepted (packIn s)
   pub languages-are : languages ≡ length (packIn s .names)
-  pub guesses-are : guesses ≡ 1 + textBytes (packIn s .names)
+  pub guesses-are : guesses ≡ 1 + stringsLength (packIn s .names)
   pub any-is : other ≡ namePlace any (packIn s .names)
   pub any-below : other < languages
   pub table : ByTable s places (listCount languages)
@@ -65,7 +71,7 @@ DeskIs s places (Shut place) = packOf s ≡ refused place
 
 -- ---- a call on it
 
-pub record Ready (s places : List ℕ) (call : Call) : Type 0 where
+pub record CallReady (s places : List ℕ) (call : Call) : Type 0 where
   pub desk : AtDesk s places (call .languages) (call .guesses) (call .any)
   pub few : call .limit ≤ 256
   pub known : call .rules < 2
@@ -110,8 +116,8 @@ pub record Scratch (store marks : ℕ) : Type 0 where
   pub marks-is : marks ≡ 1024
 
 -- the numbers of a language's lists
-unfoldable pub listsOf : Call → ℕ → Lists
-listsOf c l = record { main = 3 * l; common = 3 * (c .languages) + c .rules; own = 3 * l + 1 + c .rules }
+unfoldable pub listNumbers : Call → ℕ → Lists
+listNumbers c l = record { main = 3 * l; common = 3 * (c .languages) + c .rules; own = 3 * l + 1 + c .rules }
 
 -- ---- the table that rules are found by
 
@@ -125,7 +131,7 @@ pub record Blank (table : List ℕ) : Type 0 where
   pub clear : (j : ℕ) → getD table j 0 ≡ 0
 
 -- the lists of an accepted pack by their places, and no rule in the rows from the k-th on
-pub record Placed (s table : List ℕ) (k : ℕ) : Type 0 where
+pub record ListsPlaced (s table : List ℕ) (k : ℕ) : Type 0 where
   pub is : packOf s ≡ accepted (packIn s)
   pub long : length table ≡ 12642
   pub places : (j : ℕ) → j < listCount (length (packIn s .names)) → getD table j 0 ≡ getD (placesOf s) j 0
@@ -147,7 +153,7 @@ notedIn table b at i =
 pub record Indexed (s table table′ : List ℕ) (k : ℕ) : Type 0 where
   pub long : length table′ ≡ 12642
   pub others : (j : ℕ) → (rowOf k ≤ j → rowOf k + 128 ≤ j) → getD table′ j 0 ≡ getD table j 0
-  pub found : matcher s table′ k ≡ firstMatch (listOf (packIn s) k)
+  pub found : matcher s table′ k ≡ firstMatch (listNumbered (packIn s) k)
 
 -- ---- an answer in a buffer
 
@@ -158,25 +164,25 @@ pub record Wrote (t : Text) (o o′ : List ℕ) (at next : ℕ) : Type 0 where
   pub same : length o′ ≡ length o
   pub room : length o < cap
 
-unfoldable pub isGood : Spelt → Bool
-isGood (bad why) = false
-isGood (good t f) = true
+unfoldable pub isSpelt : Spelt → Bool
+isSpelt (unspelt why) = false
+isSpelt (speltAs t f) = true
 
 unfoldable pub ToldBy : Spelt → List ℕ → List ℕ → ℕ → Ends → Type 0
-ToldBy (bad why) o o′ at r = r .why ≡ why
-ToldBy (good t f) o o′ at r = Wrote t o o′ at (r .at) × (r .flag ≡ f)
+ToldBy (unspelt why) o o′ at r = r .why ≡ why
+ToldBy (speltAs t f) o o′ at r = Wrote t o o′ at (r .at) × (r .flag ≡ f)
 
-pub record Told (x : Spelt) (o o′ : List ℕ) (at : ℕ) (r : Ends) : Type 0 where
-  pub fine : r .fine ≡ isGood x
+pub record NameTold (x : Spelt) (o o′ : List ℕ) (at : ℕ) (r : Ends) : Type 0 where
+  pub fine : r .fine ≡ isSpelt x
   pub is : ToldBy x o o′ at r
 
 -- the same, and what does not fit as a whole is not written at all
 unfoldable pub wholeBy : Spelt → List ℕ → ℕ → List ℕ
-wholeBy (bad why) o at = o
-wholeBy (good t f) o at = pick (leb (at + length t) (length o)) (sets o at t) o
+wholeBy (unspelt why) o at = o
+wholeBy (speltAs t f) o at = pick (leb (at + length t) (length o)) (sets o at t) o
 
 pub record ToldWhole (x : Spelt) (o o′ : List ℕ) (at : ℕ) (r : Ends) : Type 0 where
-  pub told : Told x o o′ at r
+  pub told : NameTold x o o′ at r
   pub whole : o′ ≡ wholeBy x o at
 
 -- what a word's answer comes to: its end, or its refusal
@@ -197,13 +203,13 @@ pub record HyphenAt (o o′ : List ℕ) (at p next : ℕ) : Type 0 where
 
 -- ---- one name
 
-unfoldable pub foundBy : Named → Outcome → Outcome
+unfoldable pub foundBy : Named → CallOutcome → CallOutcome
 foundBy Fine rest = rest
 foundBy (Wrong why place) rest = refusedBy why place
 
 -- what is found of a name before the pack is looked at
-pub record FoundIs (f : Outcome → Outcome) (r : Named) : Type 0 where
-  pub is : (rest : Outcome) → foundBy r rest ≡ f rest
+pub record FoundIs (f : CallOutcome → CallOutcome) (r : Named) : Type 0 where
+  pub is : (rest : CallOutcome) → foundBy r rest ≡ f rest
 
 -- an answer held apart, written where it fits; or not, as it is a refusal or has no room
 pub data KeptAll (a : Ends) (apart o o′ : List ℕ) : Type 0 where
@@ -212,9 +218,9 @@ pub data KeptAll (a : Ends) (apart o o′ : List ℕ) : Type 0 where
   copied : a .fine ≡ true → a .at ≤ length o → a .at ≤ length apart → o′ ≡ sets o 0 (take (a .at) apart) → KeptAll a apart o o′
 
 -- the same; or that it fits, but is too long to be held apart
-unfoldable pub KeptIs : Ends → List ℕ → List ℕ → List ℕ → Bool → Type 0
-KeptIs a apart o o′ true = KeptAll a apart o o′
-KeptIs a apart o o′ false = (a .fine ≡ true) × (a .at ≤ length o) × (o′ ≡ o)
+unfoldable pub HeldApartIs : Ends → List ℕ → List ℕ → List ℕ → Bool → Type 0
+HeldApartIs a apart o o′ true = KeptAll a apart o o′
+HeldApartIs a apart o o′ false = (a .fine ≡ true) × (a .at ≤ length o) × (o′ ≡ o)
 
 -- an answer of so many bytes, or that they have no room
 unfoldable pub answeredBy : Ends → ℕ → Spelled

@@ -8,43 +8,46 @@ use lib.ListN.{length, drop}
 use lib.Seq.{sets}
 use Rattle.base.specs.Pick.{pick}
 use Rattle.pack.specs.Reading.{Read, cut, got, readByte, readNumber}
-use Rattle.pack.specs.Packs.{Rule, Verdict, accepted, refused, readNames, readGuesses, readRule, readList, namesGood, guessesGood, listGood, placeIn, namesIn, listCount, packOf}
+use Rattle.pack.specs.Packs.{Rule, Verdict, accepted, refused, readNames, readGuesses, readRule, readList, namesGood, guessesGood, listGood, placeIn, namesIn, listCount, packOf, stringsLength}
 use Rattle.pack.specs.Numbers.{surveyedNumbers}
-use Rattle.pack.specs.Guessing.{readSome}
 use Rattle.pack.specs.declared.sections.Surveyed.{Surveyed}
 use Rattle.pack.specs.declared.sections.Surveyed.the-variants as surveyed
 use Rattle.pack.specs.declared.rules.RuleAt.{RuleAt}
 use Rattle.pack.specs.declared.rules.RuleAt.the-variants as rules
 
--- ---- what a survey finds
+-- what follows from a value that is read; nothing where bytes run out
+unfoldable pub behind : {A B : Type 0} → Read A → (A → List ℕ → List B) → List B
+behind cut k = []
+behind (got a r) k = k a r
 
--- the bytes of strings, each behind its length byte
-unfoldable pub textBytes : List (List ℕ) → ℕ
-textBytes [] = 0
-textBytes (t ∷ ts) = 1 + length t + textBytes ts
+unfoldable pub readSome : {A : Type 0} → (List ℕ → Read A) → ℕ → List ℕ → List A
+readSome f zero l = []
+readSome f (suc n) l = behind (f l) (λ a r. a ∷ readSome f n r)
+
+-- ---- what a survey finds
 
 -- the same verdict (5 with the place, 0 otherwise); of an accepted pack also how many languages it has, and the place behind
 -- the count byte and the names
 unfoldable pub surveyedOf : Verdict → Surveyed
-surveyedOf (accepted p) = surveyed.Accepted (length (p .names)) (1 + textBytes (p .names))
+surveyedOf (accepted p) = surveyed.Accepted (length (p .names)) (1 + stringsLength (p .names))
 surveyedOf (refused n) = surveyed.Refused n
 
 -- the places found behind a section that is read and good
-unfoldable pub after : {A : Type 0} → (A → Bool) → Read A → (A → List ℕ → List ℕ) → List ℕ
-after good cut k = []
-after good (got a r) k = pick (good a) (k a r) []
+unfoldable pub behindRule : {A : Type 0} → (A → Bool) → Read A → (A → List ℕ → List ℕ) → List ℕ
+behindRule good cut k = []
+behindRule good (got a r) k = pick (good a) (k a r) []
 
 -- the places of n lists in s, from what is left on, up to the first at fault
 unfoldable pub foundIn : List ℕ → List ℕ → ℕ → List ℕ → List ℕ
 foundIn s names zero r = []
-foundIn s names (suc n) r = after (listGood names) (readList r) (λ rules q. placeIn s r ∷ foundIn s names n q)
+foundIn s names (suc n) r = behindRule (listGood names) (readList r) (λ rules q. placeIn s r ∷ foundIn s names n q)
 
 -- the places of the lists of s, in order, before the first fault
 unfoldable pub placesOf : List ℕ → List ℕ
 placesOf s =
-    after namesGood (readNames s) (λ names a.
-    after (guessesGood (length names)) (readGuesses a) (λ guesses b.
-    after (λ (n : ℕ). eqb n (listCount (length names))) (readByte b) (λ n c.
+    behindRule namesGood (readNames s) (λ names a.
+    behindRule (guessesGood (length names)) (readGuesses a) (λ guesses b.
+    behindRule (λ (n : ℕ). eqb n (listCount (length names))) (readByte b) (λ n c.
     foundIn s (namesIn s a) n c)))
 
 -- the promise of a survey: the verdict, and the places stored from the table's front on, as far as it goes
@@ -64,8 +67,8 @@ placedRule place cut = rules.Cut
 placedRule place (got r q) = placedFrom place (length (r .pattern)) (length (r .left)) (length (r .right)) (length (r .expression))
 
 -- the rule at a place, of any bytes
-unfoldable pub ruleAt : List ℕ → ℕ → RuleAt
-ruleAt s place = placedRule place (readRule (drop place s))
+unfoldable pub ruleStandsAt : List ℕ → ℕ → RuleAt
+ruleStandsAt s place = placedRule place (readRule (drop place s))
 
 -- ---- how many rules a list has
 

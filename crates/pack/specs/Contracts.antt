@@ -1,7 +1,7 @@
 -- What the functions of the walk answer, in terms of what is read.
 use Prim.{Unit}
 use mathlib.Core.Path.{_≡_}
-use Prim.Native.Nat.{ℕ, zero, suc, _-_, _<_}
+use Prim.Native.Nat.{ℕ, zero, suc, _-_, _<_, min}
 use mathlib.Core.Bool.{Bool, true}
 use mathlib.Core.List.{List, [], _∷_}
 use lib.Dec.{eqb, leb, ltb}
@@ -15,7 +15,7 @@ use Rattle.rule.specs.Matching.{ruleText, firstCode}
 use Rattle.phonemes.specs.Expressions.{checkedOf}
 use Rattle.pack.specs.Reading.{Read, cut, got, readByte, readNumber}
 use Rattle.pack.specs.Packs.{Guess, Rule, readGuess, readList, isLess, any, guessGood, isForm, isGood, ruleGood, listGood, placeIn, listCount}
-use Rattle.pack.specs.Places.{foundIn}
+use Rattle.pack.specs.PlaceContracts.{foundIn, behind, readSome}
 use Rattle.pack.specs.declared.reading.Number.{Number}
 use Rattle.pack.specs.declared.reading.Number.the-variants as number
 use Rattle.pack.specs.declared.reading.Section.{Section}
@@ -28,6 +28,14 @@ use Rattle.pack.specs.declared.sections.Checked.{Checked}
 use Rattle.pack.specs.declared.sections.Checked.the-variants as checked
 use Rattle.pack.specs.declared.sections.Lists.{Lists}
 use Rattle.pack.specs.declared.sections.Lists.the-variants as lists
+use Rattle.languages.specs.declared.sets.LanguageSet.{LanguageSet}
+use Rattle.pack.specs.Guessing.{guessed}
+
+unfoldable pub guessesAt : List ℕ → ℕ → List Guess
+guessesAt s place = behind (readNumber 2 (drop place s)) (λ n r. readSome readGuess n r)
+
+unfoldable pub guessedAt : List ℕ → ℕ → ℕ → List ℕ → LanguageSet
+guessedAt s place n name = guessed (min 32 n) (guessesAt s place) name
 
 -- the byte at a place, 0 behind the end
 pub record ByteIs (s : List ℕ) (at r : ℕ) : Type 0 where
@@ -52,9 +60,9 @@ unfoldable pub endIn : {A : Type 0} → List ℕ → (A → Bool) → Read A →
 endIn s good rd = judge Bad good rd (λ a r. End (placeIn s r))
 
 -- a test of each of a list in turn, over a state
-unfoldable pub run : {A S : Type 0} → (S → A → Bool) → (S → A → S) → (S → Bool) → S → List A → Bool
-run ok next last st [] = last st
-run ok next last st (x ∷ xs) = and (ok st x) (run ok next last (next st x) xs)
+unfoldable pub allFrom : {A S : Type 0} → (S → A → Bool) → (S → A → S) → (S → Bool) → S → List A → Bool
+allFrom ok next last st [] = last st
+allFrom ok next last st (x ∷ xs) = and (ok st x) (allFrom ok next last (next st x) xs)
 
 -- ---- names: the name before, and whether `any` was met
 
@@ -73,19 +81,19 @@ unfoldable pub metBy : Bool → List ℕ → Bool
 metBy m x = pick m true (sameText x any)
 
 unfoldable pub namesFrom : Past → List (List ℕ) → Bool
-namesFrom = run (λ p x. follows (p .name) x) (λ p x. past x (metBy (p .met) x)) (λ p. p .met)
+namesFrom = allFrom (λ p x. follows (p .name) x) (λ p x. past x (metBy (p .met) x)) (λ p. p .met)
 
 -- ---- guesses
 
 unfoldable pub guessesFrom : ℕ → List Guess → Bool
-guessesFrom n = run (λ (u : Unit {0}) g. guessGood n g) (λ u g. u) (λ u. true) tt
+guessesFrom n = allFrom (λ (u : Unit {0}) g. guessGood n g) (λ u g. u) (λ u. true) tt
 
 unfoldable pub placedGuess : List ℕ → Read Guess → GuessAt
 placedGuess s cut = guesses.Cut
 placedGuess s (got g r) = guesses.At (g .accept) (g .mask) (placeIn s r - length (g .pattern)) (placeIn s r)
 
-unfoldable pub guessAt : List ℕ → ℕ → GuessAt
-guessAt s at = placedGuess s (readGuess (drop at s))
+unfoldable pub guessStandsAt : List ℕ → ℕ → GuessAt
+guessStandsAt s at = placedGuess s (readGuess (drop at s))
 
 -- ---- rules: string by string, and the first character of the rule before
 
@@ -105,7 +113,7 @@ unfoldable pub ruleFits : List ℕ → ℕ → Rule → Bool
 ruleFits names least r = and (leb least (firstCode (r .pattern))) (ruleGood names r)
 
 unfoldable pub rulesFrom : List ℕ → ℕ → List Rule → Bool
-rulesFrom names = run (ruleFits names) (λ least r. firstCode (r .pattern)) (λ least. true)
+rulesFrom names = allFrom (ruleFits names) (λ least r. firstCode (r .pattern)) (λ least. true)
 
 unfoldable pub ruledAs : List ℕ → ℕ → ℕ → Rule → Ruled
 ruledAs names least end r = pick (ruleFits names least r) (ruled.Next end (firstCode (r .pattern))) ruled.Bad

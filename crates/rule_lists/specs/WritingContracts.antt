@@ -3,17 +3,18 @@ use mathlib.Core.Path.{_≡_}
 use Prim.Native.Nat.{ℕ, _+_, _-_, _*_, _≤_}
 use mathlib.Core.List.{List, [], _++_}
 use lib.ListN.{length, getD, take, drop}
-use Rattle.name_parts.specs.Writing.{Put}
+use Rattle.name_parts.specs.Contracts.{Put}
 use Rattle.pack.specs.Packs.{Rule}
-use Rattle.pack_bytes.specs.Bytes.{textPut, countBytes}
-use Rattle.held.specs.Tables.{keyBytes}
+use Rattle.pack_bytes.specs.Bytes.{countBytes}
+use Rattle.held.specs.Contracts.{keyBytes}
 use Rattle.rules_parser.specs.Files.{itemAt}
 use Rattle.rules_parser.specs.declared.lines.FileKind.the-variants.{Rules}
 use Rattle.rules_parser.specs.declared.lines.Told.the-variants as told
 use Rattle.rules_parser.specs.declared.files.Item.{Item}
 use Rattle.rules_parser.specs.declared.files.Item.the-variants as item
 use Rattle.rule_lists.specs.Lines.{ruleIn}
-use Rattle.rule_lists.specs.Tables.{KeptIs, keysOf}
+use Rattle.rule_lists.specs.TableContracts.{KeptIs, keysOf}
+use Rattle.pack_bytes.specs.Contracts.{textPut}
 
 unfoldable pub rulePut : Rule → List ℕ
 rulePut r = textPut (r .pattern) ++ (textPut (r .left) ++ (textPut (r .right) ++ textPut (r .expression)))

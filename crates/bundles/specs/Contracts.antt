@@ -6,11 +6,16 @@ use mathlib.Core.List.{List}
 use lib.ListN.{length, take, drop}
 use Rattle.base.specs.Pick.{pick}
 use Rattle.letters.specs.Order.{orderOf}
-use Rattle.pack.specs.Reading.{cut, got}
+use Rattle.pack.specs.Reading.{cut, got, readNumber}
 use Rattle.pack.specs.Packs.{isLess}
-use Rattle.bundles.specs.Bundles.{file, readFile}
+use Rattle.bundles.specs.Bundles.{file, readFile, File}
 use Rattle.bundles.specs.declared.Entry.{Entry}
 use Rattle.bundles.specs.declared.Entry.the-variants.{Whole, Cut}
+use Rattle.pack.specs.PlaceContracts.{behind, readSome}
+
+-- the files of any bytes, up to where they run out
+unfoldable pub filesOf : List ℕ → List File
+filesOf s = behind (readNumber 2 s) (λ n r. readSome readFile n r)
 
 unfoldable pub followsIn : Bool → List ℕ → List ℕ → Bool
 followsIn first before name = pick first true (isLess (orderOf before name))

@@ -5,10 +5,10 @@ use mathlib.Core.Path.{_≡_}
 use mathlib.Core.List.{List, [], _∷_, _++_, map}
 use lib.ListN.{length, take, drop, getD}
 use Rattle.letters.specs.Order.{orderOf}
-use Rattle.languages.specs.Coded.{decoded, IsCode}
+use Rattle.languages.specs.Contracts.{decoded, IsCode}
 use Rattle.languages.specs.declared.sets.LanguageSet.{LanguageSet}
 use Rattle.choices.specs.Texts.{Text, byOrder}
-use Rattle.choices.specs.Apply.{Alternative, Entry, Outcome, refused, held, insert, enter}
+use Rattle.choices.specs.Apply.{Alternative, Entry, NextSet, overlong, nextSet, insert, enter}
 use Rattle.choices.specs.Choices.{Increasing}
 use Rattle.refusals.specs.declared.Refusal.the-variants.{TooManyTexts}
 use Rattle.phoneme_builder.specs.Sets.{Spelling, refusal, united}
@@ -54,14 +54,14 @@ put (y ∷ d) (suc p) t = y ∷ put d p t
 
 -- ---- three numbers in one: languages and two bytes
 
-abbrev pub packedOf : ℕ → ℕ → ℕ → ℕ
-packedOf g first second = g * 65536 + first * 256 + second
+abbrev pub markOf : ℕ → ℕ → ℕ → ℕ
+markOf g first second = g * 65536 + first * 256 + second
 
 abbrev pub langsOf : ℕ → ℕ
 langsOf x = x / 65536
 
-abbrev pub firstOf : ℕ → ℕ
-firstOf x = x / 256 % 256
+abbrev pub firstByteOf : ℕ → ℕ
+firstByteOf x = x / 256 % 256
 
 abbrev pub secondOf : ℕ → ℕ
 secondOf x = x % 256
@@ -69,22 +69,22 @@ secondOf x = x % 256
 -- ---- buffers
 
 -- the text and the entry that a mark names: its row and its length are the two bytes
-unfoldable pub textOf : List ℕ → ℕ → Text
-textOf store x = take (secondOf x) (drop (firstOf x * 128) store)
+unfoldable pub markedText : List ℕ → ℕ → Text
+markedText store x = take (secondOf x) (drop (firstByteOf x * 128) store)
 
 unfoldable pub entryOf : List ℕ → ℕ → Entry
-entryOf store x = record { text = textOf store x; langs = decoded (langsOf x) }
+entryOf store x = record { text = markedText store x; langs = decoded (langsOf x) }
 
 -- the texts and the entries of the first n marks
-abbrev pub textsOf : List ℕ → List ℕ → ℕ → List Text
-textsOf store marks n = map (textOf store) (take n marks)
+abbrev pub markedTexts : List ℕ → List ℕ → ℕ → List Text
+markedTexts store marks n = map (markedText store) (take n marks)
 
-abbrev pub entries : List ℕ → List ℕ → ℕ → List Entry
-entries store marks n = map (entryOf store) (take n marks)
+abbrev pub markedEntries : List ℕ → List ℕ → ℕ → List Entry
+markedEntries store marks n = map (entryOf store) (take n marks)
 
 -- x is the mark of a text in one of the first n rows
 pub record MarkIn (n x : ℕ) : Type 0 where
-  pub row : firstOf x < n
+  pub row : firstByteOf x < n
   pub short : secondOf x ≤ 128
   pub code : IsCode (langsOf x)
 
@@ -98,12 +98,12 @@ pub record IsSet (store marks : List ℕ) (n : ℕ) : Type 0 where
   pub long-store : length store ≡ 32768
   pub long-marks : length marks ≡ 256
   pub each : MarksIn n (take n marks)
-  pub increasing : Increasing (textsOf store marks n)
+  pub increasing : Increasing (markedTexts store marks n)
 
 -- they hold the list l
 pub record SetIs (store marks : List ℕ) (n : ℕ) (l : List Entry) : Type 0 where
   pub set : IsSet store marks n
-  pub is : entries store marks n ≡ l
+  pub is : markedEntries store marks n ≡ l
 
 -- ---- four sets side by side
 
@@ -124,7 +124,7 @@ pub record Rooms (a : Arena) : Type 0 where
   pub long-marks : length (a .marks) ≡ 1024
 
 unfoldable pub entriesAt : Arena → ℕ → ℕ → List Entry
-entriesAt a k n = entries (part 32768 k (a .store)) (part 256 k (a .marks)) n
+entriesAt a k n = markedEntries (part 32768 k (a .store)) (part 256 k (a .marks)) n
 
 -- set k has n texts
 pub record SetAt (a : Arena) (k n : ℕ) : Type 0 where
@@ -150,7 +150,7 @@ Only x y a b = (k : ℕ) → k < 4 → (k ≡ x → ⊥) → (k ≡ y → ⊥) �
 unfoldable pub altAt : List ℕ → List ℕ → ℕ → Alternative
 altAt expr alts j =
     let x = getD alts j 0 in
-    record { text = take (secondOf x - firstOf x) (drop (firstOf x) expr); langs = decoded (langsOf x) }
+    record { text = take (secondOf x - firstByteOf x) (drop (firstByteOf x) expr); langs = decoded (langsOf x) }
 
 unfoldable pub altsFrom : List ℕ → List ℕ → ℕ → ℕ → List Alternative
 altsFrom expr alts j zero = []
@@ -161,7 +161,7 @@ alternatives expr alts m = altsFrom expr alts 0 m
 
 -- a number that is an alternative of the expression
 pub record AltIn (expr : List ℕ) (x : ℕ) : Type 0 where
-  pub start-in : firstOf x ≤ secondOf x
+  pub start-in : firstByteOf x ≤ secondOf x
   pub end-in : secondOf x ≤ length expr
   pub code : IsCode (langsOf x)
 
@@ -175,15 +175,15 @@ unfoldable pub KeptBy : Applied → Arena → ℕ → Type 0
 KeptBy (Now k) b to = SetAt b to k
 KeptBy TooLong b to = Unit {0}
 
-unfoldable pub outcomeBy : Applied → Arena → ℕ → (List Entry → Outcome) → Outcome
+unfoldable pub outcomeBy : Applied → Arena → ℕ → (List Entry → NextSet) → NextSet
 outcomeBy (Now k) b to rest = rest (entriesAt b to k)
-outcomeBy TooLong b to rest = refused
+outcomeBy TooLong b to rest = overlong
 
 -- the answer is the outcome o, and no set but `to` changed
-pub record AppliedAt (a b : Arena) (to : ℕ) (r : Applied) (o : Outcome) : Type 0 where
+pub record AppliedAt (a b : Arena) (to : ℕ) (r : Applied) (o : NextSet) : Type 0 where
   pub rooms : Rooms b
   pub kept : KeptBy r b to
-  pub is : outcomeBy r b to held ≡ o
+  pub is : outcomeBy r b to nextSet ≡ o
   pub others : Only to to a b
 
 -- the candidates cs entered into l, whatever comes behind them
@@ -200,7 +200,7 @@ HeldBy (Into k) store marks = IsSet store marks k
 HeldBy TooMany store marks = Unit {0}
 
 unfoldable pub spellingBy : United → List ℕ → List ℕ → (List Entry → Spelling) → Spelling
-spellingBy (Into k) store marks rest = rest (entries store marks k)
+spellingBy (Into k) store marks rest = rest (markedEntries store marks k)
 spellingBy TooMany store marks rest = refusal TooManyTexts
 
 -- the texts xs united into l for the set g, whatever is done with the result
@@ -224,7 +224,7 @@ pub record TextIn (store marks : List ℕ) (k i : ℕ) : Type 0 where
   pub mark : MarkIn 256 (getD (part 256 k marks) i 0)
 
 unfoldable pub textIn : List ℕ → List ℕ → ℕ → ℕ → Text
-textIn store marks k i = textOf (part 32768 k store) (getD (part 256 k marks) i 0)
+textIn store marks k i = markedText (part 32768 k store) (getD (part 256 k marks) i 0)
 
 -- and so its languages
 pub record LangsIn (marks : List ℕ) (k i : ℕ) : Type 0 where

@@ -1,0 +1,164 @@
+-- What a walk over a rule file and its includes answers.
+use mathlib.Core.Path.{_≡_}
+use Prim.Native.Nat.{ℕ, zero, suc, _+_, _-_, _≤_}
+use mathlib.Core.List.{List, [], _∷_, _++_}
+use lib.Dec.{leb}
+use lib.ListN.{length, take, drop}
+use Rattle.base.specs.Pick.{pick}
+use Rattle.refusals.specs.declared.Refusal.{Refusal}
+use Rattle.refusals.specs.declared.Refusal.the-variants.{FileMissing, IncludeTooDeep, LineUnreadable}
+use Rattle.pack.specs.Packs.{Rule}
+use Rattle.bundles.specs.Bundles.{Found, missing, found, fileNamed}
+use Rattle.bundles.specs.Contracts.{Stands, filesOf}
+use Rattle.held.specs.Met as met
+use Rattle.held.specs.Files as files
+use Rattle.held.specs.Contracts.{noteIn, staysIn, noted, kept}
+use Rattle.rule_lists.specs.Outcomes.{Loading, fine, notLoaded}
+use Rattle.rule_lists.specs.Lines.{linesOf, ruleFault, ruleIn}
+use Rattle.rule_lists.specs.TableContracts.{NotedIs, KeptIs, SpotIs}
+use Rattle.rule_lists.specs.declared.tables.Spot.{Spot}
+use Rattle.rule_lists.specs.declared.walk.Task.{Task}
+use Rattle.rule_lists.specs.declared.walk.Task.the-variants.{Survey, Collect}
+use Rattle.rule_lists.specs.declared.walk.State.{State}
+use Rattle.rule_lists.specs.declared.walk.Walked.{Walked}
+use Rattle.rule_lists.specs.declared.walk.Walked.the-variants as walked
+use Rattle.rule_lists.specs.declared.walk.Entered.{Entered}
+use Rattle.rule_lists.specs.declared.walk.Entered.the-variants as entered
+use Rattle.rule_lists.specs.declared.walk.Collected.{Collected}
+use Rattle.rule_lists.specs.declared.walk.Collected.the-variants as collected
+use Rattle.rule_lists.specs.Lists.{filesFor, firstCodeOf}
+use Rattle.rule_lists.specs.declared.lines.Row.the-variants as row
+use Rattle.rules_parser.specs.declared.files.Item.the-variants as item
+use Rattle.rules_parser.specs.declared.lines.Told.the-variants as told
+use Rattle.rule_lists.specs.declared.lines.Fault.{Fault}
+use Rattle.rule_lists.specs.declared.lines.Row.{Row}
+use Rattle.rule_lists.specs.declared.lines.Fault.the-variants.{Without, Is}
+use Rattle.rules_parser.specs.declared.fields.Text.{Text}
+use Rattle.rule.specs.Matching.{firstCode}
+use Rattle.rules_parser.specs.Fields.{partOf}
+use Rattle.rules_parser.specs.declared.files.Item.{Item}
+use Rattle.rules_parser.specs.Files.{itemAt}
+use Rattle.rules_parser.specs.declared.lines.FileKind.the-variants.{Rules}
+use Rattle.rule_lists.specs.declared.writing.Written.{Written}
+use Rattle.rule_lists.specs.declared.writing.Written.the-variants.{Done, Refused}
+use Rattle.name_parts.specs.Contracts.{Put}
+
+-- the promise of a function that writes: o and o′ are the buffer before and after, `at` the place, r the answer. A refusal says nothing
+-- of the buffer: a caller writes into one of its own first
+unfoldable pub WrittenIs : {A : Type 0} → (A → List ℕ) → Loading A → List ℕ → List ℕ → ℕ → Written → Type 0
+WrittenIs bytes (fine a) o o′ at r = (p : ℕ) × (r ≡ Done p) × Put o o′ at p (bytes a)
+WrittenIs bytes (notLoaded c l f) o o′ at r = r ≡ Refused c l f
+
+unfoldable pub rowBy : Fault → ℕ → ℕ → Row
+rowBy Without code next = row.Rule code next
+rowBy (Is w) code next = row.Bad w
+
+unfoldable pub rowTold : List ℕ → List ℕ → Text → Text → Text → Text → ℕ → Row
+rowTold names s a b c d next = rowBy (ruleFault names (ruleIn s a b c d)) (firstCode (partOf s a)) next
+
+unfoldable pub rowIn : List ℕ → List ℕ → Item → Row
+rowIn names s (item.Passed k n) = row.Passed k n
+rowIn names s (item.Tells (told.Rule a b c d) n) = rowTold names s a b c d n
+rowIn names s (item.Tells (told.Include t) n) = row.Include t n
+rowIn names s (item.Tells (told.Guess a b v) n) = row.Bad LineUnreadable
+rowIn names s (item.Tells (told.Name t) n) = row.Bad LineUnreadable
+rowIn names s item.Wrong = row.Bad LineUnreadable
+
+unfoldable pub rowAt : List ℕ → List ℕ → ℕ → Row
+rowAt names s p = rowIn names s (itemAt Rules s p)
+
+-- ---- what is known after a part of a walk: the last entries, and the rules that stay
+
+pub record Known : Type 0 where
+  pub lasts : List ℕ
+  pub rules : List Rule
+
+abbrev pub known : List ℕ → List Rule → Known
+known vs rs = record { lasts = vs; rules = rs }
+
+-- a rule is met in a file whose entry is `own`, n includes having been followed
+unfoldable pub ruled : Task → ℕ → ℕ → Known → Rule → Known
+ruled Survey own n a r = known (noteIn (firstCodeOf r) own (a .lasts)) (a .rules)
+ruled Collect own n a r = known (a .lasts) (pick (staysIn (firstCodeOf r) n (a .lasts)) (a .rules ++ (r ∷ [])) (a .rules))
+
+-- all of t is met
+unfoldable pub tally : Task → ℕ → ℕ → Known → met.Met Rule → Known
+tally task own n a met.end = a
+tally task own n a (met.rule r t) = tally task own n (ruled task own n a r) t
+tally task own n a (met.file i t) = tally task own (n + 1 + met.entries i) (tally task (n + 1) (n + 1) a i) t
+
+abbrev pub stateOf : ℕ → ℕ → ℕ → State
+stateOf f n k = record { followed = f; noted = n; kept = k }
+
+-- ---- the buffers
+
+-- their lengths
+pub record Room (lasts rows : List ℕ) : Type 0 where
+  pub first : length lasts ≡ 4096
+  pub second : length rows ≡ 16384
+
+-- the buffers hold what is known
+pub record StateHolds (bundle lasts rows : List ℕ) (st : State) (a : Known) : Type 0 where
+  pub noted : NotedIs lasts (st .noted) (a .lasts)
+  pub kept : KeptIs bundle rows (st .kept) (a .rules)
+
+-- what a walk needs: to keep rules, all first characters have to be noted
+pub record Ready (bundle : List ℕ) (task : Task) (st : State) (lasts rows : List ℕ) : Type 0 where
+  pub some : (a : Known) × StateHolds bundle lasts rows st a
+  pub followed : st .followed ≤ 256
+  pub whole : task ≡ Collect → st .noted ≤ 4096
+
+-- ---- a rule
+
+pub record RuledIs (bundle : List ℕ) (task : Task) (own : ℕ) (st : State) (spot : Spot) (lasts rows : List ℕ) (st′ : State) (lasts′ rows′ : List ℕ) : Type 0 where
+  pub followed : st′ .followed ≡ st .followed
+  pub noted : task ≡ Collect → st′ .noted ≡ st .noted
+  pub holds : (a : Known) (r : Rule) → StateHolds bundle lasts rows st a → SpotIs bundle (spot .code) (spot .start) (spot .end) (spot .place) r → StateHolds bundle lasts′ rows′ st′ (ruled task own (st .followed) a r)
+
+-- ---- an include
+
+-- the number and the content of the file to read, or the refusal
+pub data Opening : Type 0 where
+  not : Refusal → Opening
+  into : ℕ → List ℕ → Opening
+
+unfoldable pub openingIn : Found → Opening
+openingIn missing = not FileMissing
+openingIn (found f c) = into f c
+
+-- 17 where it is too deep or one too many, 11 where the file isn't in the bundle
+unfoldable pub openingOf : List ℕ → ℕ → List ℕ → ℕ → Opening
+openingOf s zero name n = not IncludeTooDeep
+openingOf s (suc left) name n = pick (leb 256 n) (not IncludeTooDeep) (openingIn (fileNamed name 0 (filesOf s)))
+
+-- a file to read is told by its number and where its content stands
+unfoldable pub EntersIs : List ℕ → Opening → Entered → Type 0
+EntersIs s (not k) r = r ≡ entered.Not k
+EntersIs s (into f c) r = (a : ℕ) × (b : ℕ) × (r ≡ entered.Go f a b) × Stands s a b c
+
+-- ---- a walk
+
+-- what a file comes to that is read from st on, in which a is known
+unfoldable pub Told : List ℕ → Task → ℕ → State → Known → files.FileRead Rule → Walked → List ℕ → List ℕ → Type 0
+Told bundle task own st a (files.wasRead t) r lasts′ rows′ =
+    (st′ : State) × (r ≡ walked.Done st′) × (st′ .followed ≡ st .followed + met.entries t) × StateHolds bundle lasts′ rows′ st′ (tally task own (st .followed) a t)
+Told bundle task own st a (files.notRead c l f) r lasts′ rows′ = r ≡ walked.Refused c l f
+
+-- reading a file's content, below which `left` more may be nested, as the lines of file f
+unfoldable pub readFrom : List ℕ → List ℕ → ℕ → ℕ → ℕ → List ℕ → files.FileRead Rule
+readFrom bundle names left f n s = files.readLines (files.follow (filesFor names (filesOf bundle)) left) f 1 n (linesOf names s)
+
+pub record WalkIs (bundle names : List ℕ) (f start end left : ℕ) (task : Task) (st : State) (lasts rows : List ℕ) (r : Walked) (lasts′ rows′ : List ℕ) : Type 0 where
+  pub told : (a : Known) → StateHolds bundle lasts rows st a → Told bundle task (st .followed) st a (readFrom bundle names left f (st .followed) (take (end - start) (drop start bundle))) r lasts′ rows′
+  pub followed : (st′ : State) → r ≡ walked.Done st′ → st′ .followed ≤ 256
+  pub noted : (st′ : State) → r ≡ walked.Done st′ → task ≡ Collect → st′ .noted ≡ st .noted
+
+-- ---- a listed file
+
+-- the rules that stay, in the order in which they are met
+unfoldable pub keptAs : met.Met Rule → List Rule
+keptAs t = kept firstCodeOf (noted firstCodeOf 0 0 [] t) 0 [] t
+
+unfoldable pub CollectIs : List ℕ → Loading (met.Met Rule) → Collected → List ℕ → Type 0
+CollectIs bundle (fine t) r rows′ = (n : ℕ) × (r ≡ collected.Rules n) × KeptIs bundle rows′ n (keptAs t)
+CollectIs bundle (notLoaded c l f) r rows′ = r ≡ collected.Refused c l f

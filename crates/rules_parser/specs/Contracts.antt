@@ -1,0 +1,11 @@
+-- What only contracts and proofs of this crate's functions use.
+use Rattle.rules_parser.specs.declared.lines.FileKind.{FileKind}
+use mathlib.Core.List.{List}
+use Prim.Native.Nat.{ℕ, _-_}
+use Rattle.rules_parser.specs.declared.files.Item.{Item}
+use Rattle.rules_parser.specs.Files.{itemsFrom}
+use lib.ListN.{length}
+
+-- the same with just that fuel
+abbrev pub itemsAt : FileKind → List ℕ → ℕ → List Item
+itemsAt kind s p = itemsFrom (length s - p) kind s p
