@@ -27,8 +27,9 @@ use Rattle.prefixes.specs.declared.prefixes.NameType.{NameType}
 use Rattle.prefixes.specs.declared.prefixes.NameType.the-variants.{Ashkenazi, Generic, Sephardic}
 use Rattle.prefixes.specs.declared.prefixes.Prefix.{Prefix}
 use Rattle.prefixes.specs.declared.prefixes.Prefix.the-variants.{Parted, Whole}
-use Rattle.name_parts.specs.Words.{goesOn, led, wordsOf, firstOf, wordAt}
+use Rattle.name_parts.specs.Words.{goesOn, led, wordsOf, wordAt}
 use Rattle.name_parts.specs.Joining.{spaced, joinedName, afterApostrophe, keptOf, dropsOut, remaining, joinedBySpace, joinedWords}
+use Rattle.name_parts.proofs.Laws.{one-is}
 use Rattle.name_parts.proofs.JoinLaws.{Free, free-start, free-here, free-next, free-end}
 use Rattle.pack.specs.Packs.{all}
 use Rattle.choices.specs.Texts.{Text}
@@ -125,9 +126,7 @@ words-from q (x ∷ s) f = words-by q x s (eqb x 32) refl (λ r g. words-from r 
 words-formed : (s : Text) → Formed s → Every Formed (wordsOf s)
 words-formed s f = words-all (words-from border s f)
 
-first-formed : {ws : List Text} → Every Formed ws → Formed (firstOf ws)
-unfolding firstOf after
-first-formed none = refl
+first-formed : {w : Text} {ws : List Text} → Every Formed (w ∷ ws) → Formed w
 first-formed (more f e) = f
 
 -- ---- apostrophes
@@ -223,9 +222,9 @@ parted-formed Sephardic s f = tt
 -- ---- the words of a name
 
 pub word-formed : {c : Steps} {g h : LanguageSet} {s w : Text} → WordOf c g s h w → Formed s → Formed w
-unfolding wordAt joinedWords joinedName PartsFormed
+unfolding joinedWords joinedName PartsFormed
 word-formed {c} (all-joined {s = s} p q) f = space-formed (remaining-formed (c .kind) (words-formed s f))
-word-formed (only-word {s = s} p q o) f = first-formed (words-formed s f)
+word-formed (only-word {s = s} p q o) f = first-formed (rw (one-is s o) at (words-formed s f))
 word-formed (of-word {s = s} {t = t} p q o m d) f = word-formed d (every-at (words-formed s f) t m)
 word-formed {c} (of-remainder {s = s} p d) f = word-formed d ((rw p at (parted-formed (c .kind) s f)) .1)
 word-formed {c} (of-joined {s = s} {keep = keep} {skip = skip} p d) f =

@@ -18,7 +18,7 @@ use Rattle.choices.specs.Apply.{Entry, textsOf, NextSet, overlong, nextSet, app
 use Rattle.choices.specs.Choices.{Increasing, First}
 use Rattle.phoneme_builder.specs.Sets.{Spelling, refusal}
 use Rattle.phoneme_builder.specs.Sets as sets
-use Rattle.phoneme_builder.specs.Passes.{offered, Match, none as nothing, by, Matcher, Turn, rule, letter, stepLength, turnOn, turnsFrom, turnsOf, Ran, tooLong, ran, flagged, applied, after as behind, unmatched, run, raised, onRan, finalText, finalFrom, finalPass, then, mainOf, wordOf}
+use Rattle.phoneme_builder.specs.Passes.{offered, Match, none as nothing, by, Matcher, Turn, rule, letter, stepLength, turnOn, turnsFrom, turnsOf, Ran, tooLong, ran, flagged, applied, afterLetter, unmatched, run, raised, onRan, finalText, finalFrom, finalPass, then, mainOf, wordOf}
 use Rattle.code_points.proofs.Bytes.{after, Formed, formed-rest, char-formed, char-rest, ill-not}
 use Rattle.code_points.proofs.Cuts.{Every, none, more, text-formed}
 use Rattle.code_points.proofs.Sets.{Proper, ProperSet, FormedAlternative, apply-proper, appended-proper, ProperSpelling, united-proper, empty-proper}
@@ -93,10 +93,10 @@ unfolding applied ProperSet ProperRun
 applied-proper limit overlong rest w k = tt
 applied-proper limit (nextSet l) rest w k = flagged-proper _ (rest l) (k l w)
 
-behind-proper : (o : NextSet) (rest : List Entry → Ran) → ProperSet o → ((l : List Entry) → Proper (textsOf l) → ProperRun (rest l)) → ProperRun (behind o rest)
-unfolding behind ProperSet ProperRun
-behind-proper overlong rest w k = tt
-behind-proper (nextSet l) rest w k = k l w
+after-proper : (o : NextSet) (rest : List Entry → Ran) → ProperSet o → ((l : List Entry) → Proper (textsOf l) → ProperRun (rest l)) → ProperRun (afterLetter o rest)
+unfolding afterLetter ProperSet ProperRun
+after-proper overlong rest w k = tt
+after-proper (nextSet l) rest w k = k l w
 
 unmatched-proper : (final : Bool) (c : Text) (l : List Entry) → Formed c → Proper (textsOf l) → ProperSet (unmatched final c l)
 unfolding unmatched ProperSet
@@ -109,7 +109,7 @@ run-proper final limit l none w = w
 run-proper final limit l (more {x = rule alts} {l = turns} f e) w =
     applied-proper limit (apply limit alts l) _ (apply-proper limit alts l f (w .formed)) (λ m v. run-proper final limit m e v)
 run-proper final limit l (more {x = letter c} {l = turns} f e) w =
-    behind-proper (unmatched final c l) _ (unmatched-proper final c l f w) (λ m v. run-proper final limit m e v)
+    after-proper (unmatched final c l) _ (unmatched-proper final c l f w) (λ m v. run-proper final limit m e v)
 
 pub start-proper : (g : LanguageSet) → Proper (textsOf (start g))
 unfolding Increasing First after

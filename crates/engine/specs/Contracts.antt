@@ -33,13 +33,12 @@ use Rattle.engine.specs.declared.encode.Ends.{Ends}
 use Rattle.engine.specs.declared.encode.Lists.{Lists}
 use Rattle.engine.specs.declared.spelling.Named.{Named}
 use Rattle.engine.specs.declared.spelling.Named.the-variants.{Fine, Wrong}
-use Rattle.engine.specs.declared.spelling.Spelled.the-variants.{Refused}
 use Rattle.languages.specs.Contracts.{BitsBelow}
 
 -- the answer that has these numbers
 unfoldable pub toldOf : CallOutcome → ℕ → Spelled
-toldOf (refusedBy why place) room = Refused why place
-toldOf (key t f) room = pick (leb (length t) room) (Done (length t) f) (Refused NoRoom (min (length t) 4294967295))
+toldOf (refusedBy why place) room = spelled.Refused why place
+toldOf (key t f) room = pick (leb (length t) room) (spelled.Done (length t) f) (spelled.Refused NoRoom (min (length t) 4294967295))
 
 -- ---- the pack
 

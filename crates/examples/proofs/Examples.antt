@@ -12,9 +12,9 @@ use Rattle.phonemes.specs.Expressions.{onFirst, cutAt, inside, extra, piecesIn,
 use Rattle.choices.specs.Texts.{byOrder}
 use Rattle.choices.specs.Apply.{insert, under, candidates, enter, apply}
 use Rattle.phoneme_builder.specs.Sets.{sorted, allShort, appended}
-use Rattle.phoneme_builder.specs.Passes.{offered, flagged, applied as onApplied, afterLetter, unmatched, run}
+use Rattle.phoneme_builder.specs.Passes.{offered, flagged, applied, afterLetter, unmatched, run}
 use Rattle.examples.specs.Table.{told, expression, left, applying, appending, partsBy, partsOf, table, AllSame}
-use Rattle.prefixes.specs.Prefixes.{prefixesOf, fits as fitsSpace, firstFit, splitOf}
+use Rattle.prefixes.specs.Prefixes.{prefixesOf, prefixFits, firstFit, splitOf}
 use Rattle.name_parts.specs.Joining.{joinedName}
 
 -- 01, Examples 1 to 12
@@ -24,7 +24,7 @@ unfolding
     orderOf sameText tail front firstIs lastIs placeOf has prefixOf suffixOf narrowed merged isEmpty strings stringsOf namePlace bitAt languageBit
     literalForm boxForm withoutCaret withoutDollar boxInner boxed formIn formOf leftForm memberOf codeAt firstChar codeOf backChar wholeChar orElse lastChar charFits fits
     onFirst cutAt inside extra piecesIn allOf formedPiece formed boxOf withBits namesMask pieceMask isListed textOf maskSet setOf checkedOf
-    byOrder insert under candidates enter apply sorted allShort appended offered flagged onApplied afterLetter unmatched run
-    prefixesOf fitsSpace firstFit splitOf joinedName partsBy partsOf
+    byOrder insert under candidates enter apply sorted allShort appended offered flagged applied afterLetter unmatched run
+    prefixesOf prefixFits firstFit splitOf joinedName partsBy partsOf
     told expression left applying appending table
 examples = (refl, (refl, (refl, (refl, (refl, (refl, (refl, (refl, (refl, (refl, (refl, (refl, (refl, (refl, (refl, (refl, (refl, tt)))))))))))))))))

@@ -73,11 +73,6 @@ pub mask-below : (n x : ℕ) → x < 2 ^ n → BitsBelow n (SomeLanguages x)
 unfolding BitsBelow
 mask-below n x p = p
 
--- and only there
-pub below-mask : (n x : ℕ) → BitsBelow n (SomeLanguages x) → x < 2 ^ n
-unfolding BitsBelow
-below-mask n x p = p
-
 -- ---- the single language of a set
 
 clash : {A : Type 0} → _≡_ {A = ℕ} 0 1 → A
@@ -222,5 +217,3 @@ string-whole s at a e r p q = whole-by s at a e _ _ refl refl (sym p ∙ q)
 pub string-cut : (s : List ℕ) (at : ℕ) (r : Next) → r ≡ stringAt s at → r ≡ Cut → length s < at + 1 + getD s at 0
 unfolding stringAt
 string-cut s at r p q = cut-by s at _ _ refl refl (sym p ∙ q)
-
-pub ruleset language-laws = (narrow-below, merge-below, without-below, any-below, none-below, mask-below, below-mask, single-set, single-below, is-listed, bit-below, bit-held, name-some, string-whole, string-cut)

@@ -57,7 +57,7 @@ fn kind_of(name_type: u32) -> Kind
 
 // The language list of a type.
 fn languages_file(kind: NameType, bundle: &[u8]) -> FileAt
-    ensures { λ r. ⌜ Rattle.bundles.specs.PlaceContracts.numbersOf r ≡ fileAt (now (bundle .entry)) (typePrefix kind ++ languagesPart) ⌝ }
+    ensures { λ r. ⌜ Rattle.bundles.specs.PlaceContracts.fileNumbers r ≡ fileAt (now (bundle .entry)) (typePrefix kind ++ languagesPart) ⌝ }
 {
     match kind {
         NameType::Ashkenazi => bundles::find_file(bundle, b"ash_languages"),
@@ -68,7 +68,7 @@ fn languages_file(kind: NameType, bundle: &[u8]) -> FileAt
 
 // The guessing file of a type.
 fn guessing_file(kind: NameType, bundle: &[u8]) -> FileAt
-    ensures { λ r. ⌜ Rattle.bundles.specs.PlaceContracts.numbersOf r ≡ fileAt (now (bundle .entry)) (typePrefix kind ++ langPart) ⌝ }
+    ensures { λ r. ⌜ Rattle.bundles.specs.PlaceContracts.fileNumbers r ≡ fileAt (now (bundle .entry)) (typePrefix kind ++ langPart) ⌝ }
 {
     match kind {
         NameType::Ashkenazi => bundles::find_file(bundle, b"ash_lang"),

@@ -304,15 +304,6 @@ module _ (s nm : List ℕ) (at : ℕ) (r : Rule) (rs : List Rule) (l : RulesAt s
     pub held-pattern : take (b - a) (drop a s) ≡ r .pattern
     held-pattern = held-here .pattern
 
-    pub held-left : take (d - c) (drop c s) ≡ r .left
-    held-left = held-here .left
-
-    pub held-right : take (f - e) (drop e s) ≡ r .right
-    held-right = held-here .right
-
-    pub held-expression : take (h - g) (drop g s) ≡ r .expression
-    held-expression = held-here .expression
-
     pub held-good : GoodRule nm r
     held-good = good-rule nm r (held-here .good)
 
@@ -325,8 +316,6 @@ never-cut s nm at r rs o (one-rule p w v k l) = let same = o ∙ p in clash (cc)
 
 pub held-whole : (s nm : List ℕ) (at : ℕ) (r : Rule) (rs : List Rule) (x : RuleAt) → RulesAt s nm at (r ∷ rs) → x ≡ ruleStandsAt s at → x ≡ rules.Cut → ⊥
 held-whole s nm at r rs x l o q = never-cut s nm at r rs (sym q ∙ o) l
-
-pub ruleset held-laws = (held-pattern, held-left, held-right, held-expression, held-good, held-rest)
 
 all-inv : (nm : List ℕ) (x : Rule) (xs : List Rule) → all (ruleGood nm) (x ∷ xs) ≡ true → (ruleGood nm x ≡ true) × (all (ruleGood nm) xs ≡ true)
 unfolding all

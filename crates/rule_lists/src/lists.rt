@@ -227,7 +227,7 @@ pub fn write_lists(
     out: &mut [u8],
     at: usize,
 ) -> Written
-    ensures { λ r. ⌜ WrittenIs (bytesOfAll listBytes) (listsOf (now (names .entry)) (filesOf (now (bundle .entry))) (listFiles (Rattle.rule_lists.specs.Lists.prefixOf kind) (stringsOf (now (names .entry))))) (now (out .entry)) (now (out .exit)) at r ⌝ }
+    ensures { λ r. ⌜ WrittenIs (bytesOfAll listBytes) (listsOf (now (names .entry)) (filesOf (now (bundle .entry))) (listFiles (Rattle.rule_lists.specs.Lists.typePrefix kind) (stringsOf (now (names .entry))))) (now (out .entry)) (now (out .exit)) at r ⌝ }
 {
     let mut lasts = [0u64; 4096];
     let mut rows = [0usize; 16384];

@@ -134,5 +134,3 @@ guess-pattern s p a b v n e = says Guesses s p (Guess a b v) n e
 pub name-language : (s : List ℕ) (p : ℕ) (t : Text) (n : ℕ) → itemAt Languages s p ≡ Tells (Name t) n → languageName (partOf s t) ≡ true
 unfolding Says
 name-language s p t n e = says Languages s p (Name t) n e
-
-pub ruleset guarantees = (rule-pattern, rule-left, rule-right, rule-expression, guess-pattern, name-language)
