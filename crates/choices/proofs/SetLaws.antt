@@ -3,12 +3,12 @@
 use mathlib.Core.Path.{_≡_, refl, ap, subst}
 use mathlib.Core.Bool.{Bool, true, false}
 use mathlib.Core.Logic.{_⊎_, inl, inr}
-use mathlib.Core.List.{List, [], _∷_, _++_}
+use mathlib.Core.List.{List, [], _∷_}
 use Prim.Native.Nat.{ℕ, suc, _≤_, _<_}
 use native.Mathlib.Omega.{arith}
 use lib.ListN.{length}
 use lib.Dec.{ltb, leb}
-use borrow.Author.Tests.{ltb-false, leb-true, leb-false, le-ltb, lt-leb}
+use borrow.Author.Tests.{ltb-false, leb-true, leb-false}
 use Rattle.base.specs.Pick.{pick}
 use Rattle.choices.specs.Texts.{Text, byOrder}
 use Rattle.letters.specs.Order.{orderOf}

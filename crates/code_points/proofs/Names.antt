@@ -27,7 +27,7 @@ use Rattle.prefixes.specs.declared.prefixes.NameType.{NameType}
 use Rattle.prefixes.specs.declared.prefixes.NameType.the-variants.{Ashkenazi, Generic, Sephardic}
 use Rattle.prefixes.specs.declared.prefixes.Prefix.{Prefix}
 use Rattle.prefixes.specs.declared.prefixes.Prefix.the-variants.{Parted, Whole}
-use Rattle.name_parts.specs.Words.{goesOn, led, wordsOf, wordAt}
+use Rattle.name_parts.specs.Words.{goesOn, led, wordsOf}
 use Rattle.name_parts.specs.Joining.{spaced, joinedName, afterApostrophe, keptOf, dropsOut, remaining, joinedBySpace, joinedWords}
 use Rattle.name_parts.proofs.Laws.{one-is}
 use Rattle.name_parts.proofs.JoinLaws.{Free, free-start, free-here, free-next, free-end}

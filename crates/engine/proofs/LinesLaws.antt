@@ -45,7 +45,7 @@ use Rattle.engine.specs.declared.lines.Fit.{Fit}
 use Rattle.engine.specs.declared.lines.Fit.the-variants.{Behind, Over}
 use Rattle.engine.specs.declared.spelling.Spelled.{Spelled}
 use Rattle.engine.specs.declared.spelling.Spelled.the-variants.{Done, Refused}
-use Rattle.base.proofs.PickLaws.{pick-true, pick-false, pick-cong, pick-all, and-rest, and-none, and-no, and-first, and-inv}
+use Rattle.base.proofs.PickLaws.{pick-true, pick-false, pick-cong, pick-all, and-rest, and-none, and-first, and-inv}
 use Rattle.engine.specs.Contracts.{toldOf}
 
 -- ---- the promise

@@ -28,7 +28,7 @@ use Rattle.refusals.specs.declared.Refusal.{Refusal}
 use Rattle.refusals.specs.declared.Refusal.the-variants.{NotUtf8, OutsideRange, NameTooLong}
 use Rattle.engine.specs.Spelling.{Spelt, unspelt, speltAs}
 use Rattle.engine.specs.Calls.{CallOutcome, refusedBy, key, outcomeOf, unless, onPack, lettersThen, checkedThen, callOf, refusedAs}
-use Rattle.engine.specs.Lines.{decimalBy, decimal, refusalLine, most, holdsLine, needed, lineWith, lineFor, linesFrom, wholeLines, andTaken, takeLines, taken, BlockNumbers, blockNumbers, took, noRoom, numbersBy, blockBy, LinesIs}
+use Rattle.engine.specs.Lines.{decimalBy, decimal, refusalLine, most, holdsLine, needed, lineWith, lineFor, linesFrom, wholeLines, andTaken, taken, BlockNumbers, blockNumbers, took, noRoom, numbersBy, blockBy, LinesIs}
 use Rattle.engine.specs.LineContracts.{lineLength}
 use Rattle.engine.specs.declared.call.Settings.{Settings}
 use Rattle.engine.specs.declared.call.Start.{Start}

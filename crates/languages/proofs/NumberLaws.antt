@@ -1,6 +1,5 @@
 -- No two sets and no two answers of a list have the same numbers: `-one` reads a promise, `-told` makes one. Assumes nothing.
 use mathlib.Core.Path.{_≡_, refl, ap}
-use mathlib.Core.List.{List, [], _∷_}
 use Prim.Native.Nat.{ℕ}
 use native.Mathlib.Omega.{arith}
 use Rattle.refusals.specs.Numbers.{numberOf}

@@ -1,22 +1,19 @@
 -- On well-formed texts the order of the bytes is the order of the code points. Assumes nothing.
 use mathlib.Core.Path.{_≡_, refl, sym, ap, _∙_}
-use mathlib.Core.Bool.{Bool, true, false}
 use mathlib.Core.List.{List, [], _∷_, _++_}
-use mathlib.Core.Logic.{_⊎_, inl, inr, ⊎-elim}
 use Prim.Native.Nat.{ℕ, _+_, _/_, _%_, _<_, _≤_}
 use native.Mathlib.Decide.{decLt}
 use native.Mathlib.Omega.{arith}
 use lib.Dec.{ltb}
-use lib.ListN.{length, drop, drop-of-length-le}
+use lib.ListN.{drop, drop-of-length-le}
 use borrow.Author.Tests.{lt-ltb, le-ltb}
 use Rattle.base.specs.Pick.{pick}
 use Rattle.letters.specs.Utf8.{encode}
-use Rattle.letters.specs.Reading.{Symbol, symbol, strayByte, symbolsOf, codesIn, codesOf, illIn, firstIll}
+use Rattle.letters.specs.Reading.{Symbol, codesIn, codesOf, illIn, firstIll}
 use Rattle.letters.specs.Order.{orderOf}
 use Rattle.letters.specs.declared.order.Order.{Order}
-use Rattle.letters.specs.declared.order.Order.the-variants.{Less, Equal, Greater}
-use Rattle.letters.specs.declared.utf8.Found.{Found}
-use Rattle.letters.specs.declared.utf8.Found.the-variants.{At, Nothing}
+use Rattle.letters.specs.declared.order.Order.the-variants.{Less, Greater}
+use Rattle.letters.specs.declared.utf8.Found.the-variants.{Nothing}
 use Rattle.letters.proofs.Utf8Laws.{char-at, char-drop, end-at, encode-one, encode-two, encode-three, encode-four}
 use Rattle.letters.proofs.ReadingLaws.{Pieces, end, one, bad, pieces-of}
 use Rattle.base.proofs.PickLaws.{pick-true, pick-false}

@@ -1,14 +1,12 @@
 -- The code points of the rest of a slice, step by step: what walks over characters in the crates above use. Assumes nothing.
-use mathlib.Core.Path.{_≡_, refl, sym, ap, ap₂, _∙_}
+use mathlib.Core.Path.{_≡_, refl, sym, ap, _∙_}
 use mathlib.Core.List.{List, [], _∷_}
-use Prim.Native.Nat.{ℕ, zero, suc, _+_, _-_, _≤_, _<_}
+use Prim.Native.Nat.{ℕ, zero, suc, _+_}
 use native.Mathlib.Omega.{arith}
-use lib.Dec.{ltb}
 use lib.ListN.{length, getD, drop, length-drop}
 use lib.Seq.{getD-drop}
 use borrow.Author.Tests.{lt-ltb, le-ltb}
 use native.Mathlib.Decide.{decLt}
-use Rattle.base.specs.Pick.{pick}
 use Rattle.letters.specs.Utf8.{decodeAt, decodeBytes}
 use Rattle.letters.specs.Reading.{Symbol, symbol, strayByte, symbolsOn, symbolsFrom, symbolsOf, codesIn, codesOf}
 use Rattle.letters.specs.declared.utf8.Step.{Step}

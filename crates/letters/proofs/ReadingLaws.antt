@@ -1,18 +1,17 @@
 -- The pieces of a slice, as a trace; and a walk over them, as far as place p: what is left decides. Assumes nothing.
 use mathlib.Core.Path.{_≡_, refl, sym, ap, _∙_}
 use mathlib.Core.Bool.{Bool, true, false}
-use mathlib.Core.List.{List, [], _∷_, _++_}
+use mathlib.Core.List.{List, [], _∷_}
 use Prim.Native.Nat.{ℕ, zero, suc, _+_, _-_, _≤_, _<_, zero-le}
 use native.Mathlib.Omega.{arith}
-use lib.ListN.{length, getD, drop}
-use Rattle.base.specs.Pick.{pick}
-use Rattle.letters.specs.Utf8.{decodeAt, encode}
-use Rattle.letters.specs.Reading.{Symbol, symbol, strayByte, symbolsOn, symbolsFrom, symbolsOf, codesIn, codesOf, illIn, firstIll, inRange, outsideIn, firstOutside}
+use lib.ListN.{length, getD}
+use Rattle.letters.specs.Utf8.{decodeAt}
+use Rattle.letters.specs.Reading.{Symbol, symbol, strayByte, symbolsOn, symbolsFrom, symbolsOf, illIn, firstIll, inRange, outsideIn, firstOutside}
 use Rattle.letters.specs.declared.utf8.Step.{Step}
 use Rattle.letters.specs.declared.utf8.Step.the-variants.{Char, Ill, End}
 use Rattle.letters.specs.declared.utf8.Found.{Found}
 use Rattle.letters.specs.declared.utf8.Found.the-variants.{At, Nothing}
-use Rattle.letters.proofs.Utf8Laws.{char-at, ill-in, end-at}
+use Rattle.letters.proofs.Utf8Laws.{char-at, ill-in}
 use Rattle.base.proofs.PickLaws.{pick-true, pick-false}
 
 -- l is what stands in s from p on

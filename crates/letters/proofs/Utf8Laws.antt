@@ -8,11 +8,11 @@ use Prim.Native.Nat.{ℕ, zero, suc, _+_, _*_, _/_, _%_, _≤_, _<_}
 use native.Mathlib.Nat.{lt-of-not-le}
 use native.Mathlib.Decide.{decLt}
 use native.Mathlib.Omega.{arith}
-use lib.Dec.{leb, ltb, eqb}
+use lib.Dec.{leb, eqb}
 use lib.ListN.{length, getD, take, drop, List·getD-eq-default, take-append-drop, length-drop}
 use lib.Seq.{drop-drop, ext-getD, length-take-le, getD-take, getD-drop}
 use borrow.Author.Tests.{leb-true, ltb-true, ltb-false, eqb-true, eqb-false, lt-ltb, le-ltb, le-leb, lt-leb}
-use Rattle.base.specs.Pick.{pick, and}
+use Rattle.base.specs.Pick.{pick}
 use Rattle.letters.specs.Utf8.{within, lowSecond, highSecond, code2, code3, code4, decode2, decode3, decode4, decodeBytes, decodeAt, encode}
 use Rattle.letters.specs.declared.utf8.Step.{Step}
 use Rattle.letters.specs.declared.utf8.Step.the-variants.{Char, Ill, End}

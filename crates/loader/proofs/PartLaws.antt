@@ -12,7 +12,6 @@ use Rattle.prefixes.specs.declared.prefixes.NameType.the-variants.{Ashkenazi, G
 use Rattle.name_parts.proofs.Laws.{clash, put-then}
 use Rattle.pack.specs.Packs.{Guess}
 use Rattle.pack_bytes.specs.Bytes.{countBytes}
-use Rattle.bundles.specs.Bundles.{fileNamed}
 use Rattle.bundles.specs.PlaceContracts.{fileNumbers, fileAt}
 use Rattle.bundles.specs.declared.FileAt.{FileAt}
 use Rattle.bundles.specs.declared.FileAt.the-variants as file-at

@@ -2,7 +2,7 @@
 -- Assumes nothing.
 use mathlib.Core.Path.{_≡_, refl, sym, ap, ap₂, _∙_}
 use mathlib.Core.Bool.{Bool, true, false}
-use mathlib.Core.List.{List, [], _∷_, _++_}
+use mathlib.Core.List.{List, _++_}
 use Prim.Native.Nat.{ℕ, suc, _+_, _-_, _/_, _%_, _<_, _≤_, zero-le}
 use native.Mathlib.Decide.{decLt}
 use native.Mathlib.Numerals.{add-one, add-two, add-three}
@@ -13,10 +13,9 @@ use lib.Seq.{sets, length-sets}
 use borrow.Author.Tests.{lt-ltb, le-ltb, le-leb, lt-leb}
 use Rattle.base.specs.Pick.{pick}
 use Rattle.base.proofs.Table.{at}
-use Rattle.base.proofs.One.{one as one-of}
 use Rattle.base.proofs.Stores.{sets-then}
 use Rattle.letters.specs.Utf8.{decodeAt, encode}
-use Rattle.letters.specs.Reading.{Symbol, symbol, strayByte, symbolsOf}
+use Rattle.letters.specs.Reading.{Symbol, symbolsOf}
 use Rattle.lower_case.specs.Lower.{lowerTable, lowerOf, lowerIn, lowerText}
 use Rattle.letters.specs.declared.utf8.Step.{Step}
 use Rattle.letters.specs.declared.utf8.Step.the-variants.{Char, Ill, End}

@@ -1,7 +1,5 @@
 -- No two verdicts have the same numbers: `-one` reads a promise, `-told` makes one. Assumes nothing.
 use mathlib.Core.Path.{_≡_, refl, ap}
-use mathlib.Core.List.{List}
-use Prim.Native.Nat.{ℕ}
 use Rattle.refusals.specs.Numbers.{numberOf}
 use Rattle.languages.proofs.NumberLaws.{clash}
 use Rattle.pack.specs.Numbers.{checkedNumbers, surveyedNumbers}

@@ -1,25 +1,15 @@
 -- What the quick test says of an expression: it is good by its round brackets. Assumes nothing.
-use mathlib.Core.Path.{_≡_, refl, sym, ap, _∙_}
-use mathlib.Core.Bool.{Bool, true, false, false≢true}
+use mathlib.Core.Path.{_≡_, refl, ap, _∙_}
+use mathlib.Core.Bool.{Bool, true, false}
 use mathlib.Core.List.{List, [], _∷_, _++_}
-use Prim.Native.Nat.{ℕ, zero, suc, _+_, _≤_, _<_}
-use native.Mathlib.Numerals.{add-one}
-use native.Mathlib.Omega.{arith}
-use lib.Dec.{eqb, ltb, leb·suc-suc}
-use lib.ListN.{length, getD, drop, drop-of-length-le}
-use lib.Seq.{drop-cons}
-use borrow.Author.Tests.{le-ltb, ne-eqb, ltb-false, eqb-false, leb-true}
+use Prim.Native.Nat.{ℕ}
+use lib.ListN.{length}
 use Rattle.base.specs.Pick.{pick, and}
-use Rattle.letters.specs.Utf8.{decodeAt}
-use Rattle.letters.specs.Reading.{Symbol, symbol, strayByte}
-use Rattle.letters.specs.declared.utf8.Step.the-variants.{Char, Ill}
-use Rattle.letters.proofs.Utf8Laws.{decode-one, char-at, ill-in}
-use Rattle.letters.proofs.ReadingLaws.{Pieces, end, one, bad, pieces-of}
-use Rattle.texts.specs.Parts.{tail, front, firstIs, lastIs, placeOf, has}
+use Rattle.texts.specs.Parts.{firstIs, lastIs}
 use Rattle.rule.proofs.Bare.{Clear, none, more, clear-has, clear-tail, clear-front}
 use Rattle.phonemes.specs.Expressions.{round, unround, bar, opening, onFirst, cutAt, inside, extra, piecesIn, allOf, formedPiece, formed, pieceMask, isListed, checkedOf}
 use Rattle.phonemes.specs.declared.answers.Expression.the-variants.{Good, Malformed}
-use Rattle.base.proofs.PickLaws.{pick-true, pick-false, pick-all, and-inv, and-first}
+use Rattle.base.proofs.PickLaws.{pick-true, pick-false, pick-all}
 
 data Cleared : List (List ℕ) → Type 0 where
   no-part : Cleared []

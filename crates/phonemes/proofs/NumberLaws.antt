@@ -1,6 +1,5 @@
 -- No two answers have the same numbers: `expression-one` reads a promise, `expression-told` makes one. Assumes nothing.
 use mathlib.Core.Path.{_≡_, refl, ap}
-use mathlib.Core.List.{List}
 use Rattle.refusals.specs.Numbers.{numberOf}
 use Rattle.languages.proofs.NumberLaws.{clash}
 use Rattle.phonemes.specs.Numbers.{expressionNumbers}

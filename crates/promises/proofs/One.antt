@@ -3,8 +3,7 @@
 -- `write_lists` (the buffer after a refusal), `word` (its work buffers). Assumes nothing.
 use mathlib.Core.Path.{_≡_, refl, sym, ap, ap₂, _∙_}
 use mathlib.Core.List.{List, []}
-use Prim.Native.Nat.{ℕ, _-_}
-use lib.ListN.{take, drop}
+use Prim.Native.Nat.{ℕ}
 use denote.Ref.{now}
 use Rattle.base.proofs.One.{one}
 use Rattle.promises.specs.Settled.{Settled, SettledBy}

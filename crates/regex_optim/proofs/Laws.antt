@@ -2,12 +2,11 @@
 use mathlib.Core.Path.{_≡_, refl, sym, ap, ap₂, _∙_}
 use mathlib.Core.Bool.{Bool, true, false, not}
 use mathlib.Core.List.{List, [], _∷_, _++_}
-use Prim.Native.Nat.{ℕ, zero, suc, _+_, _-_, _≤_, _<_, zero-le}
+use Prim.Native.Nat.{ℕ, suc, _+_, _-_, _≤_, _<_, zero-le}
 use native.Mathlib.Nat.{sub-zero}
 use native.Mathlib.Omega.{arith}
 use lib.Dec.{eqb, ltb, eqb·suc-zero}
-use lib.ListN.{length, getD, take, drop}
-use lib.Seq.{take-length}
+use lib.ListN.{length, take, drop}
 use borrow.Author.Tests.{lt-ltb, le-ltb, eq-eqb, ne-eqb}
 use Rattle.base.specs.Pick.{pick, and}
 use Rattle.letters.specs.Utf8.{decodeAt}
@@ -19,12 +18,12 @@ use Rattle.letters.proofs.Utf8Laws.{char-at, ill-in}
 use Rattle.letters.proofs.CodesLaws.{codes-char, codes-ill, codes-end}
 use Rattle.texts.specs.Parts.{tail, front, firstIs, lastIs, placeOf, has, prefixOf, suffixOf}
 use Rattle.texts.proofs.Laws.{tail-is, front-is, first-some-by, last-some-by}
-use Rattle.regex_optim.specs.Contexts.{caret, dollar, opening, closing, Form, always, empty, equals, starts, ends, only, first, last, outside, literalForm, boxForm, withoutCaret, withoutDollar, boxInner, boxed, formIn, formOf, leftForm, rightForm, kindOf, memberOf, codeAt, firstChar, codeOf, backChar, wholeChar, orElse, lastChar, charFits, fits}
+use Rattle.regex_optim.specs.Contexts.{caret, dollar, opening, closing, Form, outside, literalForm, boxForm, withoutCaret, withoutDollar, boxInner, boxed, formIn, formOf, leftForm, rightForm, kindOf, memberOf, codeAt, firstChar, codeOf, backChar, wholeChar, orElse, charFits, fits}
 use Rattle.regex_optim.specs.Contracts.{boxChar, boxFits, literalFits, boxKind, literalKind}
 use Rattle.regex_optim.specs.declared.Letter.{Letter}
 use Rattle.regex_optim.specs.declared.Letter.the-variants.{Code, Absent}
 use Rattle.regex_optim.specs.declared.OptimizedRegex.{OptimizedRegex}
-use Rattle.regex_optim.specs.declared.OptimizedRegex.the-variants.{AllStringsMatcher, IsEmpty, Equals, StartsWith, EndsWith, EqualsChar, StartsWithChar, EndsWithChar, Outside}
+use Rattle.regex_optim.specs.declared.OptimizedRegex.the-variants.{Outside}
 use Rattle.base.proofs.PickLaws.{pick-true, pick-false}
 
 -- ---- the characters of a box, as far as place p

@@ -1,7 +1,7 @@
 -- The quick tests: what they say of a text, and the loop that makes them. Assumes nothing.
 use mathlib.Core.Path.{_≡_, refl, sym, ap, _∙_}
 use mathlib.Core.Bool.{Bool, true, false, false≢true}
-use mathlib.Core.List.{List, [], _∷_, _++_}
+use mathlib.Core.List.{List, [], _∷_}
 use Prim.Native.Nat.{ℕ, zero, suc, _+_, _≤_, _<_}
 use native.Mathlib.Numerals.{add-one}
 use native.Mathlib.Omega.{arith}
@@ -15,10 +15,10 @@ use Rattle.letters.specs.Reading.{Symbol, symbol, strayByte}
 use Rattle.letters.specs.declared.utf8.Step.the-variants.{Char, Ill}
 use Rattle.letters.proofs.Utf8Laws.{decode-one, char-at, ill-in}
 use Rattle.letters.proofs.ReadingLaws.{Pieces, end, one, bad, pieces-of}
-use Rattle.texts.specs.Parts.{tail, front, firstIs, lastIs, placeOf, has}
+use Rattle.texts.specs.Parts.{tail, front, placeOf, has}
 use Rattle.rule.specs.Matching.{plainCode, plainIn, ruleText}
 use Rattle.regex_optim.specs.Contexts.{opening}
-use Rattle.base.proofs.PickLaws.{pick-true, pick-false, pick-all, and-inv, and-first}
+use Rattle.base.proofs.PickLaws.{pick-true, and-inv, and-first}
 use Rattle.rule.specs.Contracts.{visible, allVisible, bare}
 
 -- ---- the loop: what is left from i on decides

@@ -7,7 +7,7 @@ use Prim.Native.Nat.{ℕ, _-_, _%_, _≤_}
 use native.Mathlib.Omega.{arith}
 use lib.Dec.{eqb, ltb}
 use lib.ListN.{length, take, drop}
-use borrow.Author.Tests.{eqb-true, ltb-false, leb-true, le-leb}
+use borrow.Author.Tests.{ltb-false, leb-true, le-leb}
 use Rattle.base.specs.Pick.{pick}
 use Rattle.refusals.specs.declared.Refusal.{Refusal}
 use Rattle.refusals.specs.declared.Refusal.the-variants.{FileMissing, PatternEmpty, TooMuch}

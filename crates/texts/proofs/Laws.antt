@@ -1,16 +1,16 @@
 -- A law for each way that the loops and branches of the code can go, and what callers use. Assumes nothing.
 use mathlib.Core.Path.{_≡_, refl, sym, ap, _∙_}
 use mathlib.Core.Bool.{Bool, true, false}
-use mathlib.Core.List.{List, [], _∷_, _++_}
-use Prim.Native.Nat.{ℕ, zero, suc, _+_, _-_, _≤_, _<_, zero-le}
+use mathlib.Core.List.{List, [], _∷_}
+use Prim.Native.Nat.{ℕ, suc, _+_, _-_, _≤_, _<_, zero-le}
 use native.Mathlib.Numerals.{add-one}
 use native.Mathlib.Omega.{arith}
-use lib.Dec.{eqb, ltb}
+use lib.Dec.{eqb}
 use lib.ListN.{length, getD, take, drop, drop-of-length-le, length-drop}
 use lib.Seq.{drop-cons, take-all, take-length}
 use borrow.Author.Tests.{lt-ltb, le-ltb, eq-eqb, ne-eqb}
 use Rattle.base.specs.Pick.{pick, and}
-use Rattle.texts.specs.Parts.{tail, front, firstIs, lastIs, placeOf, has, prefixOf, suffixOf}
+use Rattle.texts.specs.Parts.{tail, front, firstIs, lastIs, placeOf, prefixOf, suffixOf}
 use Rattle.base.proofs.PickLaws.{pick-true, pick-false, and-no}
 
 -- ---- the first and the last byte

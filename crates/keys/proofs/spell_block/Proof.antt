@@ -12,23 +12,14 @@ use Rattle.keys.specs.Contracts.{Within}
 use borrow.Author.Needs.{needs}
 use Rattle.keys.proofs.spell_block.Statement.{statement}
 use Rattle.keys.proofs.spell_block.Tie as tie
-use Rattle.keys.proofs.spell_block.Reads as reads
-use Rattle.keys.proofs.spell_block.Lts as lts
-use Rattle.beider_morse.proofs.spell_lines.Reads as spell-lines-reads
 
 within : {call : List ℕ → CallOutcome} {block out o : List ℕ} (r : Lines) → LinesIs call block out r o → length o ≡ length out → Within r (length block) (length o)
 unfolding Within
 within (Done read written) x e = (lines-read x, omega (arith, lines-written x))
 within (NoRoom needed) x e = tt
 
-spell-lines-requires : tie.Need-spell-lines-requires
-spell-lines-requires c κs = search needs
-
-same-length : tie.Need-same-length
-same-length c = search needs
-
 returns : tie.Need-returns
 returns c = within _ (c .before .before .spell-lines .ensures) (c .before .out .given)
 
 pub spell-block-spec : {M : Type 1} → statement M
-spell-block-spec = tie.close (tie.spec spell-lines-requires same-length returns)
+spell-block-spec = tie.close (tie.spec (λ c κs. search needs) (λ c. search needs) returns)

@@ -3,20 +3,7 @@ use borrow.Author.Needs.{needs}
 use Rattle.lang.proofs.Forms.{framed-laws}
 use Rattle.lang.proofs.is_framed.Statement.{statement}
 use Rattle.lang.proofs.is_framed.Tie as tie
-use Rattle.lang.proofs.is_framed.Reads as reads
-use Rattle.lang.proofs.is_framed.Lts as lts
-use Rattle.lang.proofs.is_blankless.Reads as is-blankless-reads
-use Rattle.texts.proofs.first_is.Reads as first-is-reads
 use Rattle.base.proofs.PickLaws.{cases}
-
-first-is-requires : tie.Need-first-is-requires
-first-is-requires c κs = search (framed-laws, needs)
-
-first-is-requires-2 : tie.Need-first-is-requires-2
-first-is-requires-2 c κs = search (framed-laws, needs)
-
-is-blankless-requires : tie.Need-is-blankless-requires
-is-blankless-requires c κs = search (framed-laws, needs)
 
 returns : tie.Need-returns
 unfolding framed
@@ -42,9 +29,9 @@ pub is-framed-spec : {M : Type 1} → statement M
 is-framed-spec =
     tie.close
     (tie.spec
-    first-is-requires
-    first-is-requires-2
-    is-blankless-requires
+    (λ c κs. search (framed-laws, needs))
+    (λ c κs. search (framed-laws, needs))
+    (λ c κs. search (framed-laws, needs))
     returns
     returns-2
     returns-3

@@ -2,15 +2,7 @@ use borrow.Author.Needs.{needs}
 use Rattle.lang.specs.Contracts.{otherwise}
 use Rattle.lang.proofs.is_otherwise.Statement.{statement}
 use Rattle.lang.proofs.is_otherwise.Tie as tie
-use Rattle.lang.proofs.is_otherwise.Reads as reads
-use Rattle.lang.proofs.is_otherwise.Lts as lts
 use Rattle.base.proofs.PickLaws.{cases}
-
-shared-slice-read-if2 : tie.Need-shared-slice-read-if2
-shared-slice-read-if2 c = search (cases, needs)
-
-shared-slice-read-if3 : tie.Need-shared-slice-read-if3
-shared-slice-read-if3 c = search (cases, needs)
 
 returns : tie.Need-returns
 unfolding otherwise
@@ -31,4 +23,4 @@ returns-4 c = search (cases, needs)
 pub is-otherwise-spec : {M : Type 1} → statement M
 is-otherwise-spec =
     tie.close
-    (tie.spec shared-slice-read-if2 shared-slice-read-if3 returns returns-2 returns-3 returns-4)
+    (tie.spec (λ c. search (cases, needs)) (λ c. search (cases, needs)) returns returns-2 returns-3 returns-4)

@@ -2,51 +2,18 @@ use borrow.Author.Needs.{needs}
 use Rattle.regex_optim.proofs.Laws.{char-laws}
 use Rattle.regex_optim.proofs.back_char.Statement.{statement}
 use Rattle.regex_optim.proofs.back_char.Tie as tie
-use Rattle.regex_optim.proofs.back_char.Reads as reads
-use Rattle.regex_optim.proofs.back_char.Lts as lts
-use Rattle.letters.proofs.decode.Reads as decode-reads
-
-returns : tie.Need-returns
-returns c = search (char-laws, needs)
-
-sub-decode : tie.Need-sub-decode
-sub-decode c = search (char-laws, needs)
-
-decode-requires : tie.Need-decode-requires
-decode-requires c κs = search (char-laws, needs)
-
-enum-known-code : tie.Need-enum-known-code
-enum-known-code c = search (char-laws, needs)
-
-enum-told : tie.Need-enum-told
-enum-told c = search (char-laws, needs)
-
-enum-told-2 : tie.Need-enum-told-2
-enum-told-2 c = search (char-laws, needs)
-
-returns-2 : tie.Need-returns-2
-returns-2 c = search (char-laws, needs)
-
-returns-3 : tie.Need-returns-3
-returns-3 c = search (char-laws, needs)
-
-returns-4 : tie.Need-returns-4
-returns-4 c = search (char-laws, needs)
-
-returns-5 : tie.Need-returns-5
-returns-5 c = search (char-laws, needs)
 
 pub back-char-spec : {M : Type 1} → statement M
 back-char-spec =
     tie.close
     (tie.spec
-    returns
-    sub-decode
-    decode-requires
-    enum-known-code
-    enum-told
-    enum-told-2
-    returns-2
-    returns-3
-    returns-4
-    returns-5)
+    (λ c. search (char-laws, needs))
+    (λ c. search (char-laws, needs))
+    (λ c κs. search (char-laws, needs))
+    (λ c. search (char-laws, needs))
+    (λ c. search (char-laws, needs))
+    (λ c. search (char-laws, needs))
+    (λ c. search (char-laws, needs))
+    (λ c. search (char-laws, needs))
+    (λ c. search (char-laws, needs))
+    (λ c. search (char-laws, needs)))

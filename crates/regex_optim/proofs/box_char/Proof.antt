@@ -2,21 +2,7 @@ use Rattle.regex_optim.specs.Contracts.{boxChar}
 use borrow.Author.Needs.{needs}
 use Rattle.regex_optim.proofs.box_char.Statement.{statement}
 use Rattle.regex_optim.proofs.box_char.Tie as tie
-use Rattle.regex_optim.proofs.box_char.Reads as reads
-use Rattle.regex_optim.proofs.box_char.Lts as lts
-use Rattle.regex_optim.proofs.first_char.Reads as first-char-reads
-use Rattle.regex_optim.proofs.last_char.Reads as last-char-reads
-use Rattle.regex_optim.proofs.whole_char.Reads as whole-char-reads
 use Rattle.base.proofs.PickLaws.{cases}
-
-whole-char-requires : tie.Need-whole-char-requires
-whole-char-requires c κs = search needs
-
-first-char-requires : tie.Need-first-char-requires
-first-char-requires c κs = search needs
-
-last-char-requires : tie.Need-last-char-requires
-last-char-requires c κs = search needs
 
 returns : tie.Need-returns
 unfolding boxChar
@@ -38,9 +24,9 @@ pub box-char-spec : {M : Type 1} → statement M
 box-char-spec =
     tie.close
     (tie.spec
-    whole-char-requires
-    first-char-requires
-    last-char-requires
+    (λ c κs. search needs)
+    (λ c κs. search needs)
+    (λ c κs. search needs)
     returns
     returns-2
     returns-3

@@ -1,9 +1,6 @@
 use Rattle.regex_optim.specs.Contracts.{boxKind}
-use borrow.Author.Needs.{needs}
 use Rattle.regex_optim.proofs.box_kind.Statement.{statement}
 use Rattle.regex_optim.proofs.box_kind.Tie as tie
-use Rattle.regex_optim.proofs.box_kind.Reads as reads
-use Rattle.regex_optim.proofs.box_kind.Lts as lts
 use Rattle.base.proofs.PickLaws.{cases}
 
 returns : tie.Need-returns

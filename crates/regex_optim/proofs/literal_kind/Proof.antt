@@ -1,9 +1,6 @@
 use Rattle.regex_optim.specs.Contracts.{literalKind}
-use borrow.Author.Needs.{needs}
 use Rattle.regex_optim.proofs.literal_kind.Statement.{statement}
 use Rattle.regex_optim.proofs.literal_kind.Tie as tie
-use Rattle.regex_optim.proofs.literal_kind.Reads as reads
-use Rattle.regex_optim.proofs.literal_kind.Lts as lts
 use Rattle.base.proofs.PickLaws.{cases}
 
 returns : tie.Need-returns

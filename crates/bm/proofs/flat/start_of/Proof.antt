@@ -2,8 +2,6 @@ use borrow.Author.Needs.{needs}
 use Rattle.bm.specs.Flat.{startOf}
 use Rattle.bm.proofs.flat.start_of.Statement.{statement}
 use Rattle.bm.proofs.flat.start_of.Tie as tie
-use Rattle.bm.proofs.flat.start_of.Reads as reads
-use Rattle.bm.proofs.flat.start_of.Lts as lts
 use Rattle.base.proofs.PickLaws.{cases}
 
 returns : tie.Need-returns

@@ -3,10 +3,6 @@ use lib.ListN.{length}
 use borrow.Author.Needs.{needs}
 use Rattle.cases.proofs.lists.place_of.Statement.{statement}
 use Rattle.cases.proofs.lists.place_of.Tie as tie
-use Rattle.cases.proofs.lists.place_of.Reads as reads
-use Rattle.cases.proofs.lists.place_of.Lts as lts
-use Rattle.bytes.proofs.scan.find.Reads as find-reads
-use Rattle.letters.proofs.same.Reads as same-reads
 
 abbrev Inv-loop : tie.InvT-loop
 Inv-loop list text at₀ place₀ at place = (place ≤ at) × (at ≤ length list + 1)
@@ -14,57 +10,21 @@ Inv-loop list text at₀ place₀ at place = (place ≤ at) × (at ≤ length li
 abbrev μ-loop : tie.MeasureT-loop
 μ-loop list text at₀ place₀ at place = length list + 1 - at
 
-loop-holds : tie.Need-loop-holds Inv-loop μ-loop
-loop-holds c = search needs
-
-find-requires : tie.Need-find-requires Inv-loop μ-loop
-find-requires c κs = search needs
-
-sub-same : tie.Need-sub-same Inv-loop μ-loop
-sub-same c = search needs
-
-part-same-start : tie.Need-part-same-start Inv-loop μ-loop
-part-same-start c = search needs
-
-part-same-end : tie.Need-part-same-end Inv-loop μ-loop
-part-same-end c = search needs
-
-same-requires : tie.Need-same-requires Inv-loop μ-loop
-same-requires c κs = search needs
-
-returns : tie.Need-returns Inv-loop μ-loop
-returns c = search needs
-
-add-at : tie.Need-add-at Inv-loop μ-loop
-add-at c = search needs
-
-add-place : tie.Need-add-place Inv-loop μ-loop
-add-place c = search needs
-
-loop-less : tie.Need-loop-less Inv-loop μ-loop
-loop-less c = search needs
-
-loop-again : tie.Need-loop-again Inv-loop μ-loop
-loop-again c = search needs
-
-returns-2 : tie.Need-returns-2 Inv-loop μ-loop
-returns-2 c = search needs
-
 pub place-of-spec : {M : Type 1} → statement M
 place-of-spec =
     tie.close
     (tie.spec
     Inv-loop
     μ-loop
-    loop-holds
-    find-requires
-    sub-same
-    part-same-start
-    part-same-end
-    same-requires
-    returns
-    add-at
-    add-place
-    loop-less
-    loop-again
-    returns-2)
+    (λ c. search needs)
+    (λ c κs. search needs)
+    (λ c. search needs)
+    (λ c. search needs)
+    (λ c. search needs)
+    (λ c κs. search needs)
+    (λ c. search needs)
+    (λ c. search needs)
+    (λ c. search needs)
+    (λ c. search needs)
+    (λ c. search needs)
+    (λ c. search needs))

@@ -2,8 +2,6 @@ use mathlib.Core.Path.{refl}
 use Rattle.engine.specs.Contracts.{afreshOf}
 use Rattle.engine.proofs.call.afresh.Statement.{statement}
 use Rattle.engine.proofs.call.afresh.Tie as tie
-use Rattle.engine.proofs.call.afresh.Reads as reads
-use Rattle.engine.proofs.call.afresh.Lts as lts
 
 returns : tie.Need-returns
 unfolding afreshOf

@@ -2,13 +2,7 @@ use borrow.Author.Needs.{needs}
 use Rattle.engine.specs.Calls.{settingsKnown}
 use Rattle.engine.proofs.call.are_known.Statement.{statement}
 use Rattle.engine.proofs.call.are_known.Tie as tie
-use Rattle.engine.proofs.call.are_known.Reads as reads
-use Rattle.engine.proofs.call.are_known.Lts as lts
-use Rattle.engine.proofs.call.is_known.Reads as is-known-reads
 use Rattle.base.proofs.PickLaws.{cases}
-
-is-known-requires : tie.Need-is-known-requires
-is-known-requires c κs = search needs
 
 returns : tie.Need-returns
 unfolding settingsKnown
@@ -32,4 +26,4 @@ returns-5 c = search cases
 
 pub are-known-spec : {M : Type 1} → statement M
 are-known-spec =
-    tie.close (tie.spec is-known-requires returns returns-2 returns-3 returns-4 returns-5)
+    tie.close (tie.spec (λ c κs. search needs) returns returns-2 returns-3 returns-4 returns-5)

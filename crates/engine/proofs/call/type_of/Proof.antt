@@ -1,8 +1,6 @@
 use Rattle.engine.specs.Calls.{typeOf}
 use Rattle.engine.proofs.call.type_of.Statement.{statement}
 use Rattle.engine.proofs.call.type_of.Tie as tie
-use Rattle.engine.proofs.call.type_of.Reads as reads
-use Rattle.engine.proofs.call.type_of.Lts as lts
 use Rattle.base.proofs.PickLaws.{cases}
 
 returns : tie.Need-returns

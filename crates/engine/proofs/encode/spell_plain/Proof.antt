@@ -3,37 +3,13 @@ use Rattle.engine.proofs.EncodeLaws.{start-told, start-below, plain-tol
 use borrow.Author.Needs.{needs}
 use Rattle.engine.proofs.encode.spell_plain.Statement.{statement}
 use Rattle.engine.proofs.encode.spell_plain.Tie as tie
-use Rattle.engine.proofs.encode.spell_plain.Reads as reads
-use Rattle.engine.proofs.encode.spell_plain.Lts as lts
-use Rattle.engine.proofs.encode.spell_word.Reads as spell-word-reads
-use Rattle.engine.proofs.encode.start_of.Reads as start-of-reads
-use Rattle.name_parts.proofs.join_words.Reads as join-words-reads
-use Rattle.name_parts.proofs.next_word.Reads as next-word-reads
 use Rattle.base.proofs.PickLaws.{pick-yes, pick-no}
-
-start-of-requires : tie.Need-start-of-requires
-start-of-requires c κs = search needs
-
-slice-aggregate-join-words : tie.Need-slice-aggregate-join-words
-slice-aggregate-join-words c = search needs
-
-join-words-requires : tie.Need-join-words-requires
-join-words-requires c κs = search needs
-
-sub-spell-word : tie.Need-sub-spell-word
-sub-spell-word c = search needs
-
-part-spell-word-start : tie.Need-part-spell-word-start
-part-spell-word-start c = search needs
 
 part-spell-word-end : tie.Need-part-spell-word-end
 part-spell-word-end c = front-in (c .before .before .before .before .join-words .ensures) (joined-few _ _ (c .before .before .before .before .before .before .before .before .before .before .before .before .before .before .pre .1 .1)) refl
 
 spell-word-requires : tie.Need-spell-word-requires
 spell-word-requires c κs = (c .before .before .before .before .before .before .before .before .before .before .before .before .before .before .before .before .pre .0, (c .before .before .before .before .before .before .before .before .before .before .before .before .before .before .before .before .pre .1 .0, start-below _ _ _ (c .before .before .before .before .before .before .before .before .before .before .before .before .before .before .before .before .pre .1 .0) _ _ (start-told _ _ _ (c .before .before .before .before .before .before .before .before .before .before .before .before .before .before .before .before .pre .1 .0) _ _ (c .before .before .before .before .before .before .before .before .before .start-of .ensures))))
-
-next-word-requires : tie.Need-next-word-requires
-next-word-requires c κs = search needs
 
 spell-word-requires-2 : tie.Need-spell-word-requires-2
 spell-word-requires-2 c κs = (c .before .before .before .before .before .before .before .before .before .before .before .before .pre .0, (c .before .before .before .before .before .before .before .before .before .before .before .before .pre .1 .0, start-below _ _ _ (c .before .before .before .before .before .before .before .before .before .before .before .before .pre .1 .0) _ _ (start-told _ _ _ (c .before .before .before .before .before .before .before .before .before .before .before .before .pre .1 .0) _ _ (c .before .before .before .before .before .start-of .ensures))))
@@ -66,14 +42,14 @@ pub spell-plain-spec : {M : Type 1} → statement M
 spell-plain-spec =
     tie.close
     (tie.spec
-    start-of-requires
-    slice-aggregate-join-words
-    join-words-requires
-    sub-spell-word
-    part-spell-word-start
+    (λ c κs. search needs)
+    (λ c. search needs)
+    (λ c κs. search needs)
+    (λ c. search needs)
+    (λ c. search needs)
     part-spell-word-end
     spell-word-requires
-    next-word-requires
+    (λ c κs. search needs)
     spell-word-requires-2
     same-length
     same-length-2

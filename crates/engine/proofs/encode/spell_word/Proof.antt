@@ -2,36 +2,12 @@ use Rattle.engine.proofs.EncodeLaws.{names-within, lists-ready, one-tol
 use borrow.Author.Needs.{needs}
 use Rattle.engine.proofs.encode.spell_word.Statement.{statement}
 use Rattle.engine.proofs.encode.spell_word.Tie as tie
-use Rattle.engine.proofs.encode.spell_word.Reads as reads
-use Rattle.engine.proofs.encode.spell_word.Lts as lts
-use Rattle.engine.proofs.encode.ended.Reads as ended-reads
-use Rattle.engine.proofs.encode.language_of.Reads as language-of-reads
-use Rattle.engine.proofs.encode.lists_of.Reads as lists-of-reads
-use Rattle.phoneme_builder.proofs.word.Reads as word-reads
-
-language-of-requires : tie.Need-language-of-requires
-language-of-requires c κs = search needs
 
 lists-of-requires : tie.Need-lists-of-requires
 lists-of-requires c κs = lists-ready _ _ _ (c .before .before .before .before .before .before .before .pre .1 .0) _ (c .before .before .before .before .before .before .before .pre .1 .1) _ (c .language-of .ensures)
 
-slice-aggregate-word : tie.Need-slice-aggregate-word
-slice-aggregate-word c = search needs
-
-sub-word : tie.Need-sub-word
-sub-word c = search needs
-
-part-word-start : tie.Need-part-word-start
-part-word-start c = search needs
-
 part-word-end : tie.Need-part-word-end
 part-word-end c = names-within _ _ _ (c .before .before .before .before .before .before .before .before .before .before .before .pre .1 .0)
-
-word-requires : tie.Need-word-requires
-word-requires c κs = search needs
-
-ended-requires : tie.Need-ended-requires
-ended-requires c κs = search needs
 
 same-length : tie.Need-same-length
 same-length c = c .before .before .before .before .before .before .before .store .given
@@ -49,14 +25,14 @@ pub spell-word-spec : {M : Type 1} → statement M
 spell-word-spec =
     tie.close
     (tie.spec
-    language-of-requires
+    (λ c κs. search needs)
     lists-of-requires
-    slice-aggregate-word
-    sub-word
-    part-word-start
+    (λ c. search needs)
+    (λ c. search needs)
+    (λ c. search needs)
     part-word-end
-    word-requires
-    ended-requires
+    (λ c κs. search needs)
+    (λ c κs. search needs)
     same-length
     same-length-2
     same-length-3

@@ -5,20 +5,6 @@ use Rattle.engine.proofs.LinesLaws.{call-below, lent-order, lent-within
 use borrow.Author.Needs.{needs}
 use Rattle.engine.proofs.lines.put_line.Statement.{statement}
 use Rattle.engine.proofs.lines.put_line.Tie as tie
-use Rattle.engine.proofs.lines.put_line.Reads as reads
-use Rattle.engine.proofs.lines.put_line.Lts as lts
-use Rattle.engine.proofs.lines.done_line.Reads as done-line-reads
-use Rattle.engine.proofs.lines.end_of.Reads as end-of-reads
-use Rattle.engine.proofs.lines.front_of.Reads as front-of-reads
-use Rattle.engine.proofs.lines.refused_line.Reads as refused-line-reads
-use Rattle.engine.proofs.spelling.spell_at.Reads as spell-at-reads
-use Rattle.refusals.proofs.number_of.Reads as number-of-reads
-
-front-of-requires : tie.Need-front-of-requires
-front-of-requires c κs = search needs
-
-end-of-requires : tie.Need-end-of-requires
-end-of-requires c κs = search needs
 
 sub-spell-at : tie.Need-sub-spell-at
 sub-spell-at c = lent-order (c .before .before .before .before .before .before .before .before .before .before .args .out .now) _ _ _ _ (c .before .before .before .before .before .before .before .before .before .before .pre .1 .1) (c .before .before .before .front-of .ensures) (c .before .before .end-of .ensures)
@@ -32,17 +18,8 @@ part-spell-at-end c = lent-within (c .before .before .before .before .before .be
 spell-at-requires : tie.Need-spell-at-requires
 spell-at-requires c κs = (c .before .before .before .before .before .before .before .before .before .before .before .pre .0, c .before .before .before .before .before .before .before .before .before .before .before .pre .1 .0)
 
-enum-known-written : tie.Need-enum-known-written
-enum-known-written c = search needs
-
 done-line-requires : tie.Need-done-line-requires
 done-line-requires c κs = (c .before .before .before .before .before .before .before .before .before .before .before .before .before .before .before .before .before .before .before .before .before .before .pre .1 .1 .0, omega (arith, c .before .before .before .before .before .before .before .before .before .before .before .before .before .before .before .before .before .before .before .before .before .before .pre .1 .1 .1, lent-long (c .before .before .before .before .before .before .before .before .before .before .before .before .before .before .before .before .before .before .before .before .before .before .args .out .now) _ _ _ _ (c .before .before .before .before .before .before .before .before .before .before .before .before .before .before .before .before .before .before .before .before .before .before .pre .1 .1) (c .before .before .before .before .before .before .before .before .before .before .before .before .before .before .before .front-of .ensures) (c .before .before .before .before .before .before .before .before .before .before .before .before .before .before .end-of .ensures) (c .before .before .before .before .before .before .before .before .before .before .spell-at .ensures)))
-
-enum-known-why : tie.Need-enum-known-why
-enum-known-why c = search needs
-
-number-of-requires : tie.Need-number-of-requires
-number-of-requires c κs = search needs
 
 refused-line-requires : tie.Need-refused-line-requires
 refused-line-requires c κs = (c .before .before .before .before .before .before .before .before .before .before .before .before .before .before .before .before .before .before .before .before .before .before .before .pre .1 .1 .0, omega (arith, c .before .before .before .before .before .before .before .before .before .before .before .before .before .before .before .before .before .before .before .before .before .before .before .pre .1 .1 .1, lent-long (c .before .before .before .before .before .before .before .before .before .before .before .before .before .before .before .before .before .before .before .before .before .before .before .args .out .now) _ _ _ _ (c .before .before .before .before .before .before .before .before .before .before .before .before .before .before .before .before .before .before .before .before .before .before .before .pre .1 .1) (c .before .before .before .before .before .before .before .before .before .before .before .before .before .before .before .before .front-of .ensures) (c .before .before .before .before .before .before .before .before .before .before .before .before .before .before .before .end-of .ensures) (c .before .before .before .before .before .before .before .before .before .before .before .spell-at .ensures)))
@@ -75,16 +52,16 @@ pub put-line-spec : {M : Type 1} → statement M
 put-line-spec =
     tie.close
     (tie.spec
-    front-of-requires
-    end-of-requires
+    (λ c κs. search needs)
+    (λ c κs. search needs)
     sub-spell-at
     part-spell-at-start
     part-spell-at-end
     spell-at-requires
-    enum-known-written
+    (λ c. search needs)
     done-line-requires
-    enum-known-why
-    number-of-requires
+    (λ c. search needs)
+    (λ c κs. search needs)
     refused-line-requires
     same-length
     same-length-2

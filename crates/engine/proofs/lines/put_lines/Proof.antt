@@ -9,12 +9,6 @@ use Rattle.engine.proofs.NameLaws.{scratch-kept}
 use Rattle.engine.proofs.LinesLaws.{Going, going-in, going-start, going-long, going-room, going-end, going-most, going-less, going-stop, going-next}
 use Rattle.engine.proofs.lines.put_lines.Statement.{statement}
 use Rattle.engine.proofs.lines.put_lines.Tie as tie
-use Rattle.engine.proofs.lines.put_lines.Reads as reads
-use Rattle.engine.proofs.lines.put_lines.Lts as lts
-use Rattle.engine.proofs.lines.most_of.Reads as most-of-reads
-use Rattle.engine.proofs.lines.put_line.Reads as put-line-reads
-use Rattle.engine.proofs.lines.stopped.Reads as stopped-reads
-use Rattle.texts.proofs.find_byte.Reads as find-byte-reads
 
 abbrev Inv-loop : tie.InvT-loop
 Inv-loop store₀ marks₀ pack places desk settings start block out₀ size read₀ written₀ store marks out read written =
@@ -24,23 +18,8 @@ abbrev μ-loop : tie.MeasureT-loop
 μ-loop store₀ marks₀ pack places desk settings start block out₀ size read₀ written₀ store marks out read written =
     length block - read
 
-most-of-requires : tie.Need-most-of-requires Inv-loop μ-loop
-most-of-requires c κs = search (going-in, needs)
-
 loop-holds : tie.Need-loop-holds Inv-loop μ-loop
 loop-holds c = (going-start _ _ _ _ (c .most-of .ensures), c .before .before .before .before .before .before .before .pre .0)
-
-sub-rest : tie.Need-sub-rest Inv-loop μ-loop
-sub-rest c = search (going-in, needs)
-
-part-rest-start : tie.Need-part-rest-start Inv-loop μ-loop
-part-rest-start c = search (going-in, needs)
-
-part-rest-end : tie.Need-part-rest-end Inv-loop μ-loop
-part-rest-end c = search (going-in, needs)
-
-find-byte-requires : tie.Need-find-byte-requires Inv-loop μ-loop
-find-byte-requires c κs = search (going-in, needs)
 
 same-length : tie.Need-same-length Inv-loop μ-loop
 same-length c = c .before .before .before .loop .inv .1 .store-is ∙ sym (c .before .before .before .before .before .before .before .before .before .before .before .pre .0 .store-is)
@@ -54,20 +33,8 @@ same-length-3 c = going-long (c .before .before .before .loop .inv .0)
 returns : tie.Need-returns Inv-loop μ-loop
 returns c = going-end (c .before .before .before .loop .inv .0) _ (c .before .find-byte .ensures) (c .if1 .taken)
 
-sub-put-line : tie.Need-sub-put-line Inv-loop μ-loop
-sub-put-line c = search (going-in, needs)
-
-part-put-line-start : tie.Need-part-put-line-start Inv-loop μ-loop
-part-put-line-start c = search (going-in, needs)
-
-part-put-line-end : tie.Need-part-put-line-end Inv-loop μ-loop
-part-put-line-end c = search (going-in, needs)
-
 put-line-requires : tie.Need-put-line-requires Inv-loop μ-loop
 put-line-requires c κs = (c .before .before .before .before .before .before .before .loop .inv .1, (c .before .before .before .before .before .before .before .before .before .before .before .before .before .before .before .pre .1, going-room (c .before .before .before .before .before .before .before .loop .inv .0)))
-
-enum-known-next : tie.Need-enum-known-next Inv-loop μ-loop
-enum-known-next c = search needs
 
 add-read : tie.Need-add-read Inv-loop μ-loop
 add-read c = let m = going-most (c .before .before .before .before .before .before .before .before .before .before .before .before .before .before .before .before .before .loop .inv .0) _ (c .before .before .before .before .before .before .before .before .before .before .before .before .before .before .if1 .left) in omega (arith, m, c .before .before .before .before .before .before .before .before .before .before .before .before .before .before .before .before .before .before .before .before .before .before .before .before .before .good .1 .1 .1 .1 .1 .1 .1 .0 .0)
@@ -80,12 +47,6 @@ loop-less c = going-less (c .before .before .before .before .before .before .bef
 
 loop-again : tie.Need-loop-again Inv-loop μ-loop
 loop-again c = (going-next (c .before .before .before .before .before .before .before .before .before .before .before .before .before .before .before .before .before .loop .inv .0) _ (c .before .before .before .before .before .before .before .before .before .before .before .before .before .before .before .find-byte .ensures) (c .before .before .before .before .before .before .before .before .before .before .before .before .before .before .if1 .left) _ _ (c .before .before .before .before .before .before .before .before .before .put-line .ensures) _ (c .before .next .given .1), scratch-kept (c .before .before .before .before .before .before .before .before .before .before .before .before .before .before .before .before .before .loop .inv .1) (c .before .before .before .before .before .before .before .before .store .given) (c .before .before .before .before .before .before .marks .given))
-
-enum-known-needed : tie.Need-enum-known-needed Inv-loop μ-loop
-enum-known-needed c = search needs
-
-stopped-requires : tie.Need-stopped-requires Inv-loop μ-loop
-stopped-requires c κs = search needs
 
 same-length-4 : tie.Need-same-length-4 Inv-loop μ-loop
 same-length-4 c = c .before .before .before .before .before .before .before .before .before .store .given ∙ c .before .before .before .before .before .before .before .before .before .before .before .before .before .before .before .before .before .before .loop .inv .1 .store-is ∙ sym (c .before .before .before .before .before .before .before .before .before .before .before .before .before .before .before .before .before .before .before .before .before .before .before .before .before .before .pre .0 .store-is)
@@ -105,27 +66,27 @@ put-lines-spec =
     (tie.spec
     Inv-loop
     μ-loop
-    most-of-requires
+    (λ c κs. search (going-in, needs))
     loop-holds
-    sub-rest
-    part-rest-start
-    part-rest-end
-    find-byte-requires
+    (λ c. search (going-in, needs))
+    (λ c. search (going-in, needs))
+    (λ c. search (going-in, needs))
+    (λ c κs. search (going-in, needs))
     same-length
     same-length-2
     same-length-3
     returns
-    sub-put-line
-    part-put-line-start
-    part-put-line-end
+    (λ c. search (going-in, needs))
+    (λ c. search (going-in, needs))
+    (λ c. search (going-in, needs))
     put-line-requires
-    enum-known-next
+    (λ c. search needs)
     add-read
     add-read-2
     loop-less
     loop-again
-    enum-known-needed
-    stopped-requires
+    (λ c. search needs)
+    (λ c κs. search needs)
     same-length-4
     same-length-5
     same-length-6

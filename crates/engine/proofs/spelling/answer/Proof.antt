@@ -2,8 +2,6 @@ use Rattle.engine.specs.Contracts.{answeredBy}
 use Rattle.engine.proofs.CallLaws.{place-kept, place-cut}
 use Rattle.engine.proofs.spelling.answer.Statement.{statement}
 use Rattle.engine.proofs.spelling.answer.Tie as tie
-use Rattle.engine.proofs.spelling.answer.Reads as reads
-use Rattle.engine.proofs.spelling.answer.Lts as lts
 use Rattle.base.proofs.PickLaws.{cases}
 
 returns : tie.Need-returns

@@ -2,21 +2,6 @@ use Rattle.engine.proofs.AnswerLaws.{kept-copied, kept-long, kept-over,
 use borrow.Author.Needs.{needs}
 use Rattle.engine.proofs.spelling.keep.Statement.{statement}
 use Rattle.engine.proofs.spelling.keep.Tie as tie
-use Rattle.engine.proofs.spelling.keep.Reads as reads
-use Rattle.engine.proofs.spelling.keep.Lts as lts
-use Rattle.name_parts.proofs.copy.Reads as copy-reads
-
-sub-copy : tie.Need-sub-copy
-sub-copy c = search needs
-
-part-copy-start : tie.Need-part-copy-start
-part-copy-start c = search needs
-
-part-copy-end : tie.Need-part-copy-end
-part-copy-end c = search needs
-
-copy-requires : tie.Need-copy-requires
-copy-requires c κs = search needs
 
 same-length : tie.Need-same-length
 same-length c = c .before .out .given
@@ -37,10 +22,10 @@ pub keep-spec : {M : Type 1} → statement M
 keep-spec =
     tie.close
     (tie.spec
-    sub-copy
-    part-copy-start
-    part-copy-end
-    copy-requires
+    (λ c. search needs)
+    (λ c. search needs)
+    (λ c. search needs)
+    (λ c κs. search needs)
     same-length
     returns
     returns-2

@@ -6,15 +6,6 @@ use Rattle.engine.proofs.AnswerLaws.{single-told, kept-told, again-told
 use borrow.Author.Needs.{needs}
 use Rattle.engine.proofs.spelling.spell_lowered.Statement.{statement}
 use Rattle.engine.proofs.spelling.spell_lowered.Tie as tie
-use Rattle.engine.proofs.spelling.spell_lowered.Reads as reads
-use Rattle.engine.proofs.spelling.spell_lowered.Lts as lts
-use Rattle.engine.proofs.encode.spell_name.Reads as spell-name-reads
-use Rattle.engine.proofs.encode.spell_plain.Reads as spell-plain-reads
-use Rattle.engine.proofs.spelling.is_single.Reads as is-single-reads
-use Rattle.engine.proofs.spelling.keep.Reads as keep-reads
-
-is-single-requires : tie.Need-is-single-requires
-is-single-requires c κs = search needs
 
 spell-plain-requires : tie.Need-spell-plain-requires
 spell-plain-requires c κs = (c .before .before .before .before .before .before .before .before .before .before .before .pre .0, (c .before .before .before .before .before .before .before .before .before .before .before .pre .1 .0, c .before .before .before .before .before .before .before .before .before .before .before .pre .1 .1))
@@ -36,12 +27,6 @@ slice-aggregate-spell-name c = sym (length-replicate {A = ℕ} 16384 0)
 
 spell-name-requires : tie.Need-spell-name-requires
 spell-name-requires c κs = (c .before .before .before .before .before .before .before .before .before .before .before .pre .0, (c .before .before .before .before .before .before .before .before .before .before .before .pre .1 .0, (c .before .before .before .before .before .before .before .before .before .before .before .pre .1 .1, zero-le)))
-
-slice-aggregate-keep : tie.Need-slice-aggregate-keep
-slice-aggregate-keep c = search needs
-
-keep-requires : tie.Need-keep-requires
-keep-requires c κs = search needs
 
 spell-name-requires-2 : tie.Need-spell-name-requires-2
 spell-name-requires-2 c κs = (scratch-kept (c .before .before .before .before .before .before .before .before .before .before .before .before .before .before .before .before .before .before .before .before .before .before .before .before .before .before .pre .0) (c .before .before .before .before .before .before .before .before .before .before .before .before .before .store2 .given) (c .before .before .before .before .before .before .before .before .before .before .before .marks2 .given), (c .before .before .before .before .before .before .before .before .before .before .before .before .before .before .before .before .before .before .before .before .before .before .before .before .before .before .pre .1 .0, (c .before .before .before .before .before .before .before .before .before .before .before .before .before .before .before .before .before .before .before .before .before .before .before .before .before .before .pre .1 .1, zero-le)))
@@ -74,7 +59,7 @@ pub spell-lowered-spec : {M : Type 1} → statement M
 spell-lowered-spec =
     tie.close
     (tie.spec
-    is-single-requires
+    (λ c κs. search needs)
     spell-plain-requires
     same-length
     same-length-2
@@ -82,8 +67,8 @@ spell-lowered-spec =
     returns
     slice-aggregate-spell-name
     spell-name-requires
-    slice-aggregate-keep
-    keep-requires
+    (λ c. search needs)
+    (λ c κs. search needs)
     spell-name-requires-2
     same-length-4
     same-length-5

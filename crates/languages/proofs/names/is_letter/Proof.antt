@@ -1,8 +1,6 @@
 use Rattle.languages.specs.Names.{isLetter}
 use Rattle.languages.proofs.names.is_letter.Statement.{statement}
 use Rattle.languages.proofs.names.is_letter.Tie as tie
-use Rattle.languages.proofs.names.is_letter.Reads as reads
-use Rattle.languages.proofs.names.is_letter.Lts as lts
 use Rattle.base.proofs.PickLaws.{cases}
 
 returns : tie.Need-returns

@@ -2,8 +2,6 @@ use Rattle.languages.specs.Sets.{without}
 use borrow.Author.Needs.{needs}
 use Rattle.languages.proofs.sets.subtract.Statement.{statement}
 use Rattle.languages.proofs.sets.subtract.Tie as tie
-use Rattle.languages.proofs.sets.subtract.Reads as reads
-use Rattle.languages.proofs.sets.subtract.Lts as lts
 
 returns : tie.Need-returns
 unfolding without

@@ -1,10 +1,7 @@
 use Rattle.letters.specs.Utf8.{within}
 use Rattle.letters.specs.Reading.{inRange}
-use borrow.Author.Needs.{needs}
 use Rattle.letters.proofs.range.in_range.Statement.{statement}
 use Rattle.letters.proofs.range.in_range.Tie as tie
-use Rattle.letters.proofs.range.in_range.Reads as reads
-use Rattle.letters.proofs.range.in_range.Lts as lts
 use Rattle.base.proofs.PickLaws.{cases}
 
 returns : tie.Need-returns

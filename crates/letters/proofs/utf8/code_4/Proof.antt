@@ -1,40 +1,8 @@
-use Rattle.letters.specs.Utf8.{within, lowSecond, highSecond, code2, code3, code4, decodeBytes, decode2, decode3, decode4, decodeAt}
-use mathlib.Core.Path.{refl, sym, ap, _∙_}
+use Rattle.letters.specs.Utf8.{code4}
+use mathlib.Core.Path.{refl}
 use borrow.Author.Needs.{needs}
 use Rattle.letters.proofs.utf8.code_4.Statement.{statement}
 use Rattle.letters.proofs.utf8.code_4.Tie as tie
-use Rattle.letters.proofs.utf8.code_4.Reads as reads
-use Rattle.letters.proofs.utf8.code_4.Lts as lts
-
-cast-result : tie.Need-cast-result
-cast-result c = search needs
-
-mul-result : tie.Need-mul-result
-mul-result c = search needs
-
-cast-result-2 : tie.Need-cast-result-2
-cast-result-2 c = search needs
-
-mul-result-2 : tie.Need-mul-result-2
-mul-result-2 c = search needs
-
-add-result : tie.Need-add-result
-add-result c = search needs
-
-cast-result-3 : tie.Need-cast-result-3
-cast-result-3 c = search needs
-
-mul-result-3 : tie.Need-mul-result-3
-mul-result-3 c = search needs
-
-add-result-2 : tie.Need-add-result-2
-add-result-2 c = search needs
-
-cast-result-4 : tie.Need-cast-result-4
-cast-result-4 c = search needs
-
-add-result-3 : tie.Need-add-result-3
-add-result-3 c = search needs
 
 returns : tie.Need-returns
 unfolding code4
@@ -44,14 +12,14 @@ pub code-4-spec : {M : Type 1} → statement M
 code-4-spec =
     tie.close
     (tie.spec
-    cast-result
-    mul-result
-    cast-result-2
-    mul-result-2
-    add-result
-    cast-result-3
-    mul-result-3
-    add-result-2
-    cast-result-4
-    add-result-3
+    (λ c. search needs)
+    (λ c. search needs)
+    (λ c. search needs)
+    (λ c. search needs)
+    (λ c. search needs)
+    (λ c. search needs)
+    (λ c. search needs)
+    (λ c. search needs)
+    (λ c. search needs)
+    (λ c. search needs)
     returns)

@@ -1,8 +1,6 @@
 use Rattle.letters.specs.Utf8.{highSecond}
 use Rattle.letters.proofs.utf8.high_second.Statement.{statement}
 use Rattle.letters.proofs.utf8.high_second.Tie as tie
-use Rattle.letters.proofs.utf8.high_second.Reads as reads
-use Rattle.letters.proofs.utf8.high_second.Lts as lts
 use Rattle.base.proofs.PickLaws.{cases}
 
 returns : tie.Need-returns

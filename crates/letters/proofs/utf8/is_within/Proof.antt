@@ -4,8 +4,6 @@ use borrow.Author.Tests.{le-leb}
 use Rattle.letters.specs.Utf8.{within}
 use Rattle.letters.proofs.utf8.is_within.Statement.{statement}
 use Rattle.letters.proofs.utf8.is_within.Tie as tie
-use Rattle.letters.proofs.utf8.is_within.Reads as reads
-use Rattle.letters.proofs.utf8.is_within.Lts as lts
 use Rattle.base.proofs.PickLaws.{cases}
 
 returns : tie.Need-returns

@@ -1,8 +1,6 @@
 use Rattle.letters.specs.Utf8.{lowSecond}
 use Rattle.letters.proofs.utf8.low_second.Statement.{statement}
 use Rattle.letters.proofs.utf8.low_second.Tie as tie
-use Rattle.letters.proofs.utf8.low_second.Reads as reads
-use Rattle.letters.proofs.utf8.low_second.Lts as lts
 use Rattle.base.proofs.PickLaws.{cases}
 
 returns : tie.Need-returns

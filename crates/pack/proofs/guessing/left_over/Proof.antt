@@ -2,8 +2,6 @@ use borrow.Author.Needs.{needs}
 use Rattle.pack.specs.Guessing.{leftOver}
 use Rattle.pack.proofs.guessing.left_over.Statement.{statement}
 use Rattle.pack.proofs.guessing.left_over.Tie as tie
-use Rattle.pack.proofs.guessing.left_over.Reads as reads
-use Rattle.pack.proofs.guessing.left_over.Lts as lts
 use Rattle.base.proofs.PickLaws.{cases}
 
 returns : tie.Need-returns

@@ -3,35 +3,6 @@ use Rattle.pack.proofs.RuleLaws.{form-laws}
 use Rattle.pack.specs.Packs.{isForm}
 use Rattle.pack.proofs.rules.is_form.Statement.{statement}
 use Rattle.pack.proofs.rules.is_form.Tie as tie
-use Rattle.pack.proofs.rules.is_form.Reads as reads
-use Rattle.pack.proofs.rules.is_form.Lts as lts
-
-enum-told : tie.Need-enum-told
-enum-told c = search (form-laws, needs)
-
-enum-told-2 : tie.Need-enum-told-2
-enum-told-2 c = search (form-laws, needs)
-
-enum-told-3 : tie.Need-enum-told-3
-enum-told-3 c = search (form-laws, needs)
-
-enum-told-4 : tie.Need-enum-told-4
-enum-told-4 c = search (form-laws, needs)
-
-enum-told-5 : tie.Need-enum-told-5
-enum-told-5 c = search (form-laws, needs)
-
-enum-told-6 : tie.Need-enum-told-6
-enum-told-6 c = search (form-laws, needs)
-
-enum-told-7 : tie.Need-enum-told-7
-enum-told-7 c = search (form-laws, needs)
-
-enum-told-8 : tie.Need-enum-told-8
-enum-told-8 c = search (form-laws, needs)
-
-enum-told-9 : tie.Need-enum-told-9
-enum-told-9 c = search (form-laws, needs)
 
 returns : tie.Need-returns
 unfolding isForm
@@ -73,15 +44,15 @@ pub is-form-spec : {M : Type 1} → statement M
 is-form-spec =
     tie.close
     (tie.spec
-    enum-told
-    enum-told-2
-    enum-told-3
-    enum-told-4
-    enum-told-5
-    enum-told-6
-    enum-told-7
-    enum-told-8
-    enum-told-9
+    (λ c. search (form-laws, needs))
+    (λ c. search (form-laws, needs))
+    (λ c. search (form-laws, needs))
+    (λ c. search (form-laws, needs))
+    (λ c. search (form-laws, needs))
+    (λ c. search (form-laws, needs))
+    (λ c. search (form-laws, needs))
+    (λ c. search (form-laws, needs))
+    (λ c. search (form-laws, needs))
     returns
     returns-2
     returns-3

@@ -2,13 +2,7 @@ use borrow.Author.Needs.{needs}
 use Rattle.pack.specs.Contracts.{patternGood}
 use Rattle.pack.proofs.rules.pattern_good.Statement.{statement}
 use Rattle.pack.proofs.rules.pattern_good.Tie as tie
-use Rattle.pack.proofs.rules.pattern_good.Reads as reads
-use Rattle.pack.proofs.rules.pattern_good.Lts as lts
-use Rattle.rule.proofs.is_rule_text.Reads as is-rule-text-reads
 use Rattle.base.proofs.PickLaws.{cases}
-
-is-rule-text-requires : tie.Need-is-rule-text-requires
-is-rule-text-requires c κs = search (cases, needs)
 
 returns : tie.Need-returns
 unfolding patternGood
@@ -19,4 +13,4 @@ unfolding patternGood
 returns-2 c = search (cases, needs)
 
 pub pattern-good-spec : {M : Type 1} → statement M
-pattern-good-spec = tie.close (tie.spec is-rule-text-requires returns returns-2)
+pattern-good-spec = tie.close (tie.spec (λ c κs. search (cases, needs)) returns returns-2)

@@ -5,8 +5,6 @@ use Rattle.phoneme_builder.proofs.PartLaws.{walk-in}
 use Rattle.phoneme_builder.proofs.AppendLaws.{Appending, appending-start, appending-end, appending-long, appending-next, index-in, count-in}
 use Rattle.phoneme_builder.proofs.append.append.Statement.{statement}
 use Rattle.phoneme_builder.proofs.append.append.Tie as tie
-use Rattle.phoneme_builder.proofs.append.append.Reads as reads
-use Rattle.phoneme_builder.proofs.append.append.Lts as lts
 
 abbrev Inv-loop : tie.InvT-loop
 Inv-loop store₀ marks₀ from on to c i₀ k₀ store marks i k = Appending c (arena store₀ marks₀) from on to (arena store marks) k i
@@ -17,23 +15,14 @@ abbrev μ-loop : tie.MeasureT-loop
 loop-holds : tie.Need-loop-holds Inv-loop μ-loop
 loop-holds c = appending-start _ (c .before .before .before .pre .0) (c .before .before .before .pre .1 .0) (c .before .before .before .pre .1 .1 .0) (c .before .before .before .pre .1 .1 .1)
 
-sub-i : tie.Need-sub-i Inv-loop μ-loop
-sub-i c = search needs
-
 lengthen-requires : tie.Need-lengthen-requires Inv-loop μ-loop
 lengthen-requires c κs = (c .before .before .before .loop .inv .at .rooms, (walk-in (c .before .before .before .loop .inv .at) _ (index-in (c .before .before .before .loop .inv) (c .before .before .loop-test .taken)), (c .before .before .before .loop .inv .now-is, count-in (c .before .before .before .loop .inv) (c .before .before .loop-test .taken))))
-
-enum-known-grown : tie.Need-enum-known-grown Inv-loop μ-loop
-enum-known-grown c = search needs
 
 loop-less : tie.Need-loop-less Inv-loop μ-loop
 loop-less c = omega (arith, c .before .before .before .before .before .before .before .before .before .before .loop-test .taken)
 
 loop-again : tie.Need-loop-again Inv-loop μ-loop
 loop-again c = appending-next (c .before .before .before .before .before .before .before .before .before .before .before .loop .inv) (c .before .before .before .before .before .before .before .before .before .before .loop-test .taken) (c .before .before .before .before .before .before .before .lengthen .ensures) _ (c .before .grown .given .1)
-
-enum-told : tie.Need-enum-told Inv-loop μ-loop
-enum-told c = search needs
 
 same-length : tie.Need-same-length Inv-loop μ-loop
 same-length c = omega (arith, c .before .before .before .before .before .before .lengthen .ensures .rooms .long-store, c .before .before .before .before .before .before .before .before .before .before .before .before .before .before .pre .0 .long-store)
@@ -60,12 +49,12 @@ append-spec =
     Inv-loop
     μ-loop
     loop-holds
-    sub-i
+    (λ c. search needs)
     lengthen-requires
-    enum-known-grown
+    (λ c. search needs)
     loop-less
     loop-again
-    enum-told
+    (λ c. search needs)
     same-length
     same-length-2
     returns

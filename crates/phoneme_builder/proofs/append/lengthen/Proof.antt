@@ -5,17 +5,9 @@ use Rattle.phoneme_builder.proofs.PartLaws.{langs-in, code-in, copied-l
 use Rattle.phoneme_builder.proofs.AppendLaws.{lengthen-long, lengthen-in}
 use Rattle.phoneme_builder.proofs.append.lengthen.Statement.{statement}
 use Rattle.phoneme_builder.proofs.append.lengthen.Tie as tie
-use Rattle.phoneme_builder.proofs.append.lengthen.Reads as reads
-use Rattle.phoneme_builder.proofs.append.lengthen.Lts as lts
-
-slice-aggregate-copy-text : tie.Need-slice-aggregate-copy-text
-slice-aggregate-copy-text c = search needs
 
 copy-text-requires : tie.Need-copy-text-requires
 copy-text-requires c κs = (c .before .before .before .before .before .before .pre .1 .0, refl)
-
-add-if1 : tie.Need-add-if1
-add-if1 c = search needs
 
 same-length : tie.Need-same-length
 same-length c = refl
@@ -28,12 +20,6 @@ returns c = lengthen-long _ _ _ (c .before .row2 .given) (c .before .before .cop
 
 langs-of-requires : tie.Need-langs-of-requires
 langs-of-requires c κs = langs-in (c .before .before .before .before .before .before .before .before .before .before .pre .1 .0)
-
-sub-add-to : tie.Need-sub-add-to
-sub-add-to c = search needs
-
-part-add-to-start : tie.Need-part-add-to-start
-part-add-to-start c = search needs
 
 part-add-to-end : tie.Need-part-add-to-end
 part-add-to-end c = omega (arith, c .before .before .before .before .before .before .before .copy-text .ensures .short, c .before .before .before .before .before .before .row2 .given)
@@ -54,15 +40,15 @@ pub lengthen-spec : {M : Type 1} → statement M
 lengthen-spec =
     tie.close
     (tie.spec
-    slice-aggregate-copy-text
+    (λ c. search needs)
     copy-text-requires
-    add-if1
+    (λ c. search needs)
     same-length
     same-length-2
     returns
     langs-of-requires
-    sub-add-to
-    part-add-to-start
+    (λ c. search needs)
+    (λ c. search needs)
     part-add-to-end
     add-to-requires
     same-length-3

@@ -6,8 +6,6 @@ use Rattle.phoneme_builder.proofs.PartLaws.{walk-in}
 use Rattle.phoneme_builder.proofs.ApplyLaws.{Applying, applying-start, applying-stop, applying-end, applying-next, applying-long}
 use Rattle.phoneme_builder.proofs.apply.apply.Statement.{statement}
 use Rattle.phoneme_builder.proofs.apply.apply.Tie as tie
-use Rattle.phoneme_builder.proofs.apply.apply.Reads as reads
-use Rattle.phoneme_builder.proofs.apply.apply.Lts as lts
 
 abbrev Inv-loop : tie.InvT-loop
 Inv-loop store₀ marks₀ from on to expr alts m limit i₀ n₀ store marks i n = Applying limit (alternatives expr alts m) (arena store₀ marks₀) from on to (arena store marks) n i
@@ -27,23 +25,14 @@ same-length-2 c = omega (arith, c .before .before .loop .inv .at .rooms .long-ma
 returns : tie.Need-returns Inv-loop μ-loop
 returns c = applying-stop (c .before .before .loop .inv) (c .if1 .taken)
 
-add-i : tie.Need-add-i Inv-loop μ-loop
-add-i c = search needs
-
 apply-text-requires : tie.Need-apply-text-requires Inv-loop μ-loop
 apply-text-requires c κs = (c .before .before .before .before .loop .inv .at .rooms, (walk-in (c .before .before .before .before .loop .inv .at) _ (c .before .before .before .loop-test .taken), (c .before .before .before .before .loop .inv .now-is, (c .before .before .before .before .before .before .before .before .before .pre .1 .1 .1 .0, c .before .before .before .before .before .before .before .before .before .pre .1 .1 .1 .1))))
-
-enum-known-x : tie.Need-enum-known-x Inv-loop μ-loop
-enum-known-x c = search needs
 
 loop-less : tie.Need-loop-less Inv-loop μ-loop
 loop-less c = omega (arith, c .before .before .before .before .before .before .before .before .before .before .before .loop-test .taken)
 
 loop-again : tie.Need-loop-again Inv-loop μ-loop
 loop-again c = applying-next (c .before .before .before .before .before .before .before .before .before .before .before .before .loop .inv) (c .before .before .before .before .before .before .before .before .before .before .before .loop-test .taken) (c .before .before .before .before .before .before .before .apply-text .ensures) _ (c .before .x .given .1)
-
-enum-told : tie.Need-enum-told Inv-loop μ-loop
-enum-told c = search needs
 
 same-length-3 : tie.Need-same-length-3 Inv-loop μ-loop
 same-length-3 c = omega (arith, c .before .before .before .before .before .before .apply-text .ensures .rooms .long-store, c .before .before .before .before .before .before .before .before .before .before .before .before .before .before .before .before .pre .0 .long-store)
@@ -73,12 +62,12 @@ apply-spec =
     same-length
     same-length-2
     returns
-    add-i
+    (λ c. search needs)
     apply-text-requires
-    enum-known-x
+    (λ c. search needs)
     loop-less
     loop-again
-    enum-told
+    (λ c. search needs)
     same-length-3
     same-length-4
     returns-2

@@ -6,8 +6,6 @@ use Rattle.phoneme_builder.specs.BufferContracts.{arena, entry, entriesA
 use Rattle.phoneme_builder.proofs.ApplyLaws.{Offering, offering-start, offering-stop, offering-end, offering-next, offering-long, alt-long, alt-order, alt-end, alt-code}
 use Rattle.phoneme_builder.proofs.apply.apply_row.Statement.{statement}
 use Rattle.phoneme_builder.proofs.apply.apply_row.Tie as tie
-use Rattle.phoneme_builder.proofs.apply.apply_row.Reads as reads
-use Rattle.phoneme_builder.proofs.apply.apply_row.Lts as lts
 
 abbrev Inv-loop : tie.InvT-loop
 Inv-loop store₀ marks₀ to n a g expr alts m limit j₀ k₀ store marks j k =
@@ -28,20 +26,8 @@ same-length-2 c = omega (arith, c .before .before .loop .inv .rooms .long-marks,
 returns : tie.Need-returns Inv-loop μ-loop
 returns c = offering-stop (c .before .before .loop .inv) (c .if1 .taken)
 
-mul-x : tie.Need-mul-x Inv-loop μ-loop
-mul-x c = search needs
-
 shared-slice-read-x : tie.Need-shared-slice-read-x Inv-loop μ-loop
 shared-slice-read-x c = omega (arith, alt-long (c .before .before .before .before .before .before .before .before .before .pre .1 .1 .1 .0) _ (c .before .before .loop-test .taken))
-
-first-of-requires : tie.Need-first-of-requires Inv-loop μ-loop
-first-of-requires c κs = search needs
-
-second-of-requires : tie.Need-second-of-requires Inv-loop μ-loop
-second-of-requires c κs = search needs
-
-add-j : tie.Need-add-j Inv-loop μ-loop
-add-j c = search needs
 
 sub-offer : tie.Need-sub-offer Inv-loop μ-loop
 sub-offer c = omega (arith, c .before .before .before .first-of .ensures, c .before .before .second-of .ensures, alt-order (c .before .before .before .before .before .before .before .before .before .before .before .before .before .pre .1 .1 .1 .0) _ (c .before .before .before .before .before .before .loop-test .taken))
@@ -55,17 +41,8 @@ part-offer-end c = omega (arith, c .before .before .second-of .ensures, alt-end 
 offer-requires : tie.Need-offer-requires Inv-loop μ-loop
 offer-requires c κs = (c .before .before .before .before .before .before .before .before .loop .inv .rooms, (c .before .before .before .before .before .before .before .before .loop .inv .now-is, (c .before .before .before .before .before .before .before .before .before .before .before .before .before .before .pre .1 .1 .0, (alt-code (c .before .before .before .before .before .before .before .before .before .before .before .before .before .before .pre .1 .1 .1 .0) _ (c .before .before .before .before .before .before .before .loop-test .taken), (c .before .before .before .before .before .before .if1 .left, c .before .before .before .before .before .before .before .before .before .before .before .before .before .before .pre .1 .1 .1 .1)))))
 
-enum-known-grown : tie.Need-enum-known-grown Inv-loop μ-loop
-enum-known-grown c = search needs
-
-loop-less : tie.Need-loop-less Inv-loop μ-loop
-loop-less c = search needs
-
 loop-again : tie.Need-loop-again Inv-loop μ-loop
 loop-again c = offering-next (c .before .before .before .before .before .before .before .before .before .before .before .before .before .before .before .before .loop .inv) (c .before .before .before .before .before .before .before .before .before .before .before .before .before .before .before .loop-test .taken) (rw (← c .before .before .before .before .before .before .before .before .before .before .before .before .first-of .ensures, ← c .before .before .before .before .before .before .before .before .before .before .before .second-of .ensures) (c .before .before .before .before .before .before .before .offer .ensures)) _ (c .before .grown .given .1)
-
-enum-told : tie.Need-enum-told Inv-loop μ-loop
-enum-told c = search needs
 
 same-length-3 : tie.Need-same-length-3 Inv-loop μ-loop
 same-length-3 c = omega (arith, c .before .before .before .before .before .before .offer .ensures .rooms .long-store, c .before .before .before .before .before .before .before .before .before .before .before .before .before .before .before .before .before .before .before .before .before .pre .0 .long-store)
@@ -95,19 +72,19 @@ apply-row-spec =
     same-length
     same-length-2
     returns
-    mul-x
+    (λ c. search needs)
     shared-slice-read-x
-    first-of-requires
-    second-of-requires
-    add-j
+    (λ c κs. search needs)
+    (λ c κs. search needs)
+    (λ c. search needs)
     sub-offer
     part-offer-start
     part-offer-end
     offer-requires
-    enum-known-grown
-    loop-less
+    (λ c. search needs)
+    (λ c. search needs)
     loop-again
-    enum-told
+    (λ c. search needs)
     same-length-3
     same-length-4
     returns-2

@@ -5,23 +5,12 @@ use Rattle.phoneme_builder.proofs.PartLaws.{langs-in, code-in, copied-e
 use Rattle.phoneme_builder.proofs.ApplyLaws.{offered-under}
 use Rattle.phoneme_builder.proofs.apply.apply_text.Statement.{statement}
 use Rattle.phoneme_builder.proofs.apply.apply_text.Tie as tie
-use Rattle.phoneme_builder.proofs.apply.apply_text.Reads as reads
-use Rattle.phoneme_builder.proofs.apply.apply_text.Lts as lts
-
-slice-aggregate-copy-text : tie.Need-slice-aggregate-copy-text
-slice-aggregate-copy-text c = search needs
 
 copy-text-requires : tie.Need-copy-text-requires
 copy-text-requires c κs = (c .before .before .before .before .before .before .before .pre .1 .0, refl)
 
 langs-of-requires : tie.Need-langs-of-requires
 langs-of-requires c κs = langs-in (c .before .before .before .before .before .before .before .before .before .before .pre .1 .0)
-
-sub-apply-row : tie.Need-sub-apply-row
-sub-apply-row c = search needs
-
-part-apply-row-start : tie.Need-part-apply-row-start
-part-apply-row-start c = search needs
 
 part-apply-row-end : tie.Need-part-apply-row-end
 part-apply-row-end c = omega (arith, c .before .before .before .before .before .before .copy-text .ensures .short, c .before .before .before .before .before .row2 .given)
@@ -42,11 +31,11 @@ pub apply-text-spec : {M : Type 1} → statement M
 apply-text-spec =
     tie.close
     (tie.spec
-    slice-aggregate-copy-text
+    (λ c. search needs)
     copy-text-requires
     langs-of-requires
-    sub-apply-row
-    part-apply-row-start
+    (λ c. search needs)
+    (λ c. search needs)
     part-apply-row-end
     apply-row-requires
     same-length

@@ -9,8 +9,6 @@ use Rattle.phoneme_builder.proofs.PartLaws.{few-at, text-in}
 use Rattle.phoneme_builder.proofs.FinalLaws.{Finishing, finishing-start, finishing-old, finishing-end, finishing-next, finishing-long, finishing-many}
 use Rattle.phoneme_builder.proofs.finals.final_pass.Statement.{statement}
 use Rattle.phoneme_builder.proofs.finals.final_pass.Tie as tie
-use Rattle.phoneme_builder.proofs.finals.final_pass.Reads as reads
-use Rattle.phoneme_builder.proofs.finals.final_pass.Lts as lts
 
 abbrev Inv-loop : tie.InvT-loop
 Inv-loop store₀ marks₀ alts₀ old on result x y pack names table list limit i₀ n₀ flag₀ store marks alts i n flag = Finishing (arena store₀ marks₀) old on result limit names (matcher pack table list) (arena store marks) n i flag × (length alts ≡ 256)
@@ -24,12 +22,6 @@ loop-holds c = (finishing-start _ _ _ _ _ _ _ (c .before .before .before .before
 final-text-requires : tie.Need-final-text-requires Inv-loop μ-loop
 final-text-requires c κs = (c .before .before .before .before .loop .inv .0 .rooms, (text-in (c .before .before .before .before .loop .inv .0 .rooms) (finishing-old (c .before .before .before .before .loop .inv .0) (c .before .before .before .before .before .before .before .before .before .before .before .pre .1 .0)) _ (c .before .before .before .loop-test .taken), (c .before .before .before .before .loop .inv .0 .set, (c .before .before .before .before .before .before .before .before .before .before .before .pre .1 .1 .0, (c .before .before .before .before .loop .inv .1, c .before .before .before .before .before .before .before .before .before .before .before .pre .1 .1 .1 .1)))))
 
-enum-known-k : tie.Need-enum-known-k Inv-loop μ-loop
-enum-known-k c = search needs
-
-either-requires : tie.Need-either-requires Inv-loop μ-loop
-either-requires c κs = search needs
-
 add-i : tie.Need-add-i Inv-loop μ-loop
 add-i c = omega (arith, c .before .before .before .before .before .before .before .before .before .before .before .before .before .before .loop-test .taken, few-at (c .before .before .before .before .before .before .before .before .before .before .before .before .before .before .before .before .before .before .before .before .before .before .pre .1 .0))
 
@@ -38,9 +30,6 @@ loop-less c = omega (arith, c .before .before .before .before .before .before .b
 
 loop-again : tie.Need-loop-again Inv-loop μ-loop
 loop-again c = (finishing-next (c .before .before .before .before .before .before .before .before .before .before .before .before .before .before .before .loop .inv .0) (c .before .before .before .before .before .before .before .before .before .before .before .before .before .before .before .before .before .before .before .before .before .before .pre .1 .0) (c .before .before .before .before .before .before .before .before .before .before .before .before .before .before .loop-test .taken) _ _ (c .before .before .before .before .before .before .before .before .before .before .final-text .ensures) _ _ _ (c .before .before .k .given .1) (c .either .ensures), omega (arith, c .before .before .before .before .before .alts .given, c .before .before .before .before .before .before .before .before .before .before .before .before .before .before .before .loop .inv .1))
-
-enum-told : tie.Need-enum-told Inv-loop μ-loop
-enum-told c = search needs
 
 same-length : tie.Need-same-length Inv-loop μ-loop
 same-length c = omega (arith, c .before .before .before .before .before .before .before .before .final-text .ensures .rooms .long-store, c .before .before .before .before .before .before .before .before .before .before .before .before .before .before .before .before .before .before .before .before .pre .0 .long-store)
@@ -53,9 +42,6 @@ same-length-3 c = omega (arith, c .before .before .before .alts .given, c .befor
 
 returns : tie.Need-returns Inv-loop μ-loop
 returns c = finishing-long (c .before .before .before .before .before .before .before .before .before .before .before .before .before .loop .inv .0) (c .before .before .before .before .before .before .before .before .before .before .before .before .before .before .before .before .before .before .before .before .pre .1 .0) (c .before .before .before .before .before .before .before .before .before .before .before .before .loop-test .taken) _ _ (c .before .before .before .before .before .before .before .before .final-text .ensures) (c .enum-told .given .1)
-
-enum-told-2 : tie.Need-enum-told-2 Inv-loop μ-loop
-enum-told-2 c = search needs
 
 same-length-4 : tie.Need-same-length-4 Inv-loop μ-loop
 same-length-4 c = omega (arith, c .before .before .before .before .before .before .before .before .final-text .ensures .rooms .long-store, c .before .before .before .before .before .before .before .before .before .before .before .before .before .before .before .before .before .before .before .before .pre .0 .long-store)
@@ -89,17 +75,17 @@ final-pass-spec =
     μ-loop
     loop-holds
     final-text-requires
-    enum-known-k
-    either-requires
+    (λ c. search needs)
+    (λ c κs. search needs)
     add-i
     loop-less
     loop-again
-    enum-told
+    (λ c. search needs)
     same-length
     same-length-2
     same-length-3
     returns
-    enum-told-2
+    (λ c. search needs)
     same-length-4
     same-length-5
     same-length-6

@@ -5,11 +5,6 @@ use Rattle.phoneme_builder.proofs.PartLaws.{langs-in, code-in}
 use Rattle.phoneme_builder.proofs.FinalLaws.{text-ran}
 use Rattle.phoneme_builder.proofs.finals.run_text.Statement.{statement}
 use Rattle.phoneme_builder.proofs.finals.run_text.Tie as tie
-use Rattle.phoneme_builder.proofs.finals.run_text.Reads as reads
-use Rattle.phoneme_builder.proofs.finals.run_text.Lts as lts
-
-slice-aggregate-copy-text : tie.Need-slice-aggregate-copy-text
-slice-aggregate-copy-text c = search needs
 
 copy-text-requires : tie.Need-copy-text-requires
 copy-text-requires c κs = (c .before .before .before .before .before .before .before .before .before .pre .1 .0, refl)
@@ -19,12 +14,6 @@ langs-of-requires c κs = langs-in (c .before .before .before .before .before .b
 
 begin-requires : tie.Need-begin-requires
 begin-requires c κs = (c .before .before .before .before .before .before .before .before .before .before .before .before .before .before .before .pre .0, (c .before .before .before .before .before .before .before .before .before .before .before .before .before .before .before .pre .1 .1 .0 .0, code-in (c .before .before .before .before .before .before .before .before .before .before .before .before .before .before .before .pre .1 .0) (c .before .before .langs-of .ensures)))
-
-sub-run : tie.Need-sub-run
-sub-run c = search needs
-
-part-run-start : tie.Need-part-run-start
-part-run-start c = search needs
 
 part-run-end : tie.Need-part-run-end
 part-run-end c = omega (arith, c .before .before .before .before .before .before .before .before .before .before .before .before .before .before .copy-text .ensures .short, c .before .before .before .before .before .before .before .before .before .before .before .before .before .word2 .given)
@@ -38,9 +27,6 @@ same-length c = omega (arith, c .before .before .before .before .before .before 
 same-length-2 : tie.Need-same-length-2
 same-length-2 c = omega (arith, c .before .before .before .before .before .before .run .ensures .rooms .long-marks, c .before .before .before .before .before .before .before .before .before .before .before .before .before .before .before .before .before .before .before .before .before .before .before .before .before .before .before .before .before .before .before .before .pre .0 .long-marks)
 
-same-length-3 : tie.Need-same-length-3
-same-length-3 c = search needs
-
 returns : tie.Need-returns
 returns c = text-ran _ _ _ _ _ _ _ _ _ _ _ _ _ _ _ (c .before .before .before .before .before .before .before .before .before .before .before .before .before .before .before .before .before .before .before .before .before .before .copy-text .ensures) (c .before .before .before .before .before .before .before .before .before .before .before .before .before .before .before .before .before .before .before .langs-of .ensures) (c .before .before .before .before .before .before .before .before .before .before .before .before .before .before .before .before .begin .ensures) (c .before .before .before .before .before .before .run .ensures)
 
@@ -48,15 +34,15 @@ pub run-text-spec : {M : Type 1} → statement M
 run-text-spec =
     tie.close
     (tie.spec
-    slice-aggregate-copy-text
+    (λ c. search needs)
     copy-text-requires
     langs-of-requires
     begin-requires
-    sub-run
-    part-run-start
+    (λ c. search needs)
+    (λ c. search needs)
     part-run-end
     run-requires
     same-length
     same-length-2
-    same-length-3
+    (λ c. search needs)
     returns)

@@ -5,17 +5,6 @@ use Rattle.phoneme_builder.proofs.MarkLaws.{merged-is}
 use Rattle.languages.proofs.CodedLaws.{or-code}
 use Rattle.phoneme_builder.proofs.marks.merged.Statement.{statement}
 use Rattle.phoneme_builder.proofs.marks.merged.Tie as tie
-use Rattle.phoneme_builder.proofs.marks.merged.Reads as reads
-use Rattle.phoneme_builder.proofs.marks.merged.Lts as lts
-use Rattle.phoneme_builder.proofs.marks.first_of.Reads as first-of-reads
-use Rattle.phoneme_builder.proofs.marks.packed.Reads as packed-reads
-use Rattle.phoneme_builder.proofs.marks.second_of.Reads as second-of-reads
-
-first-of-requires : tie.Need-first-of-requires
-first-of-requires c κs = search needs
-
-second-of-requires : tie.Need-second-of-requires
-second-of-requires c κs = search needs
 
 packed-requires : tie.Need-packed-requires
 packed-requires c κs = (code-small (or-code (c .before .before .pre .0) (c .before .before .pre .1)), omega (arith, c .before .first-of .ensures), omega (arith, c .second-of .ensures))
@@ -27,7 +16,7 @@ pub merged-spec : {M : Type 1} → statement M
 merged-spec =
     tie.close
     (tie.spec
-    first-of-requires
-    second-of-requires
+    (λ c κs. search needs)
+    (λ c κs. search needs)
     packed-requires
     returns)

@@ -3,8 +3,6 @@ use native.Mathlib.Omega.{arith}
 use Rattle.phoneme_builder.proofs.PassLaws.{rule-applied}
 use Rattle.phoneme_builder.proofs.pass.apply_rule.Statement.{statement}
 use Rattle.phoneme_builder.proofs.pass.apply_rule.Tie as tie
-use Rattle.phoneme_builder.proofs.pass.apply_rule.Reads as reads
-use Rattle.phoneme_builder.proofs.pass.apply_rule.Lts as lts
 
 alternatives-requires : tie.Need-alternatives-requires
 alternatives-requires c κs = (c .before .before .before .before .before .before .pre .1 .1 .1 .1 .0, c .before .before .before .before .before .before .pre .1 .1 .1 .0)
@@ -18,9 +16,6 @@ same-length c = omega (arith, c .before .before .before .before .apply .ensures 
 same-length-2 : tie.Need-same-length-2
 same-length-2 c = omega (arith, c .before .before .before .before .apply .ensures .rooms .long-marks, c .before .before .before .before .before .before .before .before .before .before .before .before .before .before .before .before .before .pre .0 .long-marks)
 
-same-length-3 : tie.Need-same-length-3
-same-length-3 c = search needs
-
 returns : tie.Need-returns
 returns c = rule-applied _ _ _ _ _ _ _ _ _ _ (c .before .before .before .before .before .before .before .before .before .before .alternatives .ensures) (c .before .before .before .before .apply .ensures)
 
@@ -32,5 +27,5 @@ apply-rule-spec =
     apply-requires
     same-length
     same-length-2
-    same-length-3
+    (λ c. search needs)
     returns)

@@ -4,32 +4,9 @@ use native.Mathlib.Omega.{arith}
 use Rattle.phoneme_builder.proofs.PassLaws.{letter-kept, letter-into, letter-long}
 use Rattle.phoneme_builder.proofs.pass.letter_turn.Statement.{statement}
 use Rattle.phoneme_builder.proofs.pass.letter_turn.Tie as tie
-use Rattle.phoneme_builder.proofs.pass.letter_turn.Reads as reads
-use Rattle.phoneme_builder.proofs.pass.letter_turn.Lts as lts
-
-char-bytes-requires : tie.Need-char-bytes-requires
-char-bytes-requires c κs = search needs
-
-add-end : tie.Need-add-end
-add-end c = search needs
-
-sub-append : tie.Need-sub-append
-sub-append c = search needs
-
-part-append-start : tie.Need-part-append-start
-part-append-start c = search needs
-
-part-append-end : tie.Need-part-append-end
-part-append-end c = search needs
 
 append-requires : tie.Need-append-requires
 append-requires c κs = (c .before .before .before .before .before .before .before .before .pre .0, (c .before .before .before .before .before .before .before .before .pre .1 .0, c .before .before .before .before .before .before .before .before .pre .1 .1 .0))
-
-enum-known-k : tie.Need-enum-known-k
-enum-known-k c = search needs
-
-enum-told : tie.Need-enum-told
-enum-told c = search needs
 
 same-length : tie.Need-same-length
 same-length c = omega (arith, c .before .before .before .before .before .before .before .append .ensures .rooms .long-store, c .before .before .before .before .before .before .before .before .before .before .before .before .before .before .before .before .pre .0 .long-store)
@@ -56,14 +33,14 @@ pub letter-turn-spec : {M : Type 1} → statement M
 letter-turn-spec =
     tie.close
     (tie.spec
-    char-bytes-requires
-    add-end
-    sub-append
-    part-append-start
-    part-append-end
+    (λ c κs. search needs)
+    (λ c. search needs)
+    (λ c. search needs)
+    (λ c. search needs)
+    (λ c. search needs)
     append-requires
-    enum-known-k
-    enum-told
+    (λ c. search needs)
+    (λ c. search needs)
     same-length
     same-length-2
     returns

@@ -9,8 +9,6 @@ use Rattle.phoneme_builder.specs.TableContracts.{matcher}
 use Rattle.phoneme_builder.proofs.PassLaws.{Running, running-start, running-end, running-to, running-apart, running-into, running-kept, running-long, running-step, running-skip}
 use Rattle.phoneme_builder.proofs.pass.run.Statement.{statement}
 use Rattle.phoneme_builder.proofs.pass.run.Tie as tie
-use Rattle.phoneme_builder.proofs.pass.run.Reads as reads
-use Rattle.phoneme_builder.proofs.pass.run.Lts as lts
 
 abbrev Inv-loop : tie.InvT-loop
 Inv-loop last store₀ marks₀ alts₀ x n y pack names table list word limit from₀ to₀ texts₀ place₀ flag₀ store marks alts from to texts place flag =
@@ -26,23 +24,14 @@ loop-holds c = (running-start _ _ _ _ _ _ _ _ _ (c .before .before .before .befo
 turn-requires : tie.Need-turn-requires Inv-loop μ-loop
 turn-requires c κs = (c .before .before .before .before .loop .inv .0 .rooms, (c .before .before .before .before .loop .inv .0 .set, ((running-to (c .before .before .before .before .loop .inv .0) (c .before .before .before .before .before .before .before .before .before .before .before .before .pre .1 .0 .known) (c .before .before .before .before .before .before .before .before .before .before .before .before .pre .1 .1 .0 .0), running-apart (c .before .before .before .before .loop .inv .0) (c .before .before .before .before .before .before .before .before .before .before .before .before .pre .1 .1 .0 .1)), (c .before .before .before .before .loop .inv .1, (c .before .before .before .before .before .before .before .before .before .before .before .before .pre .1 .1 .1 .1, c .before .before .before .loop-test .taken)))))
 
-enum-known-k : tie.Need-enum-known-k Inv-loop μ-loop
-enum-known-k c = search needs
-
 add-place : tie.Need-add-place Inv-loop μ-loop
 add-place c = let s = running-step (c .before .before .before .before .before .before .before .before .before .before .before .before .before .before .loop .inv .0) (c .before .before .before .before .before .before .before .before .before .before .before .before .before .loop-test .taken) _ _ (c .before .before .before .before .before .before .before .before .before .turn .ensures) _ _ _ (c .before .k .given .1) in omega (arith, s .within, c .before .before .before .before .before .before .before .before .before .before .before .before .before .before .before .before .before .before .before .before .before .before .good .1 .1 .1 .1 .1 .1 .1 .1 .1 .1 .1 .0 .0)
-
-either-requires : tie.Need-either-requires Inv-loop μ-loop
-either-requires c κs = search needs
 
 loop-less : tie.Need-loop-less Inv-loop μ-loop
 loop-less c = let s = running-step (c .before .before .before .before .before .before .before .before .before .before .before .before .before .before .before .loop .inv .0) (c .before .before .before .before .before .before .before .before .before .before .before .before .before .before .loop-test .taken) _ _ (c .before .before .before .before .before .before .before .before .before .before .turn .ensures) _ _ _ (c .before .before .k .given .1) in omega (arith, s .some, s .within)
 
 loop-again : tie.Need-loop-again Inv-loop μ-loop
 loop-again c = (running-into (c .before .before .before .before .before .before .before .before .before .before .before .before .before .before .before .loop .inv .0) (c .before .before .before .before .before .before .before .before .before .before .before .before .before .before .loop-test .taken) _ _ (c .before .before .before .before .before .before .before .before .before .before .turn .ensures) _ _ _ _ (c .before .before .k .given .1) (c .either .ensures), omega (arith, c .before .before .before .before .before .alts .given, c .before .before .before .before .before .before .before .before .before .before .before .before .before .before .before .loop .inv .1))
-
-enum-known-step : tie.Need-enum-known-step Inv-loop μ-loop
-enum-known-step c = search needs
 
 add-place-2 : tie.Need-add-place-2 Inv-loop μ-loop
 add-place-2 c = let s = running-skip (c .before .before .before .before .before .before .before .before .before .before .before .before .before .before .loop .inv .0) (c .before .before .before .before .before .before .before .before .before .before .before .before .before .loop-test .taken) _ _ (c .before .before .before .before .before .before .before .before .before .turn .ensures) _ (c .before .step .given .1) in omega (arith, s .within, c .before .before .before .before .before .before .before .before .before .before .before .before .before .before .before .before .before .before .before .before .before .before .good .1 .1 .1 .1 .1 .1 .1 .1 .1 .1 .1 .0 .0)
@@ -52,9 +41,6 @@ loop-less-2 c = let s = running-skip (c .before .before .before .before .before 
 
 loop-again-2 : tie.Need-loop-again-2 Inv-loop μ-loop
 loop-again-2 c = (running-kept (c .before .before .before .before .before .before .before .before .before .before .before .before .before .before .loop .inv .0) (c .before .before .before .before .before .before .before .before .before .before .before .before .before .loop-test .taken) _ _ (c .before .before .before .before .before .before .before .before .before .turn .ensures) _ (c .before .step .given .1), omega (arith, c .before .before .before .before .alts .given, c .before .before .before .before .before .before .before .before .before .before .before .before .before .before .loop .inv .1))
-
-enum-told : tie.Need-enum-told Inv-loop μ-loop
-enum-told c = search needs
 
 same-length : tie.Need-same-length Inv-loop μ-loop
 same-length c = omega (arith, c .before .before .before .before .before .before .before .before .turn .ensures .rooms .long-store, c .before .before .before .before .before .before .before .before .before .before .before .before .before .before .before .before .before .before .before .before .before .pre .0 .long-store)
@@ -88,16 +74,16 @@ run-spec =
     μ-loop
     loop-holds
     turn-requires
-    enum-known-k
+    (λ c. search needs)
     add-place
-    either-requires
+    (λ c κs. search needs)
     loop-less
     loop-again
-    enum-known-step
+    (λ c. search needs)
     add-place-2
     loop-less-2
     loop-again-2
-    enum-told
+    (λ c. search needs)
     same-length
     same-length-2
     same-length-3

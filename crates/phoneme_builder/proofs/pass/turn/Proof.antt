@@ -4,14 +4,9 @@ use Rattle.phoneme_builder.proofs.MatchLaws.{match-by, match-none}
 use Rattle.phoneme_builder.proofs.PassLaws.{expression-short, turn-letter, turn-rule, turn-long}
 use Rattle.phoneme_builder.proofs.pass.turn.Statement.{statement}
 use Rattle.phoneme_builder.proofs.pass.turn.Tie as tie
-use Rattle.phoneme_builder.proofs.pass.turn.Reads as reads
-use Rattle.phoneme_builder.proofs.pass.turn.Lts as lts
 
 first-match-requires : tie.Need-first-match-requires
 first-match-requires c κs = (c .before .before .before .before .before .before .before .pre .1 .1 .1 .1 .0 .0, c .before .before .before .before .before .before .before .pre .1 .1 .1 .1 .1)
-
-enum-known-step : tie.Need-enum-known-step
-enum-known-step c = search needs
 
 sub-apply-rule : tie.Need-sub-apply-rule
 sub-apply-rule c = match-by _ _ _ _ _ (c .before .before .before .before .before .before .first-match .ensures) _ _ _ (c .before .before .before .before .step .given .1) .placed .order
@@ -25,15 +20,6 @@ part-apply-rule-end c = match-by _ _ _ _ _ (c .before .before .before .before .b
 apply-rule-requires : tie.Need-apply-rule-requires
 apply-rule-requires c κs = (c .before .before .before .before .before .before .before .before .before .before .before .before .before .before .before .pre .0, (c .before .before .before .before .before .before .before .before .before .before .before .before .before .before .before .pre .1 .0, (c .before .before .before .before .before .before .before .before .before .before .before .before .before .before .before .pre .1 .1 .0, (c .before .before .before .before .before .before .before .before .before .before .before .before .before .before .before .pre .1 .1 .1 .0, (expression-short (match-by _ _ _ _ _ (c .before .before .before .before .before .before .before .first-match .ensures) _ _ _ (c .before .before .before .before .before .step .given .1) .placed), c .before .before .before .before .before .before .before .before .before .before .before .before .before .before .before .pre .1 .1 .1 .1 .0 .1)))))
 
-enum-known-k : tie.Need-enum-known-k
-enum-known-k c = search needs
-
-enum-told : tie.Need-enum-told
-enum-told c = search needs
-
-enum-told-2 : tie.Need-enum-told-2
-enum-told-2 c = search needs
-
 letter-turn-requires : tie.Need-letter-turn-requires
 letter-turn-requires c κs = (c .before .before .before .before .before .before .before .before .before .before .before .before .pre .0, (c .before .before .before .before .before .before .before .before .before .before .before .before .pre .1 .0, (c .before .before .before .before .before .before .before .before .before .before .before .before .pre .1 .1 .0, c .before .before .before .before .before .before .before .before .before .before .before .before .pre .1 .1 .1 .1 .1)))
 
@@ -43,9 +29,6 @@ same-length c = omega (arith, c .before .before .before .before .before .before 
 same-length-2 : tie.Need-same-length-2
 same-length-2 c = omega (arith, c .before .before .before .before .before .before .before .before .before .apply-rule .ensures .rooms .long-marks, c .before .before .before .before .before .before .before .before .before .before .before .before .before .before .before .before .before .before .before .before .before .before .before .before .before .pre .0 .long-marks)
 
-same-length-3 : tie.Need-same-length-3
-same-length-3 c = omega (arith, c .before .before .before .before .alts .given)
-
 returns : tie.Need-returns
 returns c = turn-rule _ _ _ _ _ _ _ _ _ _ _ _ _ _ _ (match-by _ _ _ _ _ (c .before .before .before .before .before .before .before .before .before .before .before .before .before .before .before .before .before .first-match .ensures) _ _ _ (c .before .before .before .before .before .before .before .before .before .before .before .before .before .before .before .step .given .1)) _ (c .before .before .before .before .before .before .before .before .before .apply-rule .ensures) _ (c .before .k .given .1)
 
@@ -54,9 +37,6 @@ same-length-4 c = omega (arith, c .before .before .before .before .before .befor
 
 same-length-5 : tie.Need-same-length-5
 same-length-5 c = omega (arith, c .before .before .before .before .before .before .before .before .apply-rule .ensures .rooms .long-marks, c .before .before .before .before .before .before .before .before .before .before .before .before .before .before .before .before .before .before .before .before .before .before .before .before .pre .0 .long-marks)
-
-same-length-6 : tie.Need-same-length-6
-same-length-6 c = omega (arith, c .before .before .before .alts .given)
 
 returns-2 : tie.Need-returns-2
 returns-2 c = turn-long _ _ _ _ _ _ _ _ _ _ _ _ _ _ _ (match-by _ _ _ _ _ (c .before .before .before .before .before .before .before .before .before .before .before .before .before .before .before .before .first-match .ensures) _ _ _ (c .before .before .before .before .before .before .before .before .before .before .before .before .before .before .step .given .1)) _ (c .before .before .before .before .before .before .before .before .apply-rule .ensures) (c .enum-told .given .1)
@@ -75,22 +55,22 @@ turn-spec =
     tie.close
     (tie.spec
     first-match-requires
-    enum-known-step
+    (λ c. search needs)
     sub-apply-rule
     part-apply-rule-start
     part-apply-rule-end
     apply-rule-requires
-    enum-known-k
-    enum-told
-    enum-told-2
+    (λ c. search needs)
+    (λ c. search needs)
+    (λ c. search needs)
     letter-turn-requires
     same-length
     same-length-2
-    same-length-3
+    (λ c. omega (arith, c .before .before .before .before .alts .given))
     returns
     same-length-4
     same-length-5
-    same-length-6
+    (λ c. omega (arith, c .before .before .before .alts .given))
     returns-2
     same-length-7
     same-length-8

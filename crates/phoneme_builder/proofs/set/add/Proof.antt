@@ -2,25 +2,12 @@ use borrow.Author.Needs.{needs}
 use Rattle.phoneme_builder.proofs.AddLaws.{room-in, write-set, add-is}
 use Rattle.phoneme_builder.proofs.set.add.Statement.{statement}
 use Rattle.phoneme_builder.proofs.set.add.Tie as tie
-use Rattle.phoneme_builder.proofs.set.add.Reads as reads
-use Rattle.phoneme_builder.proofs.set.add.Lts as lts
-use Rattle.phoneme_builder.proofs.set.enter.Reads as enter-reads
-use Rattle.phoneme_builder.proofs.set.write.Reads as write-reads
 
 write-requires : tie.Need-write-requires
 write-requires c κs = room-in (c .before .before .before .before .before .pre .0) (c .before .before .before .before .before .pre .1 .1 .0) _ (c .before .before .before .before .before .pre .1 .1 .1)
 
-add-enter : tie.Need-add-enter
-add-enter c = search needs
-
 enter-requires : tie.Need-enter-requires
 enter-requires c κs = (write-set (c .before .before .before .before .before .before .before .before .before .before .pre .0) _ _ (c .before .before .before .before .write .ensures), (c .before .before .before .before .before .before .before .before .before .before .pre .1 .0, c .before .before .before .before .before .before .before .before .before .before .pre .1 .1))
-
-same-length : tie.Need-same-length
-same-length c = search needs
-
-same-length-2 : tie.Need-same-length-2
-same-length-2 c = search needs
 
 returns : tie.Need-returns
 returns c = add-is (c .before .before .before .before .before .before .before .before .before .before .before .before .before .pre .0) (c .before .before .before .before .before .before .before .before .before .before .before .before .before .args .a .now) (c .before .before .before .before .before .before .before .before .before .before .before .before .before .args .b .now) _ (c .before .before .before .before .before .before .before .write .ensures) (c .before .before .before .before .before .before .before .before .before .before .before .before .before .pre .1 .1 .0) (c .before .before .before .before .before .before .before .before .before .before .before .before .before .pre .1 .1 .1) (c .before .before .before .before .before .before .before .before .before .before .before .before .before .args .g) _ _ (c .before .before .enter .ensures)
@@ -30,8 +17,8 @@ add-spec =
     tie.close
     (tie.spec
     write-requires
-    add-enter
+    (λ c. search needs)
     enter-requires
-    same-length
-    same-length-2
+    (λ c. search needs)
+    (λ c. search needs)
     returns)

@@ -3,14 +3,6 @@ use native.Mathlib.Omega.{arith}
 use Rattle.phoneme_builder.proofs.PartLaws.{none-at, begun}
 use Rattle.phoneme_builder.proofs.set.begin.Statement.{statement}
 use Rattle.phoneme_builder.proofs.set.begin.Tie as tie
-use Rattle.phoneme_builder.proofs.set.begin.Reads as reads
-use Rattle.phoneme_builder.proofs.set.begin.Lts as lts
-
-slice-aggregate-add-to : tie.Need-slice-aggregate-add-to
-slice-aggregate-add-to c = search needs
-
-slice-aggregate-add-to-2 : tie.Need-slice-aggregate-add-to-2
-slice-aggregate-add-to-2 c = search needs
 
 add-to-requires : tie.Need-add-to-requires
 add-to-requires c κs = (c .before .before .before .before .before .before .pre .0, (none-at (c .before .before .before .before .before .before .pre .0) (c .before .before .before .before .before .before .pre .1 .0), (c .before .before .before .before .before .before .pre .1 .1, search needs)))
@@ -28,8 +20,8 @@ pub begin-spec : {M : Type 1} → statement M
 begin-spec =
     tie.close
     (tie.spec
-    slice-aggregate-add-to
-    slice-aggregate-add-to-2
+    (λ c. search needs)
+    (λ c. search needs)
     add-to-requires
     same-length
     same-length-2

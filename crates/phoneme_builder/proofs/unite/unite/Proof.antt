@@ -7,8 +7,6 @@ use Rattle.phoneme_builder.proofs.PartLaws.{walk-in}
 use Rattle.phoneme_builder.proofs.UniteLaws.{Uniting, uniting-start, uniting-end, uniting-next, uniting-full}
 use Rattle.phoneme_builder.proofs.unite.unite.Statement.{statement}
 use Rattle.phoneme_builder.proofs.unite.unite.Tie as tie
-use Rattle.phoneme_builder.proofs.unite.unite.Reads as reads
-use Rattle.phoneme_builder.proofs.unite.unite.Lts as lts
 
 abbrev Inv-loop : tie.InvT-loop
 Inv-loop store₀ marks₀ to n from nn g i₀ k₀ store marks i k = Uniting (decoded g) (arena store₀ marks₀) from nn to n (arena store marks) k i
@@ -19,23 +17,14 @@ abbrev μ-loop : tie.MeasureT-loop
 loop-holds : tie.Need-loop-holds Inv-loop μ-loop
 loop-holds c = uniting-start _ (c .before .before .pre .0) (c .before .before .pre .1 .0) (c .before .before .pre .1 .1 .0) (c .before .before .pre .1 .1 .1 .0)
 
-add-i : tie.Need-add-i Inv-loop μ-loop
-add-i c = search needs
-
 unite-text-requires : tie.Need-unite-text-requires Inv-loop μ-loop
 unite-text-requires c κs = (c .before .before .before .loop .inv .at .rooms, (walk-in (c .before .before .before .loop .inv .at) _ (c .before .before .loop-test .taken), (c .before .before .before .loop .inv .now-is, c .before .before .before .before .before .before .pre .1 .1 .1 .1)))
-
-enum-known-x : tie.Need-enum-known-x Inv-loop μ-loop
-enum-known-x c = search needs
 
 loop-less : tie.Need-loop-less Inv-loop μ-loop
 loop-less c = omega (arith, c .before .before .before .before .before .before .before .before .before .before .loop-test .taken)
 
 loop-again : tie.Need-loop-again Inv-loop μ-loop
 loop-again c = uniting-next (c .before .before .before .before .before .before .before .before .before .before .before .loop .inv) (c .before .before .before .before .before .before .before .before .before .before .loop-test .taken) (c .before .before .before .before .before .before .before .unite-text .ensures) _ (c .before .x .given .1)
-
-enum-told : tie.Need-enum-told Inv-loop μ-loop
-enum-told c = search needs
 
 same-length : tie.Need-same-length Inv-loop μ-loop
 same-length c = omega (arith, c .before .before .before .before .before .before .unite-text .ensures .rooms .long-store, c .before .before .before .before .before .before .before .before .before .before .before .before .before .pre .0 .long-store)
@@ -62,12 +51,12 @@ unite-spec =
     Inv-loop
     μ-loop
     loop-holds
-    add-i
+    (λ c. search needs)
     unite-text-requires
-    enum-known-x
+    (λ c. search needs)
     loop-less
     loop-again
-    enum-told
+    (λ c. search needs)
     same-length
     same-length-2
     returns

@@ -5,19 +5,9 @@ use Rattle.phoneme_builder.proofs.AddLaws.{room-in}
 use Rattle.phoneme_builder.proofs.UniteLaws.{unite-index, unite-code, unite-at, unite-le, unite-full, unite-in}
 use Rattle.phoneme_builder.proofs.unite.unite_row.Statement.{statement}
 use Rattle.phoneme_builder.proofs.unite.unite_row.Tie as tie
-use Rattle.phoneme_builder.proofs.unite.unite_row.Reads as reads
-use Rattle.phoneme_builder.proofs.unite.unite_row.Lts as lts
-use Rattle.phoneme_builder.proofs.set.find.Reads as find-reads
-use Rattle.phoneme_builder.proofs.set.open_at.Reads as open-at-reads
-use Rattle.phoneme_builder.proofs.set.write.Reads as write-reads
-use Rattle.phoneme_builder.proofs.marks.packed.Reads as packed-reads
-use Rattle.phoneme_builder.proofs.marks.merged.Reads as merged-reads
 
 find-requires : tie.Need-find-requires
 find-requires c κs = c .before .before .before .before .before .pre .0
-
-enum-known-p : tie.Need-enum-known-p
-enum-known-p c = search needs
 
 mul-merged : tie.Need-mul-merged
 mul-merged c = omega (arith, unite-index (c .before .before .before .before .before .before .before .before .before .pre .0) (c .before .before .before .before .before .before .before .before .before .args .a .now) _ _ (c .before .before .before .find .ensures) (c .before .p .given .1), c .before .before .before .before .before .before .before .before .before .pre .0 .long-marks)
@@ -34,20 +24,8 @@ mul-marks c = omega (arith, unite-index (c .before .before .before .before .befo
 slice-write-marks : tie.Need-slice-write-marks
 slice-write-marks c = unite-index (c .before .before .before .before .before .before .before .before .before .before .before .pre .0) (c .before .before .before .before .before .before .before .before .before .before .before .args .a .now) _ _ (c .before .before .before .before .before .find .ensures) (c .before .before .before .p .given .1)
 
-enum-known-p-2 : tie.Need-enum-known-p-2
-enum-known-p-2 c = search needs
-
-same-length : tie.Need-same-length
-same-length c = search needs
-
-same-length-2 : tie.Need-same-length-2
-same-length-2 c = search needs
-
 returns : tie.Need-returns
 returns c = unite-full (c .before .before .before .before .before .before .before .before .before .before .pre .0) (c .before .before .before .before .before .before .before .before .before .before .args .a .now) _ _ (c .before .before .before .before .find .ensures) (c .before .before .p2 .given .1) (c .if1 .taken) _ _
-
-slice-aggregate-write : tie.Need-slice-aggregate-write
-slice-aggregate-write c = search needs
 
 write-requires : tie.Need-write-requires
 write-requires c κs = room-in (c .before .before .before .before .before .before .before .before .before .before .before .before .pre .0) (c .before .before .if1 .left) _ (omega (arith, c .before .before .before .before .before .before .before .before .before .before .before .before .pre .1 .1 .1))
@@ -58,23 +36,8 @@ packed-requires c κs = (code-small (c .before .before .before .before .before .
 open-at-requires : tie.Need-open-at-requires
 open-at-requires c κs = (unite-le (c .before .before .before .before .before .before .before .before .before .before .before .before .before .before .before .before .before .pre .0) (c .before .before .before .before .before .before .before .before .before .before .before .before .before .before .before .before .before .args .a .now) _ _ (c .before .before .before .before .before .before .before .before .before .before .before .find .ensures) (c .before .before .before .before .before .before .before .before .before .p2 .given .1), omega (arith, c .before .before .before .before .before .before .before .if1 .left, c .before .before .before .before .before .before .before .before .before .before .before .before .before .before .before .before .before .pre .0 .long-marks))
 
-add-t31 : tie.Need-add-t31
-add-t31 c = search needs
-
-same-length-3 : tie.Need-same-length-3
-same-length-3 c = search needs
-
-same-length-4 : tie.Need-same-length-4
-same-length-4 c = search needs
-
 returns-2 : tie.Need-returns-2
 returns-2 c = unite-at (c .before .before .before .before .before .before .before .before .before .before .before .pre .0) (c .before .before .before .before .before .before .before .before .before .before .before .args .a .now) _ _ (c .before .before .before .before .before .find .ensures) (c .before .before .before .p .given .1) _ _ (c .before .before .before .before .before .before .before .before .before .before .before .pre .1 .1 .0) _ (c .merged .ensures)
-
-same-length-5 : tie.Need-same-length-5
-same-length-5 c = search needs
-
-same-length-6 : tie.Need-same-length-6
-same-length-6 c = search needs
 
 returns-3 : tie.Need-returns-3
 returns-3 c = unite-in (c .before .before .before .before .before .before .before .before .before .before .before .before .before .before .before .before .before .before .before .before .pre .0) (c .before .before .before .before .before .before .before .before .before .before .before .before .before .before .before .before .before .before .before .before .args .a .now) _ _ (c .before .before .before .before .before .before .before .before .before .before .before .before .before .before .find .ensures) (c .before .before .before .before .before .before .before .before .before .before .before .before .p2 .given .1) (c .before .before .before .before .before .before .before .before .before .before .if1 .left) (c .before .before .before .before .before .before .before .before .before .before .before .before .before .before .before .before .before .before .before .before .pre .1 .1 .1) _ (c .before .before .before .before .before .before .before .write .ensures) (c .before .before .before .before .before .before .before .before .before .before .before .before .before .before .before .before .before .before .before .before .pre .1 .0) _ _ (c .before .before .before .packed .ensures) _ (c .before .marks .given) (c .before .before .open-at .ensures)
@@ -84,24 +47,24 @@ unite-row-spec =
     tie.close
     (tie.spec
     find-requires
-    enum-known-p
+    (λ c. search needs)
     mul-merged
     slice-read-merged
     merged-requires
     mul-marks
     slice-write-marks
-    enum-known-p-2
-    same-length
-    same-length-2
+    (λ c. search needs)
+    (λ c. search needs)
+    (λ c. search needs)
     returns
-    slice-aggregate-write
+    (λ c. search needs)
     write-requires
     packed-requires
     open-at-requires
-    add-t31
-    same-length-3
-    same-length-4
+    (λ c. search needs)
+    (λ c. search needs)
+    (λ c. search needs)
     returns-2
-    same-length-5
-    same-length-6
+    (λ c. search needs)
+    (λ c. search needs)
     returns-3)

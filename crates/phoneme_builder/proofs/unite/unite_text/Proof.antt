@@ -5,23 +5,12 @@ use Rattle.phoneme_builder.proofs.PartLaws.{langs-in, code-in, copied-e
 use Rattle.phoneme_builder.proofs.UniteLaws.{united-text}
 use Rattle.phoneme_builder.proofs.unite.unite_text.Statement.{statement}
 use Rattle.phoneme_builder.proofs.unite.unite_text.Tie as tie
-use Rattle.phoneme_builder.proofs.unite.unite_text.Reads as reads
-use Rattle.phoneme_builder.proofs.unite.unite_text.Lts as lts
-
-slice-aggregate-copy-text : tie.Need-slice-aggregate-copy-text
-slice-aggregate-copy-text c = search needs
 
 copy-text-requires : tie.Need-copy-text-requires
 copy-text-requires c κs = (c .before .before .before .before .before .pre .1 .0, refl)
 
 langs-of-requires : tie.Need-langs-of-requires
 langs-of-requires c κs = langs-in (c .before .before .before .before .before .before .before .before .pre .1 .0)
-
-sub-unite-to : tie.Need-sub-unite-to
-sub-unite-to c = search needs
-
-part-unite-to-start : tie.Need-part-unite-to-start
-part-unite-to-start c = search needs
 
 part-unite-to-end : tie.Need-part-unite-to-end
 part-unite-to-end c = omega (arith, c .before .before .before .before .before .before .copy-text .ensures .short, c .before .before .before .before .before .row2 .given)
@@ -42,11 +31,11 @@ pub unite-text-spec : {M : Type 1} → statement M
 unite-text-spec =
     tie.close
     (tie.spec
-    slice-aggregate-copy-text
+    (λ c. search needs)
     copy-text-requires
     langs-of-requires
-    sub-unite-to
-    part-unite-to-start
+    (λ c. search needs)
+    (λ c. search needs)
     part-unite-to-end
     unite-to-requires
     same-length

@@ -3,8 +3,6 @@ use borrow.Author.Tests.{eq-eqb, ne-eqb}
 use Rattle.phoneme_builder.specs.Contracts.{areBuffers}
 use Rattle.phoneme_builder.proofs.words.are_buffers.Statement.{statement}
 use Rattle.phoneme_builder.proofs.words.are_buffers.Tie as tie
-use Rattle.phoneme_builder.proofs.words.are_buffers.Reads as reads
-use Rattle.phoneme_builder.proofs.words.are_buffers.Lts as lts
 use Rattle.base.proofs.PickLaws.{and-rest, and-none}
 
 returns : tie.Need-returns

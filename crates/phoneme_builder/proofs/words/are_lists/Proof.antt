@@ -1,8 +1,6 @@
 use Rattle.phoneme_builder.specs.TableContracts.{areLists}
 use Rattle.phoneme_builder.proofs.words.are_lists.Statement.{statement}
 use Rattle.phoneme_builder.proofs.words.are_lists.Tie as tie
-use Rattle.phoneme_builder.proofs.words.are_lists.Reads as reads
-use Rattle.phoneme_builder.proofs.words.are_lists.Lts as lts
 use Rattle.base.proofs.PickLaws.{cases}
 
 returns : tie.Need-returns

@@ -5,29 +5,12 @@ use Rattle.phoneme_builder.specs.Passes.{finalPass}
 use Rattle.phoneme_builder.specs.TableContracts.{matcher}
 use Rattle.phoneme_builder.proofs.words.final_passes.Statement.{statement}
 use Rattle.phoneme_builder.proofs.words.final_passes.Tie as tie
-use Rattle.phoneme_builder.proofs.words.final_passes.Reads as reads
-use Rattle.phoneme_builder.proofs.words.final_passes.Lts as lts
-
-sub-other : tie.Need-sub-other
-sub-other c = search needs
 
 final-pass-requires : tie.Need-final-pass-requires
 final-pass-requires c κs = (c .before .before .before .before .before .before .before .before .before .pre .0, (c .before .before .before .before .before .before .before .before .before .pre .1 .0, (apart-first _ (c .before .before .before .before .before .before .before .before .before .pre .1 .1 .0), (c .before .before .before .before .before .before .before .before .before .pre .1 .1 .1 .0, (c .before .before .before .before .before .before .before .before .before .pre .1 .1 .1 .1 .0 .0, c .before .before .before .before .before .before .before .before .before .pre .1 .1 .1 .1 .1)))))
 
-enum-known-texts : tie.Need-enum-known-texts
-enum-known-texts c = search needs
-
 final-pass-requires-2 : tie.Need-final-pass-requires-2
 final-pass-requires-2 c κs = (c .before .before .before .before .before .before .before .before .before .before .before .before .final-pass .ensures .rooms, (finished-set (c .before .before .before .before .before .before .before .before .before .before .before .before .final-pass .ensures) _ _ (c .before .before .before .before .texts .given .1), (apart-second, (omega (arith, c .before .before .before .before .before .before .before .alts .given, c .before .before .before .before .before .before .before .before .before .before .before .before .before .before .before .before .before .before .before .before .before .before .pre .1 .1 .1 .0), (c .before .before .before .before .before .before .before .before .before .before .before .before .before .before .before .before .before .before .before .before .before .before .pre .1 .1 .1 .1 .0 .1, c .before .before .before .before .before .before .before .before .before .before .before .before .before .before .before .before .before .before .before .before .before .before .pre .1 .1 .1 .1 .1)))))
-
-raised-requires : tie.Need-raised-requires
-raised-requires c κs = search needs
-
-enum-told : tie.Need-enum-told
-enum-told c = search needs
-
-enum-told-2 : tie.Need-enum-told-2
-enum-told-2 c = search needs
 
 same-length : tie.Need-same-length
 same-length c = omega (arith, c .before .before .before .before .before .before .before .final-pass2 .ensures .rooms .long-store, c .before .before .before .before .before .before .before .before .before .before .before .before .before .before .before .before .before .before .before .before .before .before .before .before .before .before .before .before .before .before .pre .0 .long-store)
@@ -47,9 +30,6 @@ same-length-4 c = omega (arith, c .before .before .before .before .before .befor
 same-length-5 : tie.Need-same-length-5
 same-length-5 c = omega (arith, c .before .before .before .before .before .before .before .before .final-pass .ensures .rooms .long-marks, c .before .before .before .before .before .before .before .before .before .before .before .before .before .before .before .before .before .before .pre .0 .long-marks)
 
-same-length-6 : tie.Need-same-length-6
-same-length-6 c = omega (arith, c .before .before .before .alts .given)
-
 returns-2 : tie.Need-returns-2
 returns-2 c = first-long (finalPass (c .before .before .before .before .before .before .before .before .before .before .before .before .before .before .before .before .before .before .args .limit) (c .before .before .before .before .before .before .before .before .before .before .before .before .before .before .before .before .before .before .args .names .now) (matcher (c .before .before .before .before .before .before .before .before .before .before .before .before .before .before .before .before .before .before .args .pack .now) (c .before .before .before .before .before .before .before .before .before .before .before .before .before .before .before .before .before .before .args .table .now) (c .before .before .before .before .before .before .before .before .before .before .before .before .before .before .before .before .before .before .args .last))) _ _ (c .before .before .before .before .before .before .before .before .final-pass .ensures .rooms) (finished-long (c .before .before .before .before .before .before .before .before .final-pass .ensures) (c .enum-told .given .1))
 
@@ -59,9 +39,6 @@ same-length-7 c = omega (arith, c .before .before .before .before .before .befor
 same-length-8 : tie.Need-same-length-8
 same-length-8 c = omega (arith, c .before .before .before .before .before .before .before .before .final-pass .ensures .rooms .long-marks, c .before .before .before .before .before .before .before .before .before .before .before .before .before .before .before .before .before .before .pre .0 .long-marks)
 
-same-length-9 : tie.Need-same-length-9
-same-length-9 c = omega (arith, c .before .before .before .alts .given)
-
 returns-3 : tie.Need-returns-3
 returns-3 c = first-many (finalPass (c .before .before .before .before .before .before .before .before .before .before .before .before .before .before .before .before .before .before .args .limit) (c .before .before .before .before .before .before .before .before .before .before .before .before .before .before .before .before .before .before .args .names .now) (matcher (c .before .before .before .before .before .before .before .before .before .before .before .before .before .before .before .before .before .before .args .pack .now) (c .before .before .before .before .before .before .before .before .before .before .before .before .before .before .before .before .before .before .args .table .now) (c .before .before .before .before .before .before .before .before .before .before .before .before .before .before .before .before .before .before .args .last))) _ _ (c .before .before .before .before .before .before .before .before .final-pass .ensures .rooms) (finished-many (c .before .before .before .before .before .before .before .before .final-pass .ensures) (c .enum-told2 .given .1))
 
@@ -69,22 +46,22 @@ pub final-passes-spec : {M : Type 1} → statement M
 final-passes-spec =
     tie.close
     (tie.spec
-    sub-other
+    (λ c. search needs)
     final-pass-requires
-    enum-known-texts
+    (λ c. search needs)
     final-pass-requires-2
-    raised-requires
-    enum-told
-    enum-told-2
+    (λ c κs. search needs)
+    (λ c. search needs)
+    (λ c. search needs)
     same-length
     same-length-2
     same-length-3
     returns
     same-length-4
     same-length-5
-    same-length-6
+    (λ c. omega (arith, c .before .before .before .alts .given))
     returns-2
     same-length-7
     same-length-8
-    same-length-9
+    (λ c. omega (arith, c .before .before .before .alts .given))
     returns-3)

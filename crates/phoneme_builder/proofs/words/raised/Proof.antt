@@ -3,20 +3,6 @@ use Rattle.phoneme_builder.specs.Contracts.{raisedBy}
 use Rattle.phoneme_builder.proofs.FinalLaws.{raised-into}
 use Rattle.phoneme_builder.proofs.words.raised.Statement.{statement}
 use Rattle.phoneme_builder.proofs.words.raised.Tie as tie
-use Rattle.phoneme_builder.proofs.words.raised.Reads as reads
-use Rattle.phoneme_builder.proofs.words.raised.Lts as lts
-
-enum-known-pass : tie.Need-enum-known-pass
-enum-known-pass c = search needs
-
-either-requires : tie.Need-either-requires
-either-requires c κs = search needs
-
-enum-told : tie.Need-enum-told
-enum-told c = search needs
-
-enum-told-2 : tie.Need-enum-told-2
-enum-told-2 c = search needs
 
 returns : tie.Need-returns
 returns c = raised-into _ _ _ _ _ (c .before .before .pass .given .1) (c .either .ensures)
@@ -33,10 +19,10 @@ pub raised-spec : {M : Type 1} → statement M
 raised-spec =
     tie.close
     (tie.spec
-    enum-known-pass
-    either-requires
-    enum-told
-    enum-told-2
+    (λ c. search needs)
+    (λ c κs. search needs)
+    (λ c. search needs)
+    (λ c. search needs)
     returns
     returns-2
     returns-3)

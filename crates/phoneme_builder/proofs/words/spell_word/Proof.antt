@@ -7,8 +7,6 @@ use Rattle.phoneme_builder.specs.TableContracts.{matcher}
 use Rattle.phoneme_builder.proofs.FinalLaws.{main-texts, main-long, main-set, main-side, main-started, then-raised, first-long}
 use Rattle.phoneme_builder.proofs.words.spell_word.Statement.{statement}
 use Rattle.phoneme_builder.proofs.words.spell_word.Tie as tie
-use Rattle.phoneme_builder.proofs.words.spell_word.Reads as reads
-use Rattle.phoneme_builder.proofs.words.spell_word.Lts as lts
 
 begin-requires : tie.Need-begin-requires
 begin-requires c κs = (c .before .before .before .before .before .before .before .before .before .pre .0, (omega arith, c .before .before .before .before .before .before .before .before .before .pre .1 .1 .1 .0))
@@ -16,17 +14,8 @@ begin-requires c κs = (c .before .before .before .before .before .before .befor
 run-requires : tie.Need-run-requires
 run-requires c κs = (c .before .before .before .before .before .before .before .begin .ensures .rooms, (c .before .before .before .before .before .before .before .begin .ensures .set, (omega arith, (c .before .before .before .before .before .before .before .before .before .before .before .before .before .before .before .before .before .pre .1 .0, (c .before .before .before .before .before .before .before .before .before .before .before .before .before .before .before .before .before .pre .1 .1 .0 .0, c .before .before .before .before .before .before .before .before .before .before .before .before .before .before .before .before .before .pre .1 .1 .1 .1)))))
 
-enum-known-texts : tie.Need-enum-known-texts
-enum-known-texts c = search needs
-
 final-passes-requires : tie.Need-final-passes-requires
 final-passes-requires c κs = (c .before .before .before .before .before .before .before .before .before .before .before .before .run .ensures .rooms, (main-set (c .before .before .before .before .before .before .before .before .before .before .before .before .run .ensures) _ _ _ (c .before .before .before .before .texts .given .1), (main-side (c .before .before .before .before .before .before .before .before .before .before .before .before .run .ensures) _ _ _ (c .before .before .before .before .texts .given .1), (omega (arith, c .before .before .before .before .before .before .before .alts .given, c .before .before .before .before .before .before .before .before .before .before .before .before .before .before .before .before .before .before .before .before .before .before .before .before .before .before .before .before .before .before .pre .1 .0), ((c .before .before .before .before .before .before .before .before .before .before .before .before .before .before .before .before .before .before .before .before .before .before .before .before .before .before .before .before .before .before .pre .1 .1 .0 .1, c .before .before .before .before .before .before .before .before .before .before .before .before .before .before .before .before .before .before .before .before .before .before .before .before .before .before .before .before .before .before .pre .1 .1 .0 .2), c .before .before .before .before .before .before .before .before .before .before .before .before .before .before .before .before .before .before .before .before .before .before .before .before .before .before .before .before .before .before .pre .1 .1 .1 .1)))))
-
-raised-requires : tie.Need-raised-requires
-raised-requires c κs = search needs
-
-enum-told : tie.Need-enum-told
-enum-told c = search needs
 
 same-length : tie.Need-same-length
 same-length c = omega (arith, c .before .before .before .before .before .before .before .final-passes .ensures .rooms .long-store, c .before .before .before .before .before .before .before .before .before .before .before .before .before .before .before .before .before .before .before .before .before .before .before .before .before .before .before .before .before .before .before .before .before .before .before .before .before .before .pre .0 .long-store)
@@ -47,9 +36,6 @@ same-length-4 c = omega (arith, c .before .before .before .before .before .befor
 same-length-5 : tie.Need-same-length-5
 same-length-5 c = omega (arith, c .before .before .before .before .before .before .before .before .run .ensures .rooms .long-marks, c .before .before .before .before .before .before .before .before .before .before .before .before .before .before .before .before .before .before .before .before .before .before .before .before .before .before .pre .0 .long-marks)
 
-same-length-6 : tie.Need-same-length-6
-same-length-6 c = omega (arith, c .before .before .before .alts .given)
-
 returns-2 : tie.Need-returns-2
 unfolding wordOf
 returns-2 c = first-long (λ (l : List Entry). then (finalPass (c .before .before .before .before .before .before .before .before .before .before .before .before .before .before .before .before .before .before .before .before .before .before .before .before .before .before .args .limit) (c .before .before .before .before .before .before .before .before .before .before .before .before .before .before .before .before .before .before .before .before .before .before .before .before .before .before .args .names .now) (matcher (c .before .before .before .before .before .before .before .before .before .before .before .before .before .before .before .before .before .before .before .before .before .before .before .before .before .before .args .pack .now) (c .before .before .before .before .before .before .before .before .before .before .before .before .before .before .before .before .before .before .before .before .before .before .before .before .before .before .args .table .now) (c .before .before .before .before .before .before .before .before .before .before .before .before .before .before .before .before .before .before .before .before .before .before .before .before .before .before .args .common)) l) (finalPass (c .before .before .before .before .before .before .before .before .before .before .before .before .before .before .before .before .before .before .before .before .before .before .before .before .before .before .args .limit) (c .before .before .before .before .before .before .before .before .before .before .before .before .before .before .before .before .before .before .before .before .before .before .before .before .before .before .args .names .now) (matcher (c .before .before .before .before .before .before .before .before .before .before .before .before .before .before .before .before .before .before .before .before .before .before .before .before .before .before .args .pack .now) (c .before .before .before .before .before .before .before .before .before .before .before .before .before .before .before .before .before .before .before .before .before .before .before .before .before .before .args .table .now) (c .before .before .before .before .before .before .before .before .before .before .before .before .before .before .before .before .before .before .before .before .before .before .before .before .before .before .args .last)))) _ _ (c .before .before .before .before .before .before .before .before .run .ensures .rooms) (main-long (main-started _ _ _ _ _ _ _ _ _ (c .before .before .before .before .before .before .before .before .before .before .before .before .before .before .before .before .begin .ensures .is) (c .before .before .before .before .before .before .before .before .run .ensures)) (c .enum-told .given .1))
@@ -60,15 +46,15 @@ spell-word-spec =
     (tie.spec
     begin-requires
     run-requires
-    enum-known-texts
+    (λ c. search needs)
     final-passes-requires
-    raised-requires
-    enum-told
+    (λ c κs. search needs)
+    (λ c. search needs)
     same-length
     same-length-2
     same-length-3
     returns
     same-length-4
     same-length-5
-    same-length-6
+    (λ c. omega (arith, c .before .before .before .alts .given))
     returns-2)

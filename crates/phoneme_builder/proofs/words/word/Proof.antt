@@ -6,15 +6,7 @@ use Rattle.phoneme_builder.specs.Contracts.{areBuffers}
 use Rattle.phoneme_builder.proofs.WordLaws.{set-below, rooms-by, alts-by, lists-by, fit-limit, fit-buffers, fit-lists, code-by, of-set, texts-in, word-done, word-long, word-many, word-unfit, not-so}
 use Rattle.phoneme_builder.proofs.words.word.Statement.{statement}
 use Rattle.phoneme_builder.proofs.words.word.Tie as tie
-use Rattle.phoneme_builder.proofs.words.word.Reads as reads
-use Rattle.phoneme_builder.proofs.words.word.Lts as lts
 use Rattle.base.proofs.PickLaws.{yes-by}
-
-is-fit-requires : tie.Need-is-fit-requires
-is-fit-requires c κs = search needs
-
-coded-requires : tie.Need-coded-requires
-coded-requires c κs = search needs
 
 spell-word-requires : tie.Need-spell-word-requires
 spell-word-requires c κs =
@@ -23,17 +15,8 @@ spell-word-requires c κs =
     let y = yes-by (c .before .before .before .before .before .is-fit .ensures) (c .before .before .before .before .if1 .taken) in
     (rooms-by (fit-buffers (c .before .before .before .before .before .before .before .before .before .before .before .before .before .before .args .limit) b l y) _ _ _ refl, (alts-by (fit-buffers (c .before .before .before .before .before .before .before .before .before .before .before .before .before .before .args .limit) b l y) _ _ refl, (lists-by (fit-lists (c .before .before .before .before .before .before .before .before .before .before .before .before .before .before .args .limit) b l y) _ refl, (code-by _ (set-below _ _ (c .before .before .before .before .before .before .before .before .before .before .before .before .before .before .good .1 .1 .1 .1 .1 .1 .1 .1 .1 .0 .1 .1)) _ (c .before .before .before .coded .ensures), fit-limit (c .before .before .before .before .before .before .before .before .before .before .before .before .before .before .args .limit) b l y))))
 
-enum-known-texts : tie.Need-enum-known-texts
-enum-known-texts c = search needs
-
 give-requires : tie.Need-give-requires
 give-requires c κs = texts-in (c .before .before .before .before .before .before .before .before .before .before .before .before .spell-word .ensures) (c .before .before .before .before .texts .given .1)
-
-enum-told : tie.Need-enum-told
-enum-told c = search needs
-
-enum-told-2 : tie.Need-enum-told-2
-enum-told-2 c = search needs
 
 same-length : tie.Need-same-length
 same-length c = c .before .before .before .before .before .before .before .before .before .before .before .before .before .before .store .given
@@ -81,13 +64,13 @@ pub word-spec : {M : Type 1} → statement M
 word-spec =
     tie.close
     (tie.spec
-    is-fit-requires
-    coded-requires
+    (λ c κs. search needs)
+    (λ c κs. search needs)
     spell-word-requires
-    enum-known-texts
+    (λ c. search needs)
     give-requires
-    enum-told
-    enum-told-2
+    (λ c. search needs)
+    (λ c. search needs)
     same-length
     same-length-2
     same-length-3

@@ -1,8 +1,6 @@
 use Rattle.phonemes.specs.Contracts.{expressionTold}
 use Rattle.phonemes.proofs.phonemes.told_of.Statement.{statement}
 use Rattle.phonemes.proofs.phonemes.told_of.Tie as tie
-use Rattle.phonemes.proofs.phonemes.told_of.Reads as reads
-use Rattle.phonemes.proofs.phonemes.told_of.Lts as lts
 use Rattle.base.proofs.PickLaws.{cases}
 
 returns : tie.Need-returns

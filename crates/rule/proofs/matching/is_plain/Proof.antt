@@ -1,8 +1,6 @@
 use Rattle.rule.specs.Matching.{plainCode}
 use Rattle.rule.proofs.matching.is_plain.Statement.{statement}
 use Rattle.rule.proofs.matching.is_plain.Tie as tie
-use Rattle.rule.proofs.matching.is_plain.Reads as reads
-use Rattle.rule.proofs.matching.is_plain.Lts as lts
 use Rattle.base.proofs.PickLaws.{cases}
 
 returns : tie.Need-returns

@@ -1,8 +1,6 @@
 use borrow.Author.Needs.{needs}
 use Rattle.rule.proofs.matching.is_visible.Statement.{statement}
 use Rattle.rule.proofs.matching.is_visible.Tie as tie
-use Rattle.rule.proofs.matching.is_visible.Reads as reads
-use Rattle.rule.proofs.matching.is_visible.Lts as lts
 use Rattle.base.proofs.PickLaws.{cases}
 use Rattle.rule.specs.Contracts.{visible}
 

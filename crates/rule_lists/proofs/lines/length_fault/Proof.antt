@@ -20,11 +20,5 @@ returns-4 : tie.Need-returns-4
 unfolding lengthFault
 returns-4 c = search cases
 
-returns-5 : tie.Need-returns-5
-returns-5 c = search fault-laws
-
-returns-6 : tie.Need-returns-6
-returns-6 c = search fault-laws
-
 pub length-fault-spec : {M : Type 1} → statement M
-length-fault-spec = tie.close (tie.spec returns returns-2 returns-3 returns-4 returns-5 returns-6)
+length-fault-spec = tie.close (tie.spec returns returns-2 returns-3 returns-4 (λ c. search fault-laws) (λ c. search fault-laws))

@@ -4,45 +4,6 @@ use Rattle.rule_lists.specs.Lines.{ruleFault}
 use Rattle.rule_lists.proofs.lines.rule_fault.Statement.{statement}
 use Rattle.rule_lists.proofs.lines.rule_fault.Tie as tie
 
-length-fault-requires : tie.Need-length-fault-requires
-length-fault-requires c κs = search needs
-
-enum-known-why : tie.Need-enum-known-why
-enum-known-why c = search needs
-
-enum-told : tie.Need-enum-told
-enum-told c = search needs
-
-left-form-requires : tie.Need-left-form-requires
-left-form-requires c κs = search needs
-
-context-fault-requires : tie.Need-context-fault-requires
-context-fault-requires c κs = search needs
-
-enum-known-why-2 : tie.Need-enum-known-why-2
-enum-known-why-2 c = search needs
-
-enum-told-2 : tie.Need-enum-told-2
-enum-told-2 c = search needs
-
-right-form-requires : tie.Need-right-form-requires
-right-form-requires c κs = search needs
-
-context-fault-requires-2 : tie.Need-context-fault-requires-2
-context-fault-requires-2 c κs = search needs
-
-enum-known-why-3 : tie.Need-enum-known-why-3
-enum-known-why-3 c = search needs
-
-enum-told-3 : tie.Need-enum-told-3
-enum-told-3 c = search needs
-
-check-expression-requires : tie.Need-check-expression-requires
-check-expression-requires c κs = search needs
-
-expression-fault-requires : tie.Need-expression-fault-requires
-expression-fault-requires c κs = search needs
-
 returns : tie.Need-returns
 unfolding ruleFault
 returns c = search fault-laws
@@ -63,19 +24,19 @@ pub rule-fault-spec : {M : Type 1} → statement M
 rule-fault-spec =
     tie.close
     (tie.spec
-    length-fault-requires
-    enum-known-why
-    enum-told
-    left-form-requires
-    context-fault-requires
-    enum-known-why-2
-    enum-told-2
-    right-form-requires
-    context-fault-requires-2
-    enum-known-why-3
-    enum-told-3
-    check-expression-requires
-    expression-fault-requires
+    (λ c κs. search needs)
+    (λ c. search needs)
+    (λ c. search needs)
+    (λ c κs. search needs)
+    (λ c κs. search needs)
+    (λ c. search needs)
+    (λ c. search needs)
+    (λ c κs. search needs)
+    (λ c κs. search needs)
+    (λ c. search needs)
+    (λ c. search needs)
+    (λ c κs. search needs)
+    (λ c κs. search needs)
     returns
     returns-2
     returns-3

@@ -3,14 +3,5 @@ use Rattle.rules_parser.proofs.FieldLaws.{byte-past}
 use Rattle.rules_parser.proofs.fields.byte_at.Statement.{statement}
 use Rattle.rules_parser.proofs.fields.byte_at.Tie as tie
 
-shared-slice-read-result : tie.Need-shared-slice-read-result
-shared-slice-read-result c = search needs
-
-returns : tie.Need-returns
-returns c = search needs
-
-returns-2 : tie.Need-returns-2
-returns-2 c = search byte-past
-
 pub byte-at-spec : {M : Type 1} → statement M
-byte-at-spec = tie.close (tie.spec shared-slice-read-result returns returns-2)
+byte-at-spec = tie.close (tie.spec (λ c. search needs) (λ c. search needs) (λ c. search byte-past))

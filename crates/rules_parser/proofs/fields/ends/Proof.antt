@@ -3,11 +3,5 @@ use borrow.Author.Needs.{needs}
 use Rattle.rules_parser.proofs.fields.ends.Statement.{statement}
 use Rattle.rules_parser.proofs.fields.ends.Tie as tie
 
-span-requires : tie.Need-span-requires
-span-requires c κs = search needs
-
-returns : tie.Need-returns
-returns c = search fields
-
 pub ends-spec : {M : Type 1} → statement M
-ends-spec = tie.close (tie.spec span-requires returns)
+ends-spec = tie.close (tie.spec (λ c κs. search needs) (λ c. search fields))

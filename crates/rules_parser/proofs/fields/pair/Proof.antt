@@ -5,15 +5,6 @@ use Rattle.rules_parser.proofs.fields.pair.Statement.{statement}
 use Rattle.rules_parser.proofs.fields.pair.Tie as tie
 use Rattle.base.proofs.PickLaws.{cases}
 
-shared-slice-read-if2 : tie.Need-shared-slice-read-if2
-shared-slice-read-if2 c = search needs
-
-add-byte-at : tie.Need-add-byte-at
-add-byte-at c = search needs
-
-byte-at-requires : tie.Need-byte-at-requires
-byte-at-requires c κs = search needs
-
 returns : tie.Need-returns
 unfolding pairAt
 returns c = search (cases, eqb-by)
@@ -29,4 +20,4 @@ returns-3 c = search cases
 pub pair-spec : {M : Type 1} → statement M
 pair-spec =
     tie.close
-    (tie.spec shared-slice-read-if2 add-byte-at byte-at-requires returns returns-2 returns-3)
+    (tie.spec (λ c. search needs) (λ c. search needs) (λ c κs. search needs) returns returns-2 returns-3)

@@ -16,35 +16,8 @@ abbrev μ-loop : tie.MeasureT-loop
 loop-holds : tie.Need-loop-holds Inv-loop μ-loop
 loop-holds c = (search needs, search closes)
 
-pair-requires : tie.Need-pair-requires Inv-loop μ-loop
-pair-requires c κs = search needs
-
-add-t8 : tie.Need-add-t8 Inv-loop μ-loop
-add-t8 c = search needs
-
-add-t9 : tie.Need-add-t9 Inv-loop μ-loop
-add-t9 c = search needs
-
-returns : tie.Need-returns Inv-loop μ-loop
-returns c = search closes
-
-shared-slice-read-counted : tie.Need-shared-slice-read-counted Inv-loop μ-loop
-shared-slice-read-counted c = search needs
-
-counted-requires : tie.Need-counted-requires Inv-loop μ-loop
-counted-requires c κs = search needs
-
-add-i : tie.Need-add-i Inv-loop μ-loop
-add-i c = search needs
-
-loop-less : tie.Need-loop-less Inv-loop μ-loop
-loop-less c = search needs
-
 loop-again : tie.Need-loop-again Inv-loop μ-loop
 loop-again c = (search closes, search closes)
-
-returns-2 : tie.Need-returns-2 Inv-loop μ-loop
-returns-2 c = search closes
 
 pub close-at-spec : {M : Type 1} → statement M
 close-at-spec =
@@ -53,13 +26,13 @@ close-at-spec =
     Inv-loop
     μ-loop
     loop-holds
-    pair-requires
-    add-t8
-    add-t9
-    returns
-    shared-slice-read-counted
-    counted-requires
-    add-i
-    loop-less
+    (λ c κs. search needs)
+    (λ c. search needs)
+    (λ c. search needs)
+    (λ c. search closes)
+    (λ c. search needs)
+    (λ c κs. search needs)
+    (λ c. search needs)
+    (λ c. search needs)
     loop-again
-    returns-2)
+    (λ c. search closes))

@@ -4,9 +4,6 @@ use Rattle.rules_parser.proofs.files.counted.Statement.{statement}
 use Rattle.rules_parser.proofs.files.counted.Tie as tie
 use Rattle.base.proofs.PickLaws.{cases}
 
-add-result : tie.Need-add-result
-add-result c = search needs
-
 returns : tie.Need-returns
 unfolding countedOf
 returns c = search cases
@@ -16,4 +13,4 @@ unfolding countedOf
 returns-2 c = search cases
 
 pub counted-spec : {M : Type 1} → statement M
-counted-spec = tie.close (tie.spec add-result returns returns-2)
+counted-spec = tie.close (tie.spec (λ c. search needs) returns returns-2)

@@ -5,27 +5,6 @@ use Rattle.rules_parser.proofs.lines.guess_line.Statement.{statement}
 use Rattle.rules_parser.proofs.lines.guess_line.Tie as tie
 use Rattle.base.proofs.PickLaws.{cases}
 
-field-at-requires : tie.Need-field-at-requires
-field-at-requires c κs = search needs
-
-enum-known-pattern : tie.Need-enum-known-pattern
-enum-known-pattern c = search needs
-
-parted-requires : tie.Need-parted-requires
-parted-requires c κs = search needs
-
-enum-known-names : tie.Need-enum-known-names
-enum-known-names c = search needs
-
-guess-end-requires : tie.Need-guess-end-requires
-guess-end-requires c κs = search needs
-
-enum-told : tie.Need-enum-told
-enum-told c = search needs
-
-enum-told-2 : tie.Need-enum-told-2
-enum-told-2 c = search needs
-
 returns : tie.Need-returns
 unfolding guessAt
 returns c = search (in-order, cases)
@@ -42,13 +21,13 @@ pub guess-line-spec : {M : Type 1} → statement M
 guess-line-spec =
     tie.close
     (tie.spec
-    field-at-requires
-    enum-known-pattern
-    parted-requires
-    enum-known-names
-    guess-end-requires
-    enum-told
-    enum-told-2
+    (λ c κs. search needs)
+    (λ c. search needs)
+    (λ c κs. search needs)
+    (λ c. search needs)
+    (λ c κs. search needs)
+    (λ c. search needs)
+    (λ c. search needs)
     returns
     returns-2
     returns-3)

@@ -4,12 +4,6 @@ use Rattle.rules_parser.proofs.lines.guess_told.Statement.{statement}
 use Rattle.rules_parser.proofs.lines.guess_told.Tie as tie
 use Rattle.base.proofs.PickLaws.{cases}
 
-text-good-requires : tie.Need-text-good-requires
-text-good-requires c κs = search needs
-
-text-good-requires-2 : tie.Need-text-good-requires-2
-text-good-requires-2 c κs = search needs
-
 returns : tie.Need-returns
 unfolding guessTold
 returns c = search cases
@@ -24,4 +18,4 @@ returns-3 c = search cases
 
 pub guess-told-spec : {M : Type 1} → statement M
 guess-told-spec =
-    tie.close (tie.spec text-good-requires text-good-requires-2 returns returns-2 returns-3)
+    tie.close (tie.spec (λ c κs. search needs) (λ c κs. search needs) returns returns-2 returns-3)

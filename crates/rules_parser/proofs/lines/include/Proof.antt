@@ -5,18 +5,6 @@ use Rattle.rules_parser.proofs.lines.include.Statement.{statement}
 use Rattle.rules_parser.proofs.lines.include.Tie as tie
 use Rattle.base.proofs.PickLaws.{cases}
 
-parted-requires : tie.Need-parted-requires
-parted-requires c κs = search needs
-
-enum-known-name : tie.Need-enum-known-name
-enum-known-name c = search needs
-
-ends-requires : tie.Need-ends-requires
-ends-requires c κs = search needs
-
-enum-told : tie.Need-enum-told
-enum-told c = search needs
-
 returns : tie.Need-returns
 unfolding includeAt
 returns c = search (in-order, cases)
@@ -32,4 +20,4 @@ returns-3 c = search (in-order, cases)
 pub include-spec : {M : Type 1} → statement M
 include-spec =
     tie.close
-    (tie.spec parted-requires enum-known-name ends-requires enum-told returns returns-2 returns-3)
+    (tie.spec (λ c κs. search needs) (λ c. search needs) (λ c κs. search needs) (λ c. search needs) returns returns-2 returns-3)

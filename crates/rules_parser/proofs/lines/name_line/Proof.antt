@@ -5,21 +5,6 @@ use Rattle.rules_parser.proofs.lines.name_line.Statement.{statement}
 use Rattle.rules_parser.proofs.lines.name_line.Tie as tie
 use Rattle.base.proofs.PickLaws.{cases}
 
-field-at-requires : tie.Need-field-at-requires
-field-at-requires c κs = search needs
-
-enum-known-name : tie.Need-enum-known-name
-enum-known-name c = search needs
-
-ends-requires : tie.Need-ends-requires
-ends-requires c κs = search needs
-
-name-told-requires : tie.Need-name-told-requires
-name-told-requires c κs = search needs
-
-enum-told : tie.Need-enum-told
-enum-told c = search needs
-
 returns : tie.Need-returns
 unfolding nameAt
 returns c = search (in-order, cases)
@@ -36,11 +21,11 @@ pub name-line-spec : {M : Type 1} → statement M
 name-line-spec =
     tie.close
     (tie.spec
-    field-at-requires
-    enum-known-name
-    ends-requires
-    name-told-requires
-    enum-told
+    (λ c κs. search needs)
+    (λ c. search needs)
+    (λ c κs. search needs)
+    (λ c κs. search needs)
+    (λ c. search needs)
     returns
     returns-2
     returns-3)

@@ -4,18 +4,6 @@ use Rattle.rules_parser.proofs.lines.rule_told.Statement.{statement}
 use Rattle.rules_parser.proofs.lines.rule_told.Tie as tie
 use Rattle.base.proofs.PickLaws.{pick-no, and-second, yes-by, no-by, cases}
 
-text-good-requires : tie.Need-text-good-requires
-text-good-requires c κs = search needs
-
-text-good-requires-2 : tie.Need-text-good-requires-2
-text-good-requires-2 c κs = search needs
-
-text-good-requires-3 : tie.Need-text-good-requires-3
-text-good-requires-3 c κs = search needs
-
-text-good-requires-4 : tie.Need-text-good-requires-4
-text-good-requires-4 c κs = search needs
-
 returns : tie.Need-returns
 unfolding ruleTold
 returns c = search cases
@@ -40,10 +28,10 @@ pub rule-told-spec : {M : Type 1} → statement M
 rule-told-spec =
     tie.close
     (tie.spec
-    text-good-requires
-    text-good-requires-2
-    text-good-requires-3
-    text-good-requires-4
+    (λ c κs. search needs)
+    (λ c κs. search needs)
+    (λ c κs. search needs)
+    (λ c κs. search needs)
     returns
     returns-2
     returns-3

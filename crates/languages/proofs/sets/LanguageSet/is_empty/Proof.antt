@@ -3,17 +3,6 @@ use Rattle.languages.specs.Sets.{isEmpty}
 use borrow.Author.Needs.{needs}
 use Rattle.languages.proofs.sets.LanguageSet.is_empty.Statement.{statement}
 use Rattle.languages.proofs.sets.LanguageSet.is_empty.Tie as tie
-use Rattle.languages.proofs.sets.LanguageSet.is_empty.Reads as reads
-use Rattle.languages.proofs.sets.LanguageSet.is_empty.Lts as lts
-
-enum-told : tie.Need-enum-told
-enum-told c = search needs
-
-enum-told-2 : tie.Need-enum-told-2
-enum-told-2 c = search needs
-
-enum-known-self : tie.Need-enum-known-self
-enum-known-self c = search needs
 
 returns : tie.Need-returns
 unfolding isEmpty
@@ -29,4 +18,4 @@ returns-3 c = search (told isEmpty)
 
 pub is-empty-spec : {M : Type 1} → statement M
 is-empty-spec =
-    tie.close (tie.spec enum-told enum-told-2 enum-known-self returns returns-2 returns-3)
+    tie.close (tie.spec (λ c. search needs) (λ c. search needs) (λ c. search needs) returns returns-2 returns-3)

@@ -3,18 +3,7 @@ use Rattle.languages.specs.Sets.{singleOf}
 use borrow.Author.Needs.{needs}
 use Rattle.languages.proofs.sets.LanguageSet.single.Statement.{statement}
 use Rattle.languages.proofs.sets.LanguageSet.single.Tie as tie
-use Rattle.languages.proofs.sets.LanguageSet.single.Reads as reads
-use Rattle.languages.proofs.sets.LanguageSet.single.Lts as lts
 use Rattle.base.proofs.PickLaws.{cases}
-
-enum-told : tie.Need-enum-told
-enum-told c = search needs
-
-enum-told-2 : tie.Need-enum-told-2
-enum-told-2 c = search needs
-
-enum-known-self : tie.Need-enum-known-self
-enum-known-self c = search needs
 
 returns : tie.Need-returns
 unfolding singleOf
@@ -35,4 +24,4 @@ returns-4 c = search (told singleOf, cases)
 pub single-spec : {M : Type 1} → statement M
 single-spec =
     tie.close
-    (tie.spec enum-told enum-told-2 enum-known-self returns returns-2 returns-3 returns-4)
+    (tie.spec (λ c. search needs) (λ c. search needs) (λ c. search needs) returns returns-2 returns-3 returns-4)
