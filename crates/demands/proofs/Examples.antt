@@ -17,7 +17,8 @@ use Rattle.regex_optim.specs.Contexts.{literalForm, withoutCaret, withoutDollar
 use Rattle.phonemes.specs.Expressions.{onFirst, cutAt, inside, extra, piecesIn, allOf, formedPiece, formed, boxOf, withBits, namesMask, pieceMask, isListed, textOf, maskSet, setOf, checkedOf}
 use Rattle.rule.specs.Matching.{plainCode, plainIn, ruleText, codeIn, firstCode, ruleMatches}
 use Rattle.pack.specs.Reading.{andRead, readByte, readMore, readNumber, readText, readMany}
-use Rattle.pack.specs.Packs.{Rule, Pack, rule, readNames, readGuesses, readRule, readList, all, isLess, increasing, holds, namesGood, guessesGood, isForm, isGood, ruleGood, orderedByCode, listGood, accepted, section, placeIn, namesIn, listCount, listSections, isNil, endSection, packOf}
+use Rattle.pack.specs.Packs.{Pack, readNames, readGuesses, readRule, readList, all, isLess, increasing, holds, namesGood, guessesGood, isForm, isGood, orderedByCode, listGood, accepted, section, placeIn, namesIn, listCount, listSections, isNil, endSection, packOf}
+use Rattle.rule_lines.specs.Rules.{Rule, rule, ruleGood}
 use Rattle.choices.specs.Texts.{Text, byOrder}
 use Rattle.choices.specs.Apply.{Alternative, Places, Entry, insert, under, candidates, enter, apply, start}
 use Rattle.choices.specs.Choices.{here, there, Choice, end, choose, spelt, leaves, times}

@@ -16,7 +16,8 @@ use Rattle.texts.specs.Parts.{prefixOf}
 use Rattle.rule.specs.Matching.{ruleMatches}
 use Rattle.choices.specs.Texts.{Text}
 use Rattle.pack.specs.Reading.{got}
-use Rattle.pack.specs.Packs.{Rule, readRule, listCount, stringsLength}
+use Rattle.pack.specs.Packs.{readRule, listCount, stringsLength}
+use Rattle.rule_lines.specs.Rules.{Rule}
 use Rattle.pack.specs.PlaceContracts.{ruleStandsAt, ruleCount, listAt, readSome}
 use Rattle.pack.specs.declared.rules.RuleAt.{RuleAt}
 use Rattle.pack.specs.declared.rules.RuleAt.the-variants as rules

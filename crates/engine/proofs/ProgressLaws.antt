@@ -21,7 +21,8 @@ use Rattle.letters.proofs.Utf8Laws.{char-at, ill-in}
 use Rattle.name_parts.specs.Contracts.{cap}
 use Rattle.name_parts.proofs.Laws.{clash}
 use Rattle.pack.specs.Reading.{Read, cut, got, readByte}
-use Rattle.pack.specs.Packs.{Verdict, accepted, refused, Rule, readNames, readGuesses, readList, section, placeIn, listSections, endSection, packOf}
+use Rattle.pack.specs.Packs.{Verdict, accepted, refused, readNames, readGuesses, readList, section, placeIn, listSections, endSection, packOf}
+use Rattle.rule_lines.specs.Rules.{Rule}
 use Rattle.choices.specs.Texts.{Text}
 use Rattle.refusals.specs.Numbers.{numberOf}
 use Rattle.refusals.specs.declared.Refusal.{Refusal}

@@ -17,7 +17,8 @@ use Rattle.name_parts.proofs.Laws.{clash}
 use Rattle.prefixes.specs.declared.prefixes.NameType.{NameType}
 use Rattle.prefixes.specs.declared.prefixes.NameType.the-variants.{Ashkenazi, Generic, Sephardic}
 use Rattle.pack.specs.Reading.{Read, cut, got}
-use Rattle.pack.specs.Packs.{Guess, Rule, Pack, accepted, packOf, all, guessesGood, ruleGood, listGood, listCount}
+use Rattle.pack.specs.Packs.{Guess, Pack, accepted, packOf, all, guessesGood, listGood, listCount}
+use Rattle.rule_lines.specs.Rules.{Rule, ruleGood}
 use Rattle.pack_bytes.specs.Bytes.{namesBytes, packBytes}
 use Rattle.pack_bytes.proofs.Laws.{packed}
 use Rattle.bundles.specs.Bundles.{File, Found, missing, found, readBundle}

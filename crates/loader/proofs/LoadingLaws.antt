@@ -15,7 +15,8 @@ use Rattle.name_parts.specs.Contracts.{Put}
 use Rattle.name_parts.proofs.Laws.{put-then, clash}
 use Rattle.prefixes.specs.declared.prefixes.NameType.{NameType}
 use Rattle.pack.specs.Reading.{Read, cut, got}
-use Rattle.pack.specs.Packs.{Guess, Rule, Pack, namesGood}
+use Rattle.pack.specs.Packs.{Guess, Pack, namesGood}
+use Rattle.rule_lines.specs.Rules.{Rule}
 use Rattle.pack_bytes.specs.Bytes.{countBytes, namesBytes, guessBytes, listBytes, packBytes}
 use Rattle.bundles.specs.Bundles.{File, Found, missing, found, readBundle, wellFormed, fileNamed}
 use Rattle.bundles.specs.PlaceContracts as places

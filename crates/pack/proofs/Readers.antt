@@ -15,7 +15,8 @@ use Rattle.languages.specs.declared.names.Next.{Next}
 use Rattle.languages.specs.declared.names.Next.the-variants as next
 use Rattle.languages.proofs.Laws.{StringIs, string-whole, string-cut}
 use Rattle.pack.specs.Reading.{Read, cut, got, andRead, readByte, readMore, readNumber, readText, readMany}
-use Rattle.pack.specs.Packs.{guess, rule, readNames, readGuess, readGuesses, readRule, readList, placeIn}
+use Rattle.pack.specs.Packs.{guess, readNames, readGuess, readGuesses, readRule, readList, placeIn}
+use Rattle.rule_lines.specs.Rules.{rule}
 use Rattle.pack.specs.Contracts.{ByteIs, numberIn, numberAt}
 use Rattle.pack.specs.declared.reading.Number.{Number}
 use Rattle.pack.specs.declared.reading.Number.the-variants as number

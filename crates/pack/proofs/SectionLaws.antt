@@ -20,7 +20,8 @@ use Rattle.languages.proofs.Laws.{name-some}
 use Rattle.languages.specs.declared.names.Next.{Next}
 use Rattle.languages.specs.declared.names.Next.the-variants as next
 use Rattle.pack.specs.Reading.{Read, cut, got, andRead, readByte, readText, readMany}
-use Rattle.pack.specs.Packs.{Rule, Pack, Verdict, accepted, refused, readNames, readGuesses, readList, all, isLess, increasing, holds, any, namesGood, guessesGood, listGood, section, placeIn, namesIn, listCount, listSections, isNil, endSection, packOf, verdictOf, stringsLength}
+use Rattle.pack.specs.Packs.{Pack, Verdict, accepted, refused, readNames, readGuesses, readList, all, isLess, increasing, holds, any, namesGood, guessesGood, listGood, section, placeIn, namesIn, listCount, listSections, isNil, endSection, packOf, verdictOf, stringsLength}
+use Rattle.rule_lines.specs.Rules.{Rule}
 use Rattle.pack.specs.PlaceContracts.{surveyedOf, behindRule, foundIn, placesOf, SurveyIs}
 use Rattle.pack.specs.Contracts.{ByteIs, judge, endIn, allFrom, past, follows, metBy, namesFrom, listsEnd, ListsAre, ended, restOf, restPlaces, RestIs}
 use Rattle.pack.specs.declared.reading.Section.{Section}

@@ -25,7 +25,7 @@ use Rattle.phoneme_builder.specs.declared.matching.Matched.{Matched}
 use Rattle.phoneme_builder.specs.declared.matching.Matched.the-variants.{By, Nothing}
 use Rattle.phoneme_builder.specs.declared.words.Worded.{Worded}
 use Rattle.phoneme_builder.specs.declared.words.Worded.the-variants as worded
-use Rattle.pack.specs.Packs.{Rule}
+use Rattle.rule_lines.specs.Rules.{Rule}
 
 -- the rule's step and where its expression stands in the pack
 pub record RuleIn (s : List ℕ) (word : Text) (place : ℕ) (r : Rule) (step start end : ℕ) : Type 0 where

@@ -11,7 +11,7 @@ use Rattle.letters.specs.declared.utf8.Step.the-variants.{Char, Ill, End}
 use Rattle.languages.specs.declared.sets.LanguageSet.{LanguageSet}
 use Rattle.rule.specs.Matching.{ruleMatches}
 use Rattle.phonemes.specs.Expressions.{bar, piecesIn, textOf, setOf}
-use Rattle.pack.specs.Packs.{Rule}
+use Rattle.rule_lines.specs.Rules.{Rule}
 use Rattle.choices.specs.Texts.{Text}
 use Rattle.choices.specs.Apply.{Alternative, Entry, NextSet, overlong, nextSet, apply, start}
 use Rattle.refusals.specs.declared.Refusal.the-variants.{TextTooLong}

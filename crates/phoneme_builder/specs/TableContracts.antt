@@ -7,7 +7,8 @@ use mathlib.Core.List.{List}
 use lib.Dec.{eqb, ltb}
 use lib.ListN.{length, getD, drop}
 use Rattle.base.specs.Pick.{and}
-use Rattle.pack.specs.Packs.{Rule, readRule}
+use Rattle.pack.specs.Packs.{readRule}
+use Rattle.rule_lines.specs.Rules.{Rule}
 use Rattle.phoneme_builder.specs.Passes.{Matcher, firstMatch}
 use Rattle.pack.specs.PlaceContracts.{readSome}
 

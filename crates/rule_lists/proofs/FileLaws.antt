@@ -12,7 +12,8 @@ use Rattle.base.specs.Pick.{pick}
 use Rattle.refusals.specs.declared.Refusal.{Refusal}
 use Rattle.refusals.specs.declared.Refusal.the-variants.{FileMissing, PatternEmpty, TooMuch}
 use Rattle.name_parts.proofs.Laws.{clash}
-use Rattle.pack.specs.Packs.{Rule, orderedByCode}
+use Rattle.pack.specs.Packs.{orderedByCode}
+use Rattle.rule_lines.specs.Rules.{Rule}
 use Rattle.pack_bytes.specs.Bytes.{textBytes, countBytes, ruleBytes, listBytes}
 use Rattle.pack_bytes.specs.Contracts as bytes
 use Rattle.bundles.specs.Bundles.{File, Found, missing, found, fileNamed}

@@ -12,7 +12,7 @@ use Rattle.base.specs.Pick.{pick}
 use Rattle.refusals.specs.declared.Refusal.{Refusal}
 use Rattle.refusals.specs.declared.Refusal.the-variants.{FileMissing, IncludeTooDeep}
 use Rattle.rule.specs.Matching.{firstCode}
-use Rattle.pack.specs.Packs.{Rule}
+use Rattle.rule_lines.specs.Rules.{Rule}
 use Rattle.bundles.specs.Bundles.{Found, missing, found, fileNamed}
 use Rattle.rules_parser.specs.Fields.{partOf}
 use Rattle.rules_parser.specs.Files.{itemAt}

@@ -12,7 +12,8 @@ use Rattle.regex_optim.specs.declared.OptimizedRegex.{OptimizedRegex}
 use Rattle.regex_optim.specs.declared.OptimizedRegex.the-variants.{AllStringsMatcher, IsEmpty, Equals, StartsWith, EndsWith, EqualsChar, StartsWithChar, EndsWithChar, Outside}
 use Rattle.phonemes.specs.declared.answers.Expression.{Expression}
 use Rattle.phonemes.specs.declared.answers.Expression.the-variants.{Good, Malformed, Stranger}
-use Rattle.pack.specs.Packs.{Rule, isForm, isGood, ruleGood}
+use Rattle.pack.specs.Packs.{isForm, isGood}
+use Rattle.rule_lines.specs.Rules.{Rule, ruleGood}
 use Rattle.rule_lists.specs.Lines.{lengthFault, contextFault, expressionFault, faultElse, ruleFault}
 use Rattle.rule_lists.specs.declared.lines.Fault.{Fault}
 use Rattle.rule_lists.specs.declared.lines.Fault.the-variants.{Is, Without}

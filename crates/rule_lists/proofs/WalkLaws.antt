@@ -15,7 +15,7 @@ use Rattle.letters.specs.Utf8.{within, lowSecond, highSecond, code2, code3, cod
 use Rattle.letters.specs.declared.utf8.Step.{Step}
 use Rattle.letters.specs.declared.utf8.Step.the-variants.{Char, Ill, End}
 use Rattle.rule.specs.Matching.{ruleText, codeIn, firstCode}
-use Rattle.pack.specs.Packs.{Rule}
+use Rattle.rule_lines.specs.Rules.{Rule}
 use Rattle.pack_bytes.specs.Contracts as bytes
 use Rattle.bundles.specs.Bundles.{File, Found, missing, found, fileNamed}
 use Rattle.rules_parser.specs.declared.lines.FileKind.the-variants.{Rules}

@@ -7,7 +7,7 @@ use lib.ListN.{length, take, drop}
 use Rattle.base.specs.Pick.{pick}
 use Rattle.refusals.specs.declared.Refusal.{Refusal}
 use Rattle.refusals.specs.declared.Refusal.the-variants.{FileMissing, IncludeTooDeep, LineUnreadable}
-use Rattle.pack.specs.Packs.{Rule}
+use Rattle.rule_lines.specs.Rules.{Rule}
 use Rattle.bundles.specs.Bundles.{Found, missing, found, fileNamed}
 use Rattle.bundles.specs.Contracts.{Stands, filesOf}
 use Rattle.held.specs.Met as met

@@ -11,7 +11,7 @@ use Rattle.regex_optim.specs.declared.OptimizedRegex.the-variants.{AllStringsMa
 use Rattle.phonemes.specs.Expressions.{checkedOf}
 use Rattle.phonemes.specs.declared.answers.Expression.{Expression}
 use Rattle.phonemes.specs.declared.answers.Expression.the-variants.{Good, Malformed, Stranger}
-use Rattle.pack.specs.Packs.{Rule, rule}
+use Rattle.rule_lines.specs.Rules.{Rule, rule}
 use Rattle.held.specs.Files.{Line, passed, is-rule, include, badLine}
 use Rattle.rules_parser.specs.Fields.{partOf}
 use Rattle.rules_parser.specs.Files.{itemsOf}

@@ -1,6 +1,6 @@
 // The lines of a rule file: what each says, or its fault.
 ghost use mathlib.Core.Path.{_≡_};
-ghost use Rattle.pack.specs.Packs.{rule};
+ghost use Rattle.rule_lines.specs.Rules.{rule};
 ghost use Rattle.rule_lists.specs.Lines.{lengthFault, contextFault, expressionFault, ruleFault};
 ghost use Rattle.rule_lists.specs.Contracts.{rowTold, rowAt};
 use phonemes::Expression;
