@@ -26,7 +26,6 @@ use Rattle.rule_lists.specs.Outcomes as outcome
 use Rattle.rule_lists.specs.Lists.{typePrefix, listFiles, listsOf}
 use Rattle.rule_lists.proofs.WalkLaws.{GoodRead}
 use Rattle.rule_lists.proofs.FileLaws.{list-good}
-use Rattle.rule_lists.proofs.GoodLaws.{rule-good}
 use Rattle.loader.specs.Guesses.{guessesOf}
 use Rattle.loader.specs.Loading.{onType, onListed, namesOf, guessFile, listsIn, packFrom, onBundle, loadOf, written, LoadNumbers, doneAt, refusedAt, loadedNumbers, answer, filled, AnswerIs, LoadIs}
 use Rattle.loader.specs.declared.loading.Loaded.{Loaded}
@@ -97,7 +96,7 @@ loaded-from (suc (suc (suc n))) s p e = clash (cc)
 rules-good : (names : List ℕ) (rs : List Rule) → Each (GoodRead names) rs → all (ruleGood names) rs ≡ true
 unfolding all
 rules-good names [] none = refl
-rules-good names (r ∷ rs) (more g w) = and-yes _ _ (rule-good names r g) (rules-good names rs w)
+rules-good names (r ∷ rs) (more g w) = and-yes _ _ g (rules-good names rs w)
 
 lists-good : (names : List ℕ) (fs : List File) (ws : List (List ℕ)) (ls : List (List Rule)) → listsOf names fs ws ≡ outcome.fine ls → Each (λ rs. listGood names rs ≡ true) ls
 unfolding listsOf listGood

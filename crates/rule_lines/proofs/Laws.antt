@@ -6,12 +6,13 @@ use Prim.Native.Nat.{ℕ, zero, suc, _≤_, _<_}
 use native.Mathlib.Omega.{arith}
 use lib.Dec.{eqb, ltb}
 use lib.ListN.{length}
-use borrow.Author.Tests.{eq-eqb, ne-eqb, lt-ltb, le-ltb}
+use mathlib.Core.Logic.{⊎-elim}
+use borrow.Author.Tests.{eq-eqb, ne-eqb, lt-ltb, le-ltb, ltb-false}
 use types.Run.{OneOf, miss}
 use denote.Enum.Declared.{tagOf}
 use Rattle.regex_optim.proofs.OptimizedRegex.{the-type}
 use Rattle.base.specs.Pick.{pick, and}
-use Rattle.base.proofs.PickLaws.{pick-true, pick-false, pick-all, and-yes, and-first, and-second, and-inv}
+use Rattle.base.proofs.PickLaws.{pick-true, pick-false, pick-all, and-yes, and-first, and-second, and-inv, pick-inv}
 use Rattle.refusals.specs.declared.Refusal.{Refusal}
 use Rattle.refusals.specs.declared.Refusal.the-variants.{PatternEmpty, ExpressionWrong, OutsideForms, NameUnlisted, TooMuch}
 use Rattle.regex_optim.specs.Contexts.{Form, opening, withoutCaret, withoutDollar, leftForm, rightForm, kindOf}
@@ -291,6 +292,27 @@ unfolding faultElse
 else-inv Without b e = (refl, e)
 else-inv (Is w) b e = clash (cc)
 
+-- no fault of the lengths: none over 255
+some-length : (p : ℕ) (x : Fault) → pick (eqb p 0) (Is PatternEmpty) x ≡ Without → x ≡ Without
+some-length p x e = ⊎-elim (λ w. clash (cc (w .1))) (λ w. w .1) (pick-inv (eqb p 0) (Is PatternEmpty) x Without e)
+
+short-length : (p : ℕ) (x : Fault) → pick (ltb 255 p) (Is TooMuch) x ≡ Without → (p ≤ 255) × (x ≡ Without)
+short-length p x e = ⊎-elim (λ w. clash (cc (w .1))) (λ w. (ltb-false 255 p (w .0), w .1)) (pick-inv (ltb 255 p) (Is TooMuch) x Without e)
+
+pub record Short (r : Rule) : Type 0 where
+  pub pattern : length (r .pattern) ≤ 255
+  pub left : length (r .left) ≤ 255
+  pub right : length (r .right) ≤ 255
+  pub expression : length (r .expression) ≤ 255
+
+lengths-short : (r : Rule) → lengthsFault r ≡ Without → Short r
+unfolding lengthFault
+lengths-short r h =
+    let a = short-length (length (r .pattern)) _ (some-length (length (r .pattern)) _ h) in
+    let b = short-length (length (r .left)) _ (a .1) in
+    let c = short-length (length (r .right)) _ (b .1) in
+    record { pattern = a .0; left = b .0; right = c .0; expression = short-length (length (r .expression)) Without (c .1) .0 }
+
 some-pattern : (p l r e : ℕ) → lengthFault p l r e ≡ Without → 0 < p
 unfolding lengthFault
 some-pattern zero l r e h = let z = sym (pick-true _ (Is PatternEmpty) _ (eq-eqb 0 0 refl)) ∙ h in clash (cc)
@@ -318,6 +340,10 @@ module _ (names : List ℕ) (r : Rule) (g : ruleGood names r ≡ true) where
   pub good-pattern : 0 < length (r .pattern)
   unfolding ruleFault
   good-pattern = some-pattern _ _ _ _ (else-inv _ _ no-fault .0)
+
+  pub good-short : Short r
+  unfolding ruleFault
+  good-short = lengths-short r (else-inv _ _ no-fault .0)
 
   pub good-expression : (n : ℕ) × (checkedOf names (r .expression) ≡ Good n)
   unfolding ruleFault

@@ -72,7 +72,13 @@ fn expression_fault(checked: Expression) -> Fault
 }
 
 // The first fault of a rule whose strings are texts, in the order 13, 18, 15 (left, then right), 14, 16.
-pub fn rule_fault(names: &[u8], pattern: &[u8], left: &[u8], right: &[u8], expression: &[u8]) -> Fault
+pub fn rule_fault(
+    names: &[u8],
+    pattern: &[u8],
+    left: &[u8],
+    right: &[u8],
+    expression: &[u8],
+) -> Fault
     ensures { λ r. ⌜ r ≡ ruleFault (now (names .entry)) (rule (now (pattern .entry)) (now (left .entry)) (now (right .entry)) (now (expression .entry))) ⌝ }
 {
     match length_fault(pattern.len(), left.len(), right.len(), expression.len()) {

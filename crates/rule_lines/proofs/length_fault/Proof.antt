@@ -4,8 +4,6 @@ use borrow.Author.Needs.{needs}
 use Rattle.rule_lines.proofs.Laws.{fault-laws}
 use Rattle.rule_lines.proofs.length_fault.Statement.{statement}
 use Rattle.rule_lines.proofs.length_fault.Tie as tie
-use Rattle.rule_lines.proofs.length_fault.Reads as reads
-use Rattle.rule_lines.proofs.length_fault.Lts as lts
 
 returns : tie.Need-returns
 unfolding lengthFault
@@ -23,11 +21,5 @@ returns-4 : tie.Need-returns-4
 unfolding lengthFault
 returns-4 c = search cases
 
-returns-5 : tie.Need-returns-5
-returns-5 c = search (fault-laws, needs)
-
-returns-6 : tie.Need-returns-6
-returns-6 c = search (fault-laws, needs)
-
 pub length-fault-spec : {M : Type 1} → statement M
-length-fault-spec = tie.close (tie.spec returns returns-2 returns-3 returns-4 returns-5 returns-6)
+length-fault-spec = tie.close (tie.spec returns returns-2 returns-3 returns-4 (λ c. search (fault-laws, needs)) (λ c. search (fault-laws, needs)))
