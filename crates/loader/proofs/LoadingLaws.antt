@@ -10,11 +10,11 @@ use lib.ListN.{length, take, drop, length-take}
 use borrow.Author.Tests.{le-leb, lt-leb}
 use Rattle.refusals.specs.declared.Refusal.{Refusal}
 use Rattle.refusals.specs.declared.Refusal.the-variants.{SettingUnknown, NoRoom, BundleBroken, FileMissing}
-use Rattle.languages.specs.Names.{stringsOf}
-use Rattle.name_parts.specs.Contracts.{Put}
-use Rattle.name_parts.proofs.Laws.{put-then, clash}
+use Rattle.strings.specs.Reading.{stringsOf, Read, cut, got}
+use Rattle.writing.specs.Contracts.{Put}
+use Rattle.writing.proofs.Laws.{put-then}
+use Rattle.base.proofs.Arms.{clash}
 use Rattle.prefixes.specs.declared.prefixes.NameType.{NameType}
-use Rattle.pack.specs.Reading.{Read, cut, got}
 use Rattle.pack.specs.Packs.{Guess, Rule, Pack, namesGood}
 use Rattle.pack_bytes.specs.Bytes.{countBytes, namesBytes, guessBytes, listBytes, packBytes}
 use Rattle.bundles.specs.Bundles.{File, Found, missing, found, readBundle, wellFormed, fileNamed}

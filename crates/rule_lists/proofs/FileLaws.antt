@@ -11,7 +11,7 @@ use borrow.Author.Tests.{ltb-false, leb-true, le-leb}
 use Rattle.base.specs.Pick.{pick}
 use Rattle.refusals.specs.declared.Refusal.{Refusal}
 use Rattle.refusals.specs.declared.Refusal.the-variants.{FileMissing, PatternEmpty, TooMuch}
-use Rattle.name_parts.proofs.Laws.{clash}
+use Rattle.base.proofs.Arms.{clash}
 use Rattle.pack.specs.Packs.{Rule, orderedByCode}
 use Rattle.pack_bytes.specs.Bytes.{textBytes, countBytes, ruleBytes, listBytes}
 use Rattle.pack_bytes.specs.Contracts as bytes

@@ -3,7 +3,7 @@ ghost use mathlib.Core.Path.{_≡_};
 ghost use mathlib.Core.List;
 ghost use Prim.Native.Nat.{_≤_, _<_};
 ghost use lib.ListN.{length, take};
-ghost use Rattle.name_parts.specs.Contracts.{Put, cap};
+ghost use Rattle.writing.specs.Contracts.{Put, cap};
 ghost use Rattle.rule_lists.specs.Lines.{ruleIn};
 ghost use Rattle.rule_lists.specs.TableContracts.{keysOf};
 ghost use Rattle.rule_lists.specs.WritingContracts.{rulePut, rowPut, SomeKept, RowFits, rowAtPut, RowsPut};
