@@ -13,6 +13,7 @@ use lib.Seq.{sets, length-sets}
 use borrow.Author.Tests.{lt-ltb, le-ltb, le-leb, lt-leb}
 use Rattle.base.specs.Pick.{pick}
 use Rattle.base.proofs.Table.{at}
+use Rattle.base.proofs.One.{one as one-of}
 use Rattle.base.proofs.Stores.{sets-then}
 use Rattle.letters.specs.Utf8.{decodeAt, encode}
 use Rattle.letters.specs.Reading.{Symbol, symbolsOf}

@@ -14,7 +14,7 @@ use Rattle.rules_parser.specs.Fields.{passesOf, spanOf, spanEnd, pairAt}
 use Rattle.rules_parser.specs.Lines.{lineAt}
 use Rattle.rules_parser.specs.Files.{countedOf, closeIn, closeAt, textEnd, nextLine, restBlank, onClose, commentAt, onLine, itemAt}
 use Rattle.rules_parser.specs.declared.fields.Kind.{Kind}
-use Rattle.rules_parser.specs.declared.fields.Kind.the-variants.{NotLf}
+use Rattle.rules_parser.specs.declared.fields.Kind.the-variants.{Blank as blanks, NotLf}
 use Rattle.rules_parser.specs.declared.lines.FileKind.{FileKind}
 use Rattle.rules_parser.specs.declared.lines.Told.{Told}
 use Rattle.rules_parser.specs.declared.lines.Line.{Line}

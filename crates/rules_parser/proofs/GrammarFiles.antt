@@ -17,6 +17,7 @@ use Rattle.rules_parser.proofs.Laws.{items-start, items-end, items-pass
 use Rattle.rules_parser.proofs.GrammarFields.{Of, Stops, span-is, place-in, place-more, place-some, text-ends, plain}
 use Rattle.rules_parser.proofs.GrammarLaws.{Means, line-sound, Told-as, blank-complete, comment-complete, opening-complete, says-complete}
 use Rattle.rules_parser.proofs.GrammarEnds.{every-both, cut, lined, line-text, rest-complete, rest-sound, Closes, close-complete, close-sound}
+use Rattle.rules_parser.specs.declared.fields.Kind.the-variants.{Blank as blanks}
 use Rattle.rules_parser.specs.declared.lines.FileKind.{FileKind}
 use Rattle.rules_parser.specs.declared.lines.Line.{Line}
 use Rattle.rules_parser.specs.declared.lines.Line.the-variants as line

@@ -17,6 +17,7 @@ use Rattle.rules_parser.specs.Lines.{onField, textAt, ruleTold, lastTwo,
 use Rattle.rules_parser.specs.Grammar.{Shape, _⨾_, Just, Anything, Every, NoBlank, Blanks, Gap, Word, CommentLine, OpeningLine, Said, rule, include, guess, name, saidOf, Printable, TextString, TextWord, RuleLine, IncludeLine, verdict, GuessLine, NameLine, LineSays, is-rule, is-include, is-guess, is-name}
 use Rattle.rules_parser.proofs.Ahead.{pick-where}
 use Rattle.rules_parser.proofs.GrammarFields.{Of, Stops, spanned, span-is, place-in, place-more, text-ends, plain, pair-not, pair-told, Written, Where, Met, field-met, Parted, parted-met, Given, Follows, field-given, parted-given, blanks-follow, gap-follows, ends-in, ends-is, ends-told, pair-behind, tail-is, lead, tail-told}
+use Rattle.rules_parser.specs.declared.fields.Kind.the-variants.{Blank as blanks}
 use Rattle.rules_parser.specs.declared.fields.FieldKind.{FieldKind}
 use Rattle.rules_parser.specs.declared.fields.FieldKind.the-variants.{Quoted, Plain}
 use Rattle.rules_parser.specs.declared.fields.Text.{Text}

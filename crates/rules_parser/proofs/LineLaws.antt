@@ -14,6 +14,7 @@ use Rattle.languages.specs.Names.{languageName}
 use Rattle.rule.specs.Matching.{ruleText}
 use Rattle.rules_parser.specs.Fields.{partOf, spanEnd, pairAt}
 use Rattle.rules_parser.specs.Lines.{onField, textAt, fourAt, includeWord, includeAt, ruleAt, trueWord, falseWord, guessTold, acceptTold, guessAt, nameTold, nameAt, toldAt, lineAt}
+use Rattle.rules_parser.specs.declared.fields.Kind.the-variants.{Blank as blanks}
 use Rattle.rules_parser.specs.declared.fields.Text.{Text}
 use Rattle.rules_parser.specs.declared.fields.Field.{Field}
 use Rattle.rules_parser.specs.declared.fields.Field.the-variants.{Is, No}
