@@ -26,8 +26,8 @@ use Rattle.bundles.proofs.Laws.{found-is, found-order, found-within, missing-is
 use Rattle.rule_lists.specs.Outcomes.{Loading, fine, notLoaded, andLoad}
 use Rattle.rule_lists.specs.Lists.{typePrefix, twoOf, threeOf, listFiles, listsOf}
 use Rattle.rule_lists.proofs.ListLaws.{lists-length}
-use Rattle.rule_lists.specs.declared.writing.Written.{Written}
-use Rattle.rule_lists.specs.declared.writing.Written.the-variants as wrote
+use Rattle.rule_lists.specs.declared.list_writing.Written.{Written}
+use Rattle.rule_lists.specs.declared.list_writing.Written.the-variants as wrote
 use Rattle.loader.specs.Languages.{languagesOf}
 use Rattle.loader.specs.Guesses.{guessesOf}
 use Rattle.loader.specs.Loading.{onType, languagesPart, langPart, onListed, namesOf, guessFile, listsIn, packFrom, onBundle, loadOf, written, doneAt, refusedAt, loadedNumbers, answer, filled, AnswerIs}

@@ -31,7 +31,7 @@ use Rattle.pack.specs.declared.sections.Section.the-variants.{End, Bad}
 use Rattle.pack.specs.declared.guessing.GuessAt.{GuessAt}
 use Rattle.pack.specs.declared.guessing.GuessAt.the-variants as guesses
 use Rattle.pack.proofs.Readers.{guess-ends}
-use Rattle.strings.proofs.Readers.{EndOf, end-here, place-drop, then-inv, many-length, byte-ends, number-ends, byte-some, byte-none, count-of, count-cut, mask-of, mask-cut, text-is, text-cut, TextThen, reads-on, text-then}
+use Rattle.strings.proofs.Readers.{EndOf, end-here, place-drop, then-inv, many-length, byte-ends, number-ends, byte-some, byte-none, count-of, count-cut, mask-of, mask-cut, text-is, text-cut, TextThen, reads-on, text-then, some-one, some-cut}
 use Rattle.base.proofs.Arms.{clash}
 use Rattle.pack.proofs.Judging.{Faulty, runs-out, fails, section-ends, section-faulty, judge-fine, judge-faulty, judge-same, walk-on, walk-off, walk-end}
 use Rattle.base.proofs.PickLaws.{and-first, and-second}

@@ -10,8 +10,8 @@ use Rattle.promises.specs.Settled.{Settled, SettledBy}
 use Rattle.writing.specs.Contracts.{Put}
 use Rattle.bundles.proofs.Laws.{numbers-one}
 use Rattle.rule_lists.specs.Outcomes.{Loading, fine, notLoaded}
-use Rattle.rule_lists.specs.declared.writing.Written.{Written}
-use Rattle.rule_lists.specs.declared.writing.Written.the-variants.{Done, Refused}
+use Rattle.rule_lists.specs.declared.list_writing.Written.{Written}
+use Rattle.rule_lists.specs.declared.list_writing.Written.the-variants.{Done, Refused}
 use Rattle.phoneme_builder.specs.declared.words.Worded.{Worded}
 use Rattle.lower_case.proofs.LowerLaws.{lowered-one}
 use Rattle.languages.proofs.NumberLaws.{set-one, listed-one}

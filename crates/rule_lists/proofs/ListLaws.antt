@@ -20,8 +20,8 @@ use Rattle.pack_bytes.proofs.Laws.{bytes-append}
 use Rattle.bundles.specs.Bundles.{File}
 use Rattle.rule_lists.specs.Outcomes.{Loading, fine, notLoaded, andLoad}
 use Rattle.rule_lists.specs.Lists.{listNamed, listsOf, typePrefix, rulesPart, approxPart, exactPart, commonPart, twoOf, threeOf, listFiles}
-use Rattle.rule_lists.specs.declared.writing.Written.{Written}
-use Rattle.rule_lists.specs.declared.writing.Written.the-variants.{Done, Refused}
+use Rattle.rule_lists.specs.declared.list_writing.Written.{Written}
+use Rattle.rule_lists.specs.declared.list_writing.Written.the-variants.{Done, Refused}
 use Rattle.held.specs.Met.{bytesOfAll}
 use Rattle.strings.specs.Contracts.{stringAt}
 use Rattle.rule_lists.specs.Contracts.{WrittenIs}

@@ -9,8 +9,8 @@ ghost use Rattle.rule_lists.specs.Lists.{listNamed, listsOf, twoOf, thre
 ghost use Rattle.rule_lists.specs.Contracts.{Room, WrittenIs};
 ghost use Rattle.held.specs.Met.{bytesOfAll};
 ghost use Rattle.bundles.specs.Contracts.{filesOf};
+use crate::list_writing::Written;
 use crate::walk::Collected;
-use crate::writing::Written;
 use bundles::FileAt;
 use prefixes::NameType;
 use refusals::Refusal;
@@ -35,7 +35,7 @@ fn write_list(
                 Collected::Rules { n } => {
                     crate::tables::sort(rows, n, lasts);
                     Written::Done {
-                        at: crate::writing::put_rows(bundle, rows, lasts, n, out, at),
+                        at: crate::list_writing::put_rows(bundle, rows, lasts, n, out, at),
                     }
                 }
                 Collected::Refused { why, line, file } => Written::Refused { why, line, file },

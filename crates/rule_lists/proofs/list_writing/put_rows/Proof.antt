@@ -3,8 +3,8 @@ use Prim.Native.Nat.{_-_}
 use lib.ListN.{length}
 use borrow.Author.Needs.{needs}
 use Rattle.rule_lists.proofs.WritingLaws.{Putting, rows-laws}
-use Rattle.rule_lists.proofs.writing.put_rows.Statement.{statement}
-use Rattle.rule_lists.proofs.writing.put_rows.Tie as tie
+use Rattle.rule_lists.proofs.list_writing.put_rows.Statement.{statement}
+use Rattle.rule_lists.proofs.list_writing.put_rows.Tie as tie
 
 abbrev Inv-loop : tie.InvT-loop
 Inv-loop bundle rows keys n out₀ at place₀ i₀ out place i = (length out ≡ length out₀) × Putting bundle rows keys n i out₀ place₀ out place

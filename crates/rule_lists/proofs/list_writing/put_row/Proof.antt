@@ -1,7 +1,7 @@
 use borrow.Author.Needs.{needs}
 use Rattle.rule_lists.proofs.WritingLaws.{writing-laws}
-use Rattle.rule_lists.proofs.writing.put_row.Statement.{statement}
-use Rattle.rule_lists.proofs.writing.put_row.Tie as tie
+use Rattle.rule_lists.proofs.list_writing.put_row.Statement.{statement}
+use Rattle.rule_lists.proofs.list_writing.put_row.Tie as tie
 
 pub put-row-spec : {M : Type 1} → statement M
 put-row-spec =

@@ -1,7 +1,7 @@
 use borrow.Author.Needs.{needs}
 use Rattle.rule_lists.proofs.WritingLaws.{writing-laws}
-use Rattle.rule_lists.proofs.writing.put_rule.Statement.{statement}
-use Rattle.rule_lists.proofs.writing.put_rule.Tie as tie
+use Rattle.rule_lists.proofs.list_writing.put_rule.Statement.{statement}
+use Rattle.rule_lists.proofs.list_writing.put_rule.Tie as tie
 
 pub put-rule-spec : {M : Type 1} → statement M
 put-rule-spec =
