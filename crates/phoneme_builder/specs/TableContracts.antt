@@ -9,7 +9,7 @@ use lib.ListN.{length, getD, drop}
 use Rattle.base.specs.Pick.{and}
 use Rattle.pack.specs.Packs.{Rule, readRule}
 use Rattle.phoneme_builder.specs.Passes.{Matcher, firstMatch}
-use Rattle.pack.specs.PlaceContracts.{readSome}
+use Rattle.strings.specs.Contracts.{readSome}
 
 -- where the table has the list's numbers for a byte
 abbrev pub entryFor : ℕ → ℕ → ℕ
