@@ -10,7 +10,7 @@ use Rattle.base.specs.Pick.{and}
 use Rattle.pack.specs.Packs.{readRule}
 use Rattle.rule_lines.specs.Rules.{Rule}
 use Rattle.phoneme_builder.specs.Passes.{Matcher, firstMatch}
-use Rattle.pack.specs.PlaceContracts.{readSome}
+use Rattle.strings.specs.Contracts.{readSome}
 
 -- where the table has the list's numbers for a byte
 abbrev pub entryFor : ℕ → ℕ → ℕ

@@ -15,17 +15,17 @@ use Rattle.base.specs.Pick.{pick, and}
 use Rattle.base.proofs.PickLaws.{pick-true, pick-false, pick-all, and-yes, and-first, and-second, and-inv, pick-inv}
 use Rattle.refusals.specs.declared.Refusal.{Refusal}
 use Rattle.refusals.specs.declared.Refusal.the-variants.{PatternEmpty, ExpressionWrong, OutsideForms, NameUnlisted, TooMuch}
-use Rattle.regex_optim.specs.Contexts.{Form, opening, withoutCaret, withoutDollar, leftForm, rightForm, kindOf}
+use Rattle.regex_optim.specs.Contexts.{Form, leftForm, rightForm, kindOf}
 use Rattle.regex_optim.specs.Contracts.{literalKind}
 use Rattle.regex_optim.specs.declared.OptimizedRegex.{OptimizedRegex}
 use Rattle.regex_optim.specs.declared.OptimizedRegex.the-variants.{AllStringsMatcher, IsEmpty, Equals, StartsWith, EndsWith, EqualsChar, StartsWithChar, EndsWithChar, Outside}
 use Rattle.regex_optim.proofs.Laws.{kind-by-literal, left-is, right-is}
 use Rattle.regex_optim.proofs.NumberLaws.{form-one}
-use Rattle.languages.proofs.NumberLaws.{clash}
+use Rattle.base.proofs.Arms.{clash}
 use Rattle.rule.specs.Contracts.{bare}
 use Rattle.rule.specs.Matching.{ruleText}
 use Rattle.rule.proofs.Bare.{Clear, bare-text, bare-clear, clear-has, clear-tail, clear-front}
-use Rattle.texts.specs.Parts.{firstIs, lastIs, has}
+use Rattle.texts.specs.Parts.{opening, withoutCaret, withoutDollar, firstIs, lastIs, has}
 use Rattle.phonemes.specs.Expressions.{round, unround, checkedOf}
 use Rattle.phonemes.specs.declared.answers.Expression.{Expression}
 use Rattle.phonemes.specs.declared.answers.Expression.the-variants.{Good, Malformed, Stranger}

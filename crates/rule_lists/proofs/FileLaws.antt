@@ -8,8 +8,8 @@ use native.Mathlib.Omega.{arith}
 use lib.ListN.{length, take, drop}
 use borrow.Author.Tests.{leb-true, le-leb}
 use Rattle.refusals.specs.declared.Refusal.{Refusal}
-use Rattle.refusals.specs.declared.Refusal.the-variants.{FileMissing, TooMuch}
-use Rattle.name_parts.proofs.Laws.{clash}
+use Rattle.refusals.specs.declared.Refusal.the-variants.{FileMissing, PatternEmpty, TooMuch}
+use Rattle.base.proofs.Arms.{clash}
 use Rattle.pack.specs.Packs.{orderedByCode}
 use Rattle.rule_lines.specs.Rules.{Rule}
 use Rattle.pack_bytes.specs.Bytes.{textBytes, countBytes, ruleBytes, listBytes}
@@ -34,7 +34,7 @@ use Rattle.rule_lists.specs.WritingContracts.{rulePut, SomeKept, RowsPut
 use Rattle.rule_lists.specs.Lists.{listIn, listNamed, firstCodeOf, filesFor, countedRules}
 use Rattle.rule_lists.specs.declared.walk.Collected.{Collected}
 use Rattle.rule_lists.specs.declared.walk.Collected.the-variants as collected
-use Rattle.rule_lists.specs.declared.writing.Written.the-variants.{Done, Refused}
+use Rattle.rule_lists.specs.declared.list_writing.Written.the-variants.{Done, Refused}
 use Rattle.rule_lists.proofs.TableLaws.{kept-rows, kept-low, keys-rows}
 use Rattle.rule_lines.proofs.Laws.{good-short}
 use Rattle.rule_lists.proofs.WalkLaws.{GoodRead, each-read, each-finished, within-all}
