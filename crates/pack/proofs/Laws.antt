@@ -19,7 +19,6 @@ use Rattle.languages.specs.declared.sets.LanguageSet.{LanguageSet}
 use Rattle.languages.specs.declared.sets.LanguageSet.the-variants.{Any}
 use Rattle.languages.proofs.Laws.{without-below, any-below, mask-below}
 use Rattle.strings.proofs.Laws.{strings-none, strings-all, strings-one}
-use Rattle.regex_optim.specs.Contexts.{leftForm, rightForm, kindOf}
 use Rattle.letters.specs.Reading.{firstIll}
 use Rattle.letters.specs.declared.utf8.Found.the-variants.{Nothing}
 use Rattle.rule.specs.Matching.{ruleText}

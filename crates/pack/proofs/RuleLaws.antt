@@ -8,25 +8,14 @@ use lib.Dec.{leb}
 use lib.ListN.{length, take, drop, length-take, length-drop}
 use borrow.Author.Tests.{le-leb, lt-leb}
 use Rattle.base.specs.Pick.{pick, and}
-use Rattle.regex_optim.specs.Contexts.{Form, kindOf}
-use Rattle.texts.specs.Parts.{opening, withoutCaret, withoutDollar, firstIs, lastIs, has}
-use Rattle.regex_optim.specs.Contracts.{literalKind}
-use Rattle.regex_optim.specs.declared.OptimizedRegex.{OptimizedRegex}
-use Rattle.regex_optim.specs.declared.OptimizedRegex.the-variants.{AllStringsMatcher, IsEmpty, Equals, StartsWith, EndsWith}
-use Rattle.regex_optim.proofs.Laws.{kind-by-literal, left-is, right-is}
-use Rattle.rule.specs.Matching.{ruleText, firstCode}
-use Rattle.phonemes.specs.Expressions.{round, unround, checkedOf}
-use Rattle.rule.proofs.Bare.{Clear, bare-text, bare-clear, clear-has, clear-tail, clear-front}
-use Rattle.phonemes.proofs.Bare.{clear-good, clear-malformed}
-use Rattle.phonemes.specs.declared.answers.Expression.{Expression}
-use Rattle.phonemes.specs.declared.answers.Expression.the-variants.{Good, Malformed, Stranger}
+use Rattle.rule.specs.Matching.{firstCode}
 use Rattle.strings.specs.declared.Next.{Next}
 use Rattle.strings.specs.declared.Next.the-variants as next
 use Rattle.strings.specs.Reading.{Read, cut, got, andRead, readText, readMany, placeIn}
 use Rattle.pack.specs.Packs.{readRule, readList, all, orderedByCode, listGood}
 use Rattle.rule_lines.specs.Rules.{Rule, rule, ruleGood}
 use Rattle.pack.specs.PlaceContracts.{placedFrom, placedRule, ruleStandsAt, countIn, ruleCount}
-use Rattle.pack.specs.Contracts.{judge, endIn, allFrom, patternGood, leftGood, rightGood, expressionGood, ruleFits, rulesFrom, ruledAs, ruledIn}
+use Rattle.pack.specs.Contracts.{judge, endIn, allFrom, ruleFits, rulesFrom, ruledAs, ruledIn}
 use Rattle.strings.specs.Contracts.{numberAt, stringAt}
 use Rattle.strings.specs.declared.Number.{Number}
 use Rattle.strings.specs.declared.Number.the-variants as number
@@ -40,8 +29,7 @@ use Rattle.pack.proofs.Readers.{rule-ends}
 use Rattle.strings.proofs.Readers.{end-here, end-then, end-is, end-within, place-drop, many-length, count-of, count-cut, TextIs, text-is, text-cut, TextRead, TextThen, reads-on, text-then}
 use Rattle.base.proofs.Arms.{clash}
 use Rattle.pack.proofs.Judging.{Faulty, runs-out, fails, Judged, fine, faulty, judged, judge-faulty, judge-same, walk-on, walk-off, walk-end}
-use Rattle.base.proofs.PickLaws.{pick-true, pick-false, pick-all, and-yes, and-first, and-second}
-use Rattle.rule.specs.Contracts.{bare}
+use Rattle.base.proofs.PickLaws.{pick-true, pick-false, and-yes, and-first, and-second}
 
 -- ---- the strings of a rule, one after the other
 

@@ -1,18 +1,16 @@
 -- What the functions of the walk answer, in terms of what is read.
 use Prim.{Unit}
 use mathlib.Core.Path.{_≡_}
-use Prim.Native.Nat.{ℕ, zero, suc, _-_, _<_, min}
+use Prim.Native.Nat.{ℕ, zero, suc, _-_, min}
 use mathlib.Core.Bool.{Bool, true}
 use mathlib.Core.List.{List, [], _∷_}
 use lib.Dec.{eqb, leb}
-use lib.ListN.{length, getD, drop}
+use lib.ListN.{length, drop}
 use lib.Seq.{sets}
 use Rattle.base.specs.Pick.{pick, and}
 use Rattle.letters.specs.Order.{orderOf, sameText, isLess}
 use Rattle.languages.specs.Names.{languageName}
-use Rattle.regex_optim.specs.Contexts.{leftForm, rightForm, kindOf}
-use Rattle.rule.specs.Matching.{ruleText, firstCode}
-use Rattle.phonemes.specs.Expressions.{checkedOf}
+use Rattle.rule.specs.Matching.{firstCode}
 use Rattle.strings.specs.Reading.{Read, cut, got, readByte, readNumber, placeIn}
 use Rattle.pack.specs.Packs.{Guess, readGuess, readList, any, guessGood, listGood, listCount}
 use Rattle.rule_lines.specs.Rules.{Rule, ruleGood}

@@ -2,15 +2,12 @@
 ghost use mathlib.Core.Path.{_≡_};
 ghost use Prim.Native.Nat.{_≤_};
 ghost use lib.ListN.{length, drop};
-ghost use Rattle.phonemes.specs.Expressions.{checkedOf};
 ghost use Rattle.strings.specs.Reading.{readMany};
 ghost use Rattle.pack.specs.Packs.{readRule, readList, listGood};
-ghost use Rattle.rule_lines.specs.Rules.{rule, ruleGood};
+ghost use Rattle.rule_lines.specs.Rules.{rule};
 ghost use Rattle.pack.specs.PlaceContracts.{ruleStandsAt, ruleCount};
-ghost use Rattle.pack.specs.Contracts.{endIn, patternGood, leftGood, rightGood, expressionGood, ruledAs, ruledIn, rulesFrom};
+ghost use Rattle.pack.specs.Contracts.{endIn, ruledAs, ruledIn, rulesFrom};
 use crate::sections::Section;
-use phonemes::Expression;
-use regex_optim::OptimizedRegex;
 use strings::Next;
 use strings::Number;
 

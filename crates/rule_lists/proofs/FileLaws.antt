@@ -8,7 +8,7 @@ use native.Mathlib.Omega.{arith}
 use lib.ListN.{length, take, drop}
 use borrow.Author.Tests.{leb-true, le-leb}
 use Rattle.refusals.specs.declared.Refusal.{Refusal}
-use Rattle.refusals.specs.declared.Refusal.the-variants.{FileMissing, PatternEmpty, TooMuch}
+use Rattle.refusals.specs.declared.Refusal.the-variants.{FileMissing, TooMuch}
 use Rattle.base.proofs.Arms.{clash}
 use Rattle.pack.specs.Packs.{orderedByCode}
 use Rattle.rule_lines.specs.Rules.{Rule}
