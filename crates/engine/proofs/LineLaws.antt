@@ -11,8 +11,8 @@ use lib.ListN.{length, set, length-append}
 use lib.Seq.{sets, set-comm}
 use borrow.Author.Tests.{lt-ltb, le-ltb, le-leb, lt-leb, eq-eqb, ne-eqb, ltb-false, leb-true, leb-false}
 use Rattle.base.proofs.Stores.{sets-then}
-use Rattle.name_parts.specs.Contracts.{Put}
-use Rattle.name_parts.proofs.Laws.{slice-room, put-then, put-long}
+use Rattle.writing.specs.Contracts.{Put}
+use Rattle.writing.proofs.Laws.{slice-room, put-then, put-long}
 use Rattle.choices.specs.Texts.{Text}
 use Rattle.refusals.specs.declared.Refusal.the-variants.{NoRoom}
 use Rattle.engine.specs.Calls.{refusedAs, spelledNumbers}

@@ -14,7 +14,7 @@ use Rattle.base.specs.Pick.{pick}
 use Rattle.base.proofs.One.{one}
 use Rattle.base.proofs.Stores.{sets-then}
 use Rattle.texts.specs.Parts.{placeOf, has}
-use Rattle.name_parts.proofs.Laws.{clash}
+use Rattle.base.proofs.Arms.{clash}
 use Rattle.choices.specs.Texts.{Text}
 use Rattle.refusals.specs.Numbers.{numberOf}
 use Rattle.refusals.specs.declared.Refusal.the-variants.{NoRoom}
@@ -22,7 +22,7 @@ use Rattle.engine.specs.Calls.{CallOutcome, refusedBy, key, refusedAs}
 use Rattle.engine.specs.Lines.{decimal, refusalLine, most, holdsLine, needed, lineWith, lineFor, linesFrom, wholeLines, Taken, andTaken, noneTaken, takeLines, taken, BlockNumbers, blockNumbers, took, noRoom, numbersBy, blockBy, LinesIs}
 use Rattle.engine.specs.LineContracts.{LineAt, lineLength, stoppedAt}
 use Rattle.engine.proofs.NumberLaws.{told-is}
-use Rattle.engine.proofs.EncodeLaws.{rest-is}
+use Rattle.base.proofs.Stores.{rest-is}
 use Rattle.engine.specs.declared.lines.Lines.{Lines}
 use Rattle.engine.specs.declared.lines.Lines.the-variants as lines
 use Rattle.engine.specs.declared.lines.Fit.{Fit}

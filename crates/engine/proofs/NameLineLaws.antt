@@ -11,7 +11,7 @@ use lib.ListN.{length, take, drop}
 use lib.Seq.{sets}
 use borrow.Author.Tests.{le-leb, lt-leb, ne-eqb, leb-true, leb-false}
 use Rattle.base.specs.Pick.{pick, and}
-use Rattle.name_parts.proofs.Laws.{clash}
+use Rattle.base.proofs.Arms.{clash}
 use Rattle.choices.specs.Texts.{Text}
 use Rattle.refusals.specs.Numbers.{numberOf}
 use Rattle.refusals.specs.declared.Refusal.{Refusal}
