@@ -106,8 +106,8 @@ name-below (suc n) c low g s =
     prefix-below _ again _ s _ (pick-all NameBelow _ _ _ (pick-all NameBelow _ _ _ (low g _) (low g _)) (each-below _ again _))
 
 unfoldable pub Below : CallOutcome → Type 0
-pub Below (refusedBy k place) = numberOf k < 9
-pub Below (key t f) = Unit {0}
+Below (refusedBy k place) = numberOf k < 9
+Below (key t f) = Unit {0}
 
 outcome-below : (x : Spelt) → NameBelow x → Below (outcomeOf x)
 unfolding NameBelow Below outcomeOf

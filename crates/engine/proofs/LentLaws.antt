@@ -46,13 +46,13 @@ filled-by a k o t false l e = back-same a k o
 
 pub filled-long : (x : CallOutcome) (o : List ℕ) → length (filledBy x o) ≡ length o
 unfolding filledBy
-pub filled-long (refusedBy code place) o = refl
-pub filled-long (key t f) o = pick-all (λ (l : List ℕ). length l ≡ length o) _ _ _ (length-sets o 0 t) refl
+filled-long (refusedBy code place) o = refl
+filled-long (key t f) o = pick-all (λ (l : List ℕ). length l ≡ length o) _ _ _ (length-sets o 0 t) refl
 
 -- a call's answer in a part of a buffer
 unfoldable pub partFilled : CallOutcome → ℕ → ℕ → List ℕ → List ℕ
-pub partFilled (refusedBy k place) a space out = out
-pub partFilled (key t f) a space out = pick (leb (length t) space) (sets out a t) out
+partFilled (refusedBy k place) a space out = out
+partFilled (key t f) a space out = pick (leb (length t) space) (sets out a t) out
 
 pub record PartIs (x : CallOutcome) (a space : ℕ) (out : List ℕ) (r : Spelled) (out′ : List ℕ) : Type 0 where
   pub result : r ≡ toldOf x space

@@ -153,7 +153,7 @@ sets-apart (v ∷ vs) ws l i j h =
 
 pub sets-none : (vs l : List ℕ) (i : ℕ) → length vs ≡ 0 → sets l i vs ≡ l
 sets-none [] l i h = refl
-pub sets-none (v ∷ vs) l i h = absurd (omega arith)
+sets-none (v ∷ vs) l i h = absurd (omega arith)
 
 pub answer-long : (written : ℕ) (flag : Bool) (t : Text) → length (answerLine (spelledNumbers (Done written flag)) t) ≡ 5 + length t
 unfolding answerLine spelledNumbers decimal decimalBy

@@ -190,17 +190,7 @@ pub(crate) fn spell_plain(
         let kind = call.kind;
         let mut joined = [0u8; 96];
         let n = name_parts::join_words(kind, name, &mut joined);
-        spell_word(
-            store,
-            marks,
-            pack,
-            table,
-            call,
-            set,
-            &joined[0..n],
-            out,
-            at,
-        )
+        spell_word(store, marks, pack, table, call, set, &joined[0..n], out, at)
     } else {
         let word = name_parts::next_word(name, 0);
         spell_word(store, marks, pack, table, call, set, word, out, at)

@@ -84,10 +84,10 @@ spell-name-push-requires : (t : ℕ) → spell-name-lts.Need-push-requires (spel
 spell-name-push-requires t c κs = search needs
 
 spell-name-sub-spell-name : (t : ℕ) → spell-name-lts.Need-sub-spell-name (spell-name-calls t) (spell-name-at t) spell-name.Post
-spell-name-sub-spell-name t c = skip-within _ _ _ (c .before .before .before .before .before .before .before .before .before .before .before .before .before .part-of .ensures) _ _ (c .before .before .before .before .before .before .before .before .before .before .before .keep .given .1)
+spell-name-sub-spell-name t c = search (skip-within, needs)
 
 spell-name-part-spell-name-start : (t : ℕ) → spell-name-lts.Need-part-spell-name-start (spell-name-calls t) (spell-name-at t) spell-name.Post
-spell-name-part-spell-name-start t c = skip-within _ _ _ (c .before .before .before .before .before .before .before .before .before .before .before .before .before .part-of .ensures) _ _ (c .before .before .before .before .before .before .before .before .before .before .before .keep .given .1)
+spell-name-part-spell-name-start t c = search (skip-within, needs)
 
 spell-name-part-spell-name-end : (t : ℕ) → spell-name-lts.Need-part-spell-name-end (spell-name-calls t) (spell-name-at t) spell-name.Post
 spell-name-part-spell-name-end t c = search needs
@@ -123,16 +123,16 @@ spell-name-is-plain-requires : (t : ℕ) → spell-name-lts.Need-is-plain-requir
 spell-name-is-plain-requires t c κs = search needs
 
 spell-name-spell-plain-requires : (t : ℕ) → spell-name-lts.Need-spell-plain-requires (spell-name-calls t) (spell-name-at t) spell-name.Post
-spell-name-spell-plain-requires t c κs = (c .before .before .before .before .before .before .before .before .before .before .before .before .before .pre .1 .0, (c .before .before .before .before .before .before .before .before .before .before .before .before .before .pre .1 .1 .0, c .before .before .before .before .before .before .before .before .before .before .before .before .before .pre .1 .1 .1 .0))
+spell-name-spell-plain-requires t c κs = (search needs, (search needs, search needs))
 
 spell-name-spell-words-requires : (t : ℕ) → spell-name-lts.Need-spell-words-requires (spell-name-calls t) (spell-name-at t) spell-name.Post
-spell-name-spell-words-requires t c κs = (words-fall _ (c .before .before .before .before .before .before .before .before .before .before .before .before .before .pre .0), (c .before .before .before .before .before .before .before .before .before .before .before .before .before .pre .1 .0, (c .before .before .before .before .before .before .before .before .before .before .before .before .before .pre .1 .1 .0, (c .before .before .before .before .before .before .before .before .before .before .before .before .before .pre .1 .1 .1 .0, (c .before .before .before .before .before .before .before .before .before .before .before .before .before .pre .1 .1 .1 .1, several _ _ _ (c .before .before .before .before .is-plain .ensures) (c .before .before .before .if1 .left))))))
+spell-name-spell-words-requires t c κs = (search (words-fall, needs), (search needs, (search needs, (search needs, (search needs, search (several, needs))))))
 
 spell-name-same-length : (t : ℕ) → spell-name-lts.Need-same-length (spell-name-calls t) (spell-name-at t) spell-name.Post
-spell-name-same-length t c = c .before .before .before .before .before .before .before .before .before .before .store2 .given ∙ c .before .before .before .before .before .before .before .before .before .before .before .before .before .before .before .before .before .before .before .before .before .before .before .before .before .before .store .given
+spell-name-same-length t c = search needs
 
 spell-name-same-length-2 : (t : ℕ) → spell-name-lts.Need-same-length-2 (spell-name-calls t) (spell-name-at t) spell-name.Post
-spell-name-same-length-2 t c = c .before .before .before .before .before .before .before .before .marks2 .given ∙ c .before .before .before .before .before .before .before .before .before .before .before .before .before .before .before .before .before .before .before .before .before .before .before .before .marks .given
+spell-name-same-length-2 t c = search needs
 
 spell-name-same-length-3 : (t : ℕ) → spell-name-lts.Need-same-length-3 (spell-name-calls t) (spell-name-at t) spell-name.Post
 spell-name-same-length-3 t c = c .before .before .out5 .given ∙ c .before .before .before .before .before .before .out4 .given ∙ c .before .before .before .before .before .before .before .before .before .before .before .before .before .before .before .before .before .before .out3 .given ∙ c .before .before .before .before .before .before .before .before .before .before .before .before .before .before .before .before .before .before .before .before .before .before .out2 .given ∙ c .before .before .before .before .before .before .before .before .before .before .before .before .before .before .before .before .before .before .before .before .before .before .before .before .before .before .before .before .before .before .before .before .before .out .given
@@ -141,7 +141,7 @@ spell-name-returns : (t : ℕ) → spell-name-lts.Need-returns (spell-name-calls
 spell-name-returns t c = parted-told _ _ _ _ (c .before .before .before .before .before .before .before .before .before .before .before .before .before .before .before .before .before .before .before .before .before .before .before .before .before .before .before .before .before .before .before .before .before .before .before .before .before .before .before .before .before .before .before .part-of .ensures) _ _ (c .before .before .before .before .before .before .before .before .before .before .before .before .before .before .before .before .before .before .before .before .before .before .before .before .before .before .before .before .before .before .before .before .before .before .before .before .before .before .before .before .before .keep .given .1) _ (front-is (c .before .before .before .before .before .before .before .before .before .before .before .before .before .before .before .before .before .before .before .before .before .before .before .before .before .before .before .before .before .before .before .before .before .before .before .before .before .join-prefix .ensures) (joined-small _ _ _ (c .before .before .before .before .before .before .before .before .before .before .before .before .before .before .before .before .before .before .before .before .before .before .before .before .before .before .before .before .before .before .before .before .before .before .before .before .before .before .before .before .before .before .before .part-of .ensures) _ _ (c .before .before .before .before .before .before .before .before .before .before .before .before .before .before .before .before .before .before .before .before .before .before .before .before .before .before .before .before .before .before .before .before .before .before .before .before .before .before .before .before .before .keep .given .1) (c .before .before .before .before .before .before .before .before .before .before .before .before .before .before .before .before .before .before .before .before .before .before .before .before .before .before .before .before .before .before .before .before .before .before .before .before .before .before .before .before .before .before .before .before .before .before .before .before .before .pre .1 .1 .1 .0)) refl) (c .before .before .before .before .before .before .before .before .before .before .before .before .before .before .before .before .before .before .before .before .before .before .before .before .before .before .before .before .before .before .before .before .before .before .push .ensures) (afresh-told _ _ _ _ (c .before .before .before .before .before .before .before .before .before .before .before .before .before .before .before .before .before .before .before .before .before .before .before .before .before .before .before .before .before .before .before .before .before .before .before .before .before .before .before .afresh .ensures) (c .before .before .before .before .before .before .before .before .before .before .before .before .before .before .before .before .before .before .before .before .before .before .before .before .before .before .before .spell-name .ensures)) (c .before .before .before .before .before .before .before .before .before .before .before .before .before .before .before .before .before .before .before .middle .ensures) (afresh-told _ _ _ _ (c .before .before .before .before .before .before .before .before .before .before .before .before .before .before .before .before .before .before .before .before .before .before .before .before .before .before .before .before .before .before .before .before .before .before .before .before .before .before .before .afresh .ensures) (c .before .before .before .before .before .before .before .before .before .before .before .spell-name2 .ensures)) (c .before .before .before .push2 .ensures) (c .both .ensures)
 
 spell-name-same-length-4 : (t : ℕ) → spell-name-lts.Need-same-length-4 (spell-name-calls t) (spell-name-at t) spell-name.Post
-spell-name-same-length-4 t c = c .before .before .before .before .before .store3 .given
+spell-name-same-length-4 t c = search needs
 
 spell-name-same-length-5 : (t : ℕ) → spell-name-lts.Need-same-length-5 (spell-name-calls t) (spell-name-at t) spell-name.Post
 spell-name-same-length-5 t c = c .before .before .before .marks3 .given
@@ -150,10 +150,10 @@ spell-name-same-length-6 : (t : ℕ) → spell-name-lts.Need-same-length-6 (spel
 spell-name-same-length-6 t c = c .before .out6 .given
 
 spell-name-returns-2 : (t : ℕ) → spell-name-lts.Need-returns-2 (spell-name-calls t) (spell-name-at t) spell-name.Post
-spell-name-returns-2 t c = whole-plain _ _ _ _ (c .before .before .before .before .before .before .before .before .before .before .before .before .before .before .part-of .ensures) (c .before .before .before .before .before .before .before .before .before .before .before .before .enum-told .given .1) _ (c .before .before .before .before .before .before .before .before .before .before .before .is-plain .ensures) (c .before .before .before .before .before .before .before .before .before .before .if1 .taken) (c .before .before .before .before .before .before .spell-plain .ensures)
+spell-name-returns-2 t c = search (whole-plain, needs)
 
 spell-name-same-length-7 : (t : ℕ) → spell-name-lts.Need-same-length-7 (spell-name-calls t) (spell-name-at t) spell-name.Post
-spell-name-same-length-7 t c = c .before .before .before .before .before .store4 .given
+spell-name-same-length-7 t c = search needs
 
 spell-name-same-length-8 : (t : ℕ) → spell-name-lts.Need-same-length-8 (spell-name-calls t) (spell-name-at t) spell-name.Post
 spell-name-same-length-8 t c = c .before .before .before .marks4 .given
@@ -162,13 +162,13 @@ spell-name-same-length-9 : (t : ℕ) → spell-name-lts.Need-same-length-9 (spel
 spell-name-same-length-9 t c = c .before .out7 .given
 
 spell-name-returns-3 : (t : ℕ) → spell-name-lts.Need-returns-3 (spell-name-calls t) (spell-name-at t) spell-name.Post
-spell-name-returns-3 t c = whole-words _ _ _ _ (c .before .before .before .before .before .before .before .before .before .before .before .before .before .before .part-of .ensures) (c .before .before .before .before .before .before .before .before .before .before .before .before .enum-told .given .1) _ (c .before .before .before .before .before .before .before .before .before .before .before .is-plain .ensures) (c .before .before .before .before .before .before .before .before .before .before .if1 .left) (c .before .before .before .before .before .before .spell-words .ensures)
+spell-name-returns-3 t c = search (whole-words, needs)
 
 spell-words-afresh-requires : (t : ℕ) → spell-words-lts.Need-afresh-requires (spell-words-calls t) (spell-words-at t) spell-words.Post spell-words-Inv-loop spell-words-μ-loop
 spell-words-afresh-requires t c κs = search needs
 
 spell-words-loop-holds : (t : ℕ) → spell-words-lts.Need-loop-holds (spell-words-calls t) (spell-words-at t) spell-words.Post spell-words-Inv-loop spell-words-μ-loop
-spell-words-loop-holds t c = held-start _ _ _ _ _ _ _ (c .before .before .before .before .before .before .pre .1 .1 .1 .1 .0) (c .before .before .before .before .before .before .good .1 .1 .1 .1 .1 .1 .0 .1)
+spell-words-loop-holds t c = search (held-start, needs)
 
 spell-words-next-word-requires : (t : ℕ) → spell-words-lts.Need-next-word-requires (spell-words-calls t) (spell-words-at t) spell-words.Post spell-words-Inv-loop spell-words-μ-loop
 spell-words-next-word-requires t c κs = search needs
@@ -198,7 +198,7 @@ spell-words-past-word-requires : (t : ℕ) → spell-words-lts.Need-past-word-re
 spell-words-past-word-requires t c κs = search needs
 
 spell-words-loop-less : (t : ℕ) → spell-words-lts.Need-loop-less (spell-words-calls t) (spell-words-at t) spell-words.Post spell-words-Inv-loop spell-words-μ-loop
-spell-words-loop-less t c = held-less (c .before .before .before .before .before .before .before .before .before .before .before .before .before .before .before .before .before .before .loop .inv) _ (c .before .before .before .before .before .before .before .before .before .before .before .before .before .before .before .before .before .next-word .ensures) (c .before .before .before .before .before .before .before .before .before .before .before .before .before .before .before .before .if1 .left) _ (c .past-word .ensures)
+spell-words-loop-less t c = search (held-less, needs)
 
 spell-words-loop-again : (t : ℕ) → spell-words-lts.Need-loop-again (spell-words-calls t) (spell-words-at t) spell-words.Post spell-words-Inv-loop spell-words-μ-loop
 spell-words-loop-again t c = held-turn (c .before .before .before .before .before .before .before .before .before .before .before .before .before .before .before .before .before .before .loop .inv) _ (c .before .before .before .before .before .before .before .before .before .before .before .before .before .before .before .before .before .next-word .ensures) (c .before .before .before .before .before .before .before .before .before .before .before .before .before .before .before .before .if1 .left) (c .before .before .before .before .before .before .before .before .before .before .before .before .before .before .hyphen .ensures) (told-again _ _ _ (c .before .before .before .before .before .before .before .before .before .before .before .before .before .before .before .before .before .before .before .afresh .ensures) _ (c .before .before .before .before .before .before .before .before .spell-name .ensures)) (c .before .both .ensures) (c .past-word .ensures) (c .before .before .before .before .before .before .before .store .given) (c .before .before .before .before .before .marks .given) (c .before .before .before .out2 .given ∙ c .before .before .before .before .before .before .before .before .before .before .before .before .before .out .given)

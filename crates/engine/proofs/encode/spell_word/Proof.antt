@@ -7,13 +7,13 @@ lists-of-requires : tie.Need-lists-of-requires
 lists-of-requires c κs = lists-ready _ _ _ (c .before .before .before .before .before .before .pre .1 .0) _ (c .before .before .before .before .before .before .pre .1 .1) _ (c .language-of .ensures)
 
 part-word-end : tie.Need-part-word-end
-part-word-end c = names-within _ _ _ (c .before .before .before .before .before .before .before .before .before .before .pre .1 .0)
+part-word-end c = search (names-within, needs)
 
 same-length : tie.Need-same-length
-same-length c = c .before .before .before .before .before .before .before .store .given
+same-length c = search needs
 
 same-length-2 : tie.Need-same-length-2
-same-length-2 c = c .before .before .before .before .before .marks .given
+same-length-2 c = search needs
 
 same-length-3 : tie.Need-same-length-3
 same-length-3 c = c .before .before .out .given

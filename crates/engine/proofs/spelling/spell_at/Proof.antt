@@ -17,7 +17,7 @@ spell-lowered-requires : tie.Need-spell-lowered-requires
 spell-lowered-requires c κs = (c .before .before .before .before .before .before .before .before .before .before .before .before .before .before .before .before .before .before .before .before .before .before .before .before .before .before .before .pre .0, (at-ready _ _ _ _ _ _ (c .before .before .before .before .before .before .before .before .before .before .before .before .before .before .before .before .before .before .before .before .before .refusal-of .ensures) (c .before .before .before .before .before .before .before .before .before .before .before .before .before .before .before .before .before .before .before .enum-told .given .1) _ _ _ (desk-at _ _ _ _ _ _ (c .before .before .before .before .before .before .before .before .before .before .before .before .before .before .before .before .before .before .before .before .before .before .before .before .before .before .before .pre .1) (c .before .before .before .before .before .before .before .before .before .before .before .before .before .before .before .before .before .desk .given .1)) _ (c .before .before .before .before .before .before .before .before .before .before .before .before .before .before .before .have-languages .ensures) (c .before .before .before .before .before .before .before .before .before .before .before .before .before .before .if1 .taken) _ (lowered-part _ _ _ _ (name-short _ _ _ _ (c .before .before .before .before .before .before .before .before .before .before .before .before .before .before .before .before .before .before .before .before .before .refusal-of .ensures) (c .before .before .before .before .before .before .before .before .before .before .before .before .before .before .before .before .before .before .before .enum-told .given .1)) refl (c .before .before .before .before .before .before .before .before .before .before .before .before .lower-into .ensures)) _ (c .before .before .before .before .before .before .before .before .call-of .ensures), part-short _ _ _ _ (c .before .before .before .before .before .before .before .before .before .before .before .before .before .before .before .before .before .before .before .before .before .refusal-of .ensures) (c .before .before .before .before .before .before .before .before .before .before .before .before .before .before .before .before .before .before .before .enum-told .given .1) _))
 
 same-length : tie.Need-same-length
-same-length c = c .before .before .before .before .before .before .store .given
+same-length c = search needs
 
 same-length-2 : tie.Need-same-length-2
 same-length-2 c = c .before .before .before .before .marks .given
@@ -32,10 +32,10 @@ returns-2 : tie.Need-returns-2
 returns-2 c = at-none _ _ _ _ _ _ (c .before .before .before .before .before .before .before .refusal-of .ensures) (c .before .before .before .before .before .enum-told .given .1) _ _ _ (desk-at _ _ _ _ _ _ (c .before .before .before .before .before .before .before .before .before .before .before .before .before .pre .1) (c .before .before .before .desk .given .1)) _ (c .before .have-languages .ensures) _ (c .if1 .left)
 
 returns-3 : tie.Need-returns-3
-returns-3 c = at-shut _ _ _ _ _ _ (c .before .before .before .before .before .refusal-of .ensures) (c .before .before .before .enum-told .given .1) _ _ _ (c .before .before .before .before .before .before .before .before .before .before .before .pre .1) (c .before .desk2 .given .1)
+returns-3 c = search (at-shut, needs)
 
 returns-4 : tie.Need-returns-4
-returns-4 c = at-wrong _ _ _ (c .before .before .before .before .before .before .before .before .before .args .table .now) _ _ (c .before .before .before .refusal-of .ensures) _ _ _ (c .before .why .given .1)
+returns-4 c = search (at-wrong, needs)
 
 pub spell-at-spec : {M : Type 1} → statement M
 spell-at-spec =

@@ -8,10 +8,10 @@ use Rattle.engine.proofs.spelling.spell_lowered.Statement.{statement}
 use Rattle.engine.proofs.spelling.spell_lowered.Tie as tie
 
 spell-plain-requires : tie.Need-spell-plain-requires
-spell-plain-requires c κs = (c .before .before .before .before .before .before .before .before .before .before .pre .0, (c .before .before .before .before .before .before .before .before .before .before .pre .1 .0, c .before .before .before .before .before .before .before .before .before .before .pre .1 .1))
+spell-plain-requires c κs = (search needs, (search needs, search needs))
 
 same-length : tie.Need-same-length
-same-length c = c .before .before .before .before .before .store .given
+same-length c = search needs
 
 same-length-2 : tie.Need-same-length-2
 same-length-2 c = c .before .before .before .marks .given
@@ -20,22 +20,22 @@ same-length-3 : tie.Need-same-length-3
 same-length-3 c = c .before .out .given
 
 returns : tie.Need-returns
-returns c = single-told _ _ _ _ (c .before .before .before .before .before .before .before .before .before .before .before .is-single .ensures) (c .before .before .before .before .before .before .before .before .before .before .if1 .taken) (c .before .before .before .before .before .before .spell-plain .ensures)
+returns c = search (single-told, needs)
 
 slice-aggregate-spell-name : tie.Need-slice-aggregate-spell-name
 slice-aggregate-spell-name c = sym (length-replicate {A = ℕ} 16384 0)
 
 spell-name-requires : tie.Need-spell-name-requires
-spell-name-requires c κs = (c .before .before .before .before .before .before .before .before .before .before .pre .0, (c .before .before .before .before .before .before .before .before .before .before .pre .1 .0, (c .before .before .before .before .before .before .before .before .before .before .pre .1 .1, zero-le)))
+spell-name-requires c κs = (search needs, (search needs, (search needs, zero-le)))
 
 spell-name-requires-2 : tie.Need-spell-name-requires-2
-spell-name-requires-2 c κs = (scratch-kept (c .before .before .before .before .before .before .before .before .before .before .before .before .before .before .before .before .before .before .before .before .before .before .before .before .before .pre .0) (c .before .before .before .before .before .before .before .before .before .before .before .before .before .store2 .given) (c .before .before .before .before .before .before .before .before .before .before .before .marks2 .given), (c .before .before .before .before .before .before .before .before .before .before .before .before .before .before .before .before .before .before .before .before .before .before .before .before .before .pre .1 .0, (c .before .before .before .before .before .before .before .before .before .before .before .before .before .before .before .before .before .before .before .before .before .before .before .before .before .pre .1 .1, zero-le)))
+spell-name-requires-2 c κs = (search (scratch-kept, needs), (search needs, (search needs, zero-le)))
 
 same-length-4 : tie.Need-same-length-4
-same-length-4 c = c .before .before .before .before .before .before .before .before .before .before .store2 .given
+same-length-4 c = search needs
 
 same-length-5 : tie.Need-same-length-5
-same-length-5 c = c .before .before .before .before .before .before .before .before .marks2 .given
+same-length-5 c = search needs
 
 same-length-6 : tie.Need-same-length-6
 same-length-6 c = c .before .before .out2 .given
