@@ -6,7 +6,7 @@ use Rattle.engine.specs.Spelling.{afreshBy}
 use Rattle.engine.specs.Contracts.{stepsAt}
 use Rattle.engine.proofs.EncodeLaws.{ready-afresh, afresh-told, skip-within, parted-told, whole-plain, whole-words, several, front-in, front-is}
 use Rattle.engine.proofs.NameLaws.{scratch-kept, name-falls, word-falls, still-short, words-fall, rest-less, joined-small, joined-less, steps-again, told-again, WordsHeld, held-start, held-scratch, held-end, held-shorter, held-less, held-place, held-turn}
-use Prim.Native.Nat.{ℕ, _+_, _-_, _*_}
+use Prim.Native.Nat.{ℕ, _+_, _-_, _*_, _<_}
 use borrow.Fn.Kinds.{In}
 use borrow.Fn.PlainCycle.{Measures, is, falls, and}
 use Rattle.engine.proofs.encode.spell_name.Reads as spell-name
