@@ -22,7 +22,7 @@ use Rattle.lang.proofs.Shortcuts.{may-not}
 use Rattle.strings.specs.Reading.{Read, cut, got, andRead, readByte, readNumber, readText, readMany, placeIn}
 use Rattle.pack.specs.Packs.{Guess, guess, readGuess, readGuesses, all, guessGood, guessesGood}
 use Rattle.pack.specs.Guessing.{narrowedBy, narrowedByAll, leftOver, allListed, guessed}
-use Rattle.pack.specs.Contracts.{judge, endIn, allFrom, guessesFrom, placedGuess, guessStandsAt, guessesAt, guessedAt}
+use Rattle.pack.specs.Contracts.{endIn, allFrom, guessesFrom, placedGuess, guessStandsAt, guessesAt, guessedAt}
 use Rattle.strings.specs.Contracts.{ByteIs, numberAt, stringAt, behind, readSome}
 use Rattle.strings.specs.declared.Number.{Number}
 use Rattle.strings.specs.declared.Number.the-variants as number
@@ -31,9 +31,9 @@ use Rattle.pack.specs.declared.sections.Section.the-variants.{End, Bad}
 use Rattle.pack.specs.declared.guessing.GuessAt.{GuessAt}
 use Rattle.pack.specs.declared.guessing.GuessAt.the-variants as guesses
 use Rattle.pack.proofs.Readers.{guess-ends}
-use Rattle.strings.proofs.Readers.{EndOf, end-here, place-drop, then-inv, many-length, byte-ends, number-ends, byte-some, byte-none, count-of, count-cut, mask-of, mask-cut, text-is, text-cut, TextThen, reads-on, text-then, some-one, some-cut}
+use Rattle.strings.proofs.Readers.{EndOf, end-here, place-drop, then-inv, byte-ends, number-ends, byte-some, byte-none, count-of, count-cut, mask-of, mask-cut, text-is, text-cut, TextThen, reads-on, text-then, some-one, some-cut}
 use Rattle.base.proofs.Arms.{clash}
-use Rattle.pack.proofs.Judging.{Faulty, runs-out, fails, section-ends, section-faulty, judge-fine, judge-faulty, judge-same, walk-on, walk-off, walk-end}
+use Rattle.pack.proofs.Judging.{runs-out, fails, section-ends, section-faulty, judge-fine, judge-faulty, walk-on, walk-off, walk-end, counted-cut, counted-much, counted-many}
 use Rattle.base.proofs.PickLaws.{and-first, and-second}
 
 -- ---- a guessing rule at a place
@@ -264,32 +264,22 @@ section-not : (n : ℕ) (gs : List Guess) → 4096 < length gs → guessesGood n
 unfolding guessesGood
 section-not n gs h = and-first _ _ (lt-leb _ _ h)
 
-much-by : (n : ℕ) (l : List ℕ) (k : ℕ) (x : Read (List Guess)) → readMany readGuess k l ≡ x → 4096 < k → Faulty (guessesGood n) x
-much-by n l k cut e h = runs-out refl
-much-by n l k (got gs q) e h = let long : 4096 < length gs = omega (arith, many-length readGuess k l gs q e) in fails gs q refl (section-not n gs long)
-
 module _ (s : List ℕ) (n at : ℕ) (r : Number) (p : r ≡ numberAt 2 s at) where
   pub guesses-cut : r ≡ number.Cut → Bad ≡ endIn s (guessesGood n) (readGuesses (drop at s))
-  unfolding endIn readGuesses andRead judge
-  guesses-cut q = rw (count-cut s at r p q) refl
+  unfolding readGuesses
+  guesses-cut = counted-cut s readGuess (guessesGood n) (guessesFrom n) 4096 (section-not n) (section-is n) at r p
 
   module _ (k d : ℕ) (q : r ≡ number.Of k d) where
-    guesses-reads : readGuesses (drop at s) ≡ readMany readGuess k (drop d s)
-    unfolding readGuesses andRead
-    guesses-reads = rw (count-of s at r k d p q .reads) refl
-
     pub guesses-much : 4096 < k → Bad ≡ endIn s (guessesGood n) (readGuesses (drop at s))
-    unfolding endIn
-    guesses-much h = sym (ap (endIn s (guessesGood n)) guesses-reads ∙ judge-faulty _ _ _ _ (much-by n _ k _ refl h))
+    unfolding readGuesses
+    guesses-much = counted-much s readGuess (guessesGood n) (guessesFrom n) 4096 (section-not n) (section-is n) at r p k d q
 
     pub guesses-start : d ≤ length s
     guesses-start = count-of s at r k d p q .fits
 
     pub guesses-many : (x : Section) → k ≤ 4096 → x ≡ endIn s (guessesFrom n) (readMany readGuess k (drop d s)) → x ≡ endIn s (guessesGood n) (readGuesses (drop at s))
-    unfolding endIn
-    guesses-many x h e =
-        e ∙ sym (ap (endIn s (guessesGood n)) guesses-reads
-        ∙ judge-same _ _ _ _ _ (λ gs t g. let few : length gs ≤ 4096 = omega (arith, many-length readGuess k (drop d s) gs t g) in section-is n gs few))
+    unfolding readGuesses
+    guesses-many = counted-many s readGuess (guessesGood n) (guessesFrom n) 4096 (section-not n) (section-is n) at r p k d q
 
 pub ruleset guesses-laws = (guesses-cut, guesses-much, guesses-start, guesses-many)
 
