@@ -1,6 +1,6 @@
 use Rattle.rule.specs.Matching.{plainCode}
-use Rattle.rule.proofs.matching.is_plain.Statement.{statement}
-use Rattle.rule.proofs.matching.is_plain.Tie as tie
+use Rattle.rule.proofs.matching.may_hold.Statement.{statement}
+use Rattle.rule.proofs.matching.may_hold.Tie as tie
 use Rattle.base.proofs.PickLaws.{cases}
 
 returns : tie.Need-returns
@@ -15,5 +15,5 @@ returns-3 : tie.Need-returns-3
 unfolding plainCode
 returns-3 c = search cases
 
-pub is-plain-spec : {M : Type 1} → statement M
-is-plain-spec = tie.close (tie.spec returns returns-2 returns-3)
+pub may-hold-spec : {M : Type 1} → statement M
+may-hold-spec = tie.close (tie.spec returns returns-2 returns-3)
