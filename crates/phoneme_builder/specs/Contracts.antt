@@ -13,7 +13,7 @@ use Rattle.choices.specs.Apply.{Entry}
 use Rattle.refusals.specs.Numbers.{numberOf}
 use Rattle.refusals.specs.declared.Refusal.the-variants.{TextTooLong, TooManyTexts}
 use Rattle.phoneme_builder.specs.Sets.{Spelling, refusal, texts}
-use Rattle.phoneme_builder.specs.Passes.{offered, Match, none, by, Turn, Ran, tooLong, ran, flagged, run, raised, joined}
+use Rattle.phoneme_builder.specs.Passes.{offered, Turn, Ran, tooLong, ran, flagged, run, raised, joined}
 use Rattle.phoneme_builder.specs.BufferContracts.{AltsIn, alternatives, IsSet, markedTexts, part, Arena, SetAt, entriesAt, Stayed, Only, Rooms}
 use Rattle.phoneme_builder.specs.declared.pass.Turned.{Turned}
 use Rattle.phoneme_builder.specs.declared.pass.Turned.the-variants as turned
@@ -21,26 +21,8 @@ use Rattle.phoneme_builder.specs.declared.pass.Passed.{Passed}
 use Rattle.phoneme_builder.specs.declared.pass.Passed.the-variants as passed
 use Rattle.phoneme_builder.specs.declared.finals.Finished.{Finished}
 use Rattle.phoneme_builder.specs.declared.finals.Finished.the-variants as finished
-use Rattle.phoneme_builder.specs.declared.matching.Matched.{Matched}
-use Rattle.phoneme_builder.specs.declared.matching.Matched.the-variants.{By, Nothing}
 use Rattle.phoneme_builder.specs.declared.words.Worded.{Worded}
 use Rattle.phoneme_builder.specs.declared.words.Worded.the-variants as worded
-use Rattle.pack.specs.Packs.{Rule}
-
--- the rule's step and where its expression stands in the pack
-pub record RuleIn (s : List ℕ) (word : Text) (place : ℕ) (r : Rule) (step start end : ℕ) : Type 0 where
-  pub passes : step ≡ max 1 (length (r .pattern))
-  pub within : place + step ≤ length word
-  pub order : start ≤ end
-  pub fits : end ≤ length s
-  pub expression : take (end - start) (drop start s) ≡ r .expression
-  pub short : end - start < 256
-
-unfoldable pub MatchIs : List ℕ → Text → ℕ → Match → Matched → Type 0
-MatchIs s word place none (By step start end) = ⊥
-MatchIs s word place none Nothing = Unit {0}
-MatchIs s word place (by r) (By step start end) = RuleIn s word place r step start end
-MatchIs s word place (by r) Nothing = ⊥
 
 -- the table holds the alternatives of e
 pub record AltsAre (names e alts : List ℕ) (m : ℕ) : Type 0 where

@@ -9,9 +9,8 @@ use Rattle.letters.specs.Utf8.{decodeAt}
 use Rattle.letters.specs.declared.utf8.Step.{Step}
 use Rattle.letters.specs.declared.utf8.Step.the-variants.{Char, Ill, End}
 use Rattle.languages.specs.declared.sets.LanguageSet.{LanguageSet}
-use Rattle.rule.specs.Matching.{ruleMatches}
+use Rattle.rule_index.specs.Matching.{Match, none, by, Matcher}
 use Rattle.phonemes.specs.Expressions.{bar, piecesIn, textOf, setOf}
-use Rattle.pack.specs.Packs.{Rule}
 use Rattle.choices.specs.Texts.{Text}
 use Rattle.choices.specs.Apply.{Alternative, Entry, NextSet, overlong, nextSet, apply, start}
 use Rattle.refusals.specs.declared.Refusal.the-variants.{TextTooLong}
@@ -22,19 +21,6 @@ use Rattle.phoneme_builder.specs.Sets.{appended, Spelling, refusal, text
 -- the alternatives of an expression; `names` is the bytes of the pack's names
 unfoldable pub offered : List ℕ → List ℕ → List Alternative
 offered names e = map (λ (a : List ℕ). record { text = textOf a; langs = setOf names a }) (piecesIn e)
-
-pub data Match : Type 0 where
-  none : Match
-  by : Rule → Match
-
--- which rule a list has for a place of a word
-abbrev pub Matcher : Type 0
-Matcher = Text → ℕ → Match
-
--- "the first rule in its character's list that matches": a rule whose pattern stands there begins with that character
-unfoldable pub firstMatch : List Rule → Matcher
-firstMatch [] word place = none
-firstMatch (r ∷ rs) word place = pick (ruleMatches (r .pattern) (r .left) (r .right) word place) (by r) (firstMatch rs word place)
 
 -- a rule applied, or a character that no rule matched
 pub data Turn : Type 0 where

@@ -6,7 +6,8 @@ ghost use mathlib.Core.Bool.{true};
 ghost use Rattle.choices.specs.Apply.{start};
 ghost use Rattle.phoneme_builder.specs.BufferContracts.{arena, Rooms, SetAt, entryIn, entriesAt, TextIn};
 ghost use Rattle.phoneme_builder.specs.Passes.{turnsOf, run, finalText, finalPass};
-ghost use Rattle.phoneme_builder.specs.TableContracts.{matcher, ListIn};
+ghost use Rattle.rule_index.specs.Contracts.{matcher};
+ghost use Rattle.phoneme_builder.specs.TableContracts.{ListIn};
 ghost use Rattle.phoneme_builder.specs.Contracts.{PassedAt, Apart, TextFinished, FinishedAt};
 use crate::pass::Passed;
 use crate::pass::either;
@@ -16,6 +17,7 @@ use crate::set::copy_text;
 use crate::set::langs_of;
 use crate::unite::United;
 use crate::unite::unite;
+use rule_index::Table;
 
 // How many texts the result has, and the flag; or 7; or 8.
 pub(crate) enum Finished {
@@ -35,7 +37,7 @@ fn run_text(
     y: usize,
     pack: &[u8],
     names: &[u8],
-    table: &[usize],
+    table: &Table,
     list: usize,
     limit: usize,
 ) -> Passed
@@ -80,7 +82,7 @@ fn final_text(
     y: usize,
     pack: &[u8],
     names: &[u8],
-    table: &[usize],
+    table: &Table,
     list: usize,
     limit: usize,
 ) -> Finished
@@ -129,7 +131,7 @@ pub(crate) fn final_pass(
     y: usize,
     pack: &[u8],
     names: &[u8],
-    table: &[usize],
+    table: &Table,
     list: usize,
     limit: usize,
 ) -> Finished

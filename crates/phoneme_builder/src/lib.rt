@@ -4,7 +4,6 @@ mod apply;
 mod expressions;
 mod finals;
 mod marks;
-mod matching;
 mod pass;
 mod set;
 mod unite;

@@ -8,16 +8,19 @@ ghost use Rattle.base.specs.Pick.{pick};
 ghost use Rattle.letters.specs.Utf8.{decodeAt};
 ghost use Rattle.choices.specs.Apply.{apply};
 ghost use Rattle.phoneme_builder.specs.BufferContracts.{arena, Rooms, SetAt, entriesAt, AppliedAt};
-ghost use Rattle.phoneme_builder.specs.Passes.{offered, none, stepLength, turnOn, turnsOf, run};
-ghost use Rattle.phoneme_builder.specs.TableContracts.{matcher, ListIn};
+ghost use Rattle.phoneme_builder.specs.Passes.{offered, stepLength, turnOn, turnsOf, run};
+ghost use Rattle.rule_index.specs.Matching.{none};
+ghost use Rattle.rule_index.specs.Contracts.{matcher};
+ghost use Rattle.phoneme_builder.specs.TableContracts.{ListIn};
 ghost use Rattle.phoneme_builder.specs.Contracts.{StepIn, TurnedAt, PassedAt};
 use crate::append::append;
 use crate::apply::Applied;
 use crate::apply::apply;
 use crate::expressions::alternatives;
-use crate::matching::Matched;
-use crate::matching::first_match;
 use letters::Step;
+use rule_index::Matched;
+use rule_index::Table;
+use rule_index::first_match;
 
 // What a turn at a place comes to: so many texts in the other set, `full` where an apply ended at or over the limit;
 // or the texts kept where they are; or a text over 128 bytes would have entered (7).
@@ -129,7 +132,7 @@ fn turn(
     to: usize,
     pack: &[u8],
     names: &[u8],
-    table: &[usize],
+    table: &Table,
     list: usize,
     word: &[u8],
     place: usize,
@@ -181,7 +184,7 @@ pub(crate) fn run(
     y: usize,
     pack: &[u8],
     names: &[u8],
-    table: &[usize],
+    table: &Table,
     list: usize,
     word: &[u8],
     limit: usize,

@@ -10,7 +10,8 @@ ghost use Rattle.languages.specs.Contracts.{decoded, IsCode};
 ghost use Rattle.phonemes.specs.Expressions.{bar};
 ghost use Rattle.phoneme_builder.specs.BufferContracts.{arena, Rooms, SetAt, entriesAt};
 ghost use Rattle.phoneme_builder.specs.Passes.{finalPass, then, wordOf, joined};
-ghost use Rattle.phoneme_builder.specs.TableContracts.{matcher, ListIn, areLists};
+ghost use Rattle.rule_index.specs.Contracts.{matcher};
+ghost use Rattle.phoneme_builder.specs.TableContracts.{ListIn, areLists};
 ghost use Rattle.phoneme_builder.specs.Contracts.{FinishedAt, raisedBy, TextsIn, textsIn, barred, GivenIs, areBuffers, WordIs};
 use crate::finals::Finished;
 use crate::finals::final_pass;
@@ -21,6 +22,7 @@ use crate::set::begin;
 use crate::set::put;
 use crate::set::text_of;
 use languages::LanguageSet;
+use rule_index::Table;
 
 // How long the answer is, and the flag; or 7; or 8; or that the buffers, the limit, the table or a list's number are not fit for the work.
 pub enum Worded {
@@ -53,7 +55,7 @@ fn final_passes(
     n: usize,
     pack: &[u8],
     names: &[u8],
-    table: &[usize],
+    table: &Table,
     common: usize,
     last: usize,
     limit: usize,
@@ -112,7 +114,7 @@ fn spell_word(
     alts: &mut [u64],
     pack: &[u8],
     names: &[u8],
-    table: &[usize],
+    table: &Table,
     main: usize,
     common: usize,
     last: usize,
@@ -236,15 +238,13 @@ fn are_buffers(store: usize, marks: usize, alts: usize) -> bool
     false
 }
 
-// Whether a table has this size, and lists of these numbers.
-fn are_lists(table: usize, main: usize, common: usize, last: usize) -> bool
-    ensures { λ r. ⌜ r ≡ areLists table main common last ⌝ }
+// Whether a table may have lists of these numbers.
+fn are_lists(main: usize, common: usize, last: usize) -> bool
+    ensures { λ r. ⌜ r ≡ areLists main common last ⌝ }
 {
-    if table == 12642 {
-        if main < 98 {
-            if common < 98 {
-                return last < 98;
-            }
+    if main < 98 {
+        if common < 98 {
+            return last < 98;
         }
     }
     false
@@ -256,16 +256,15 @@ fn is_fit(
     store: usize,
     marks: usize,
     alts: usize,
-    table: usize,
     main: usize,
     common: usize,
     last: usize,
 ) -> bool
-    ensures { λ r. ⌜ r ≡ and (leb limit 256) (and (areBuffers store marks alts) (areLists table main common last)) ⌝ }
+    ensures { λ r. ⌜ r ≡ and (leb limit 256) (and (areBuffers store marks alts) (areLists main common last)) ⌝ }
 {
     if limit <= 256 {
         if are_buffers(store, marks, alts) {
-            return are_lists(table, main, common, last);
+            return are_lists(main, common, last);
         }
     }
     false
@@ -279,7 +278,7 @@ pub fn word(
     alts: &mut [u64],
     pack: &[u8],
     names: &[u8],
-    table: &[usize],
+    table: &Table,
     main: usize,
     common: usize,
     last: usize,
@@ -289,14 +288,13 @@ pub fn word(
     out: &mut [u8],
     at: usize,
 ) -> Worded
-    ensures { λ r. ⌜ WordIs (and (leb limit 256) (and (areBuffers (length (now (store .entry))) (length (now (marks .entry))) (length (now (alts .entry)))) (areLists (length (now (table .entry))) main common last))) (wordOf limit (now (names .entry)) (matcher (now (pack .entry)) (now (table .entry)) main) (matcher (now (pack .entry)) (now (table .entry)) common) (matcher (now (pack .entry)) (now (table .entry)) last) set (now (word .entry))) (now (out .entry)) (now (out .exit)) at r ⌝ }
+    ensures { λ r. ⌜ WordIs (and (leb limit 256) (and (areBuffers (length (now (store .entry))) (length (now (marks .entry))) (length (now (alts .entry)))) (areLists main common last))) (wordOf limit (now (names .entry)) (matcher (now (pack .entry)) (now (table .entry)) main) (matcher (now (pack .entry)) (now (table .entry)) common) (matcher (now (pack .entry)) (now (table .entry)) last) set (now (word .entry))) (now (out .entry)) (now (out .exit)) at r ⌝ }
 {
     if is_fit(
         limit,
         store.len(),
         marks.len(),
         alts.len(),
-        table.len(),
         main,
         common,
         last,

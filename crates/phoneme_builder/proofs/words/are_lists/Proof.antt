@@ -15,9 +15,5 @@ returns-3 : tie.Need-returns-3
 unfolding areLists
 returns-3 c = search cases
 
-returns-4 : tie.Need-returns-4
-unfolding areLists
-returns-4 c = search cases
-
 pub are-lists-spec : {M : Type 1} → statement M
-are-lists-spec = tie.close (tie.spec returns returns-2 returns-3 returns-4)
+are-lists-spec = tie.close (tie.spec returns returns-2 returns-3)
