@@ -20,7 +20,8 @@ use Rattle.languages.proofs.Laws.{name-some}
 use Rattle.strings.specs.declared.Next.{Next}
 use Rattle.strings.specs.declared.Next.the-variants as next
 use Rattle.strings.specs.Reading.{Read, cut, got, andRead, readByte, readText, readMany, placeIn, isNil}
-use Rattle.pack.specs.Packs.{Rule, Pack, Verdict, accepted, refused, readNames, readGuesses, readList, all, holds, any, namesGood, guessesGood, listGood, section, namesIn, listCount, listSections, endSection, packOf, verdictOf, stringsLength}
+use Rattle.pack.specs.Packs.{Pack, Verdict, accepted, refused, readNames, readGuesses, readList, all, holds, any, namesGood, guessesGood, listGood, section, namesIn, listCount, listSections, endSection, packOf, verdictOf, stringsLength}
+use Rattle.rule_lines.specs.Rules.{Rule}
 use Rattle.pack.specs.PlaceContracts.{surveyedOf, behindRule, foundIn, placesOf, SurveyIs}
 use Rattle.pack.specs.Contracts.{judge, endIn, allFrom, past, follows, metBy, namesFrom, listsEnd, ListsAre, ended, restOf, restPlaces, RestIs}
 use Rattle.strings.specs.Contracts.{ByteIs, stringAt}

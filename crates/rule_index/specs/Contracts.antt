@@ -6,7 +6,8 @@ use mathlib.Core.List.{List, [], _∷_}
 use lib.Dec.{eqb, ltb}
 use lib.ListN.{length, getD, set, take, drop}
 use Rattle.base.specs.Pick.{pick, and}
-use Rattle.pack.specs.Packs.{Rule, Pack, Verdict, accepted, refused, readRule, packOf, listCount}
+use Rattle.pack.specs.Packs.{Pack, Verdict, accepted, refused, readRule, packOf, listCount}
+use Rattle.rule_lines.specs.Rules.{Rule}
 use Rattle.strings.specs.Reading.{placeIn}
 use Rattle.pack.specs.PlaceContracts.{surveyedOf, placesOf}
 use Rattle.strings.specs.Contracts.{behind}
