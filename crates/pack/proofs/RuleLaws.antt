@@ -26,9 +26,9 @@ use Rattle.pack.specs.declared.rules.RuleAt.the-variants as rules
 use Rattle.pack.specs.declared.rules.Ruled.{Ruled}
 use Rattle.pack.specs.declared.rules.Ruled.the-variants as ruled
 use Rattle.pack.proofs.Readers.{rule-ends}
-use Rattle.strings.proofs.Readers.{end-here, end-then, end-is, end-within, place-drop, many-length, count-of, count-cut, TextIs, text-is, text-cut, TextRead, TextThen, reads-on, text-then}
+use Rattle.strings.proofs.Readers.{end-here, end-then, end-is, end-within, place-drop, count-of, count-cut, TextIs, text-is, text-cut, TextRead, TextThen, reads-on, text-then}
 use Rattle.base.proofs.Arms.{clash}
-use Rattle.pack.proofs.Judging.{Faulty, runs-out, fails, Judged, fine, faulty, judged, judge-faulty, judge-same, walk-on, walk-off, walk-end}
+use Rattle.pack.proofs.Judging.{Faulty, runs-out, Judged, fine, faulty, judged, judge-faulty, walk-on, walk-off, walk-end, counted-cut, counted-much, counted-many}
 use Rattle.base.proofs.PickLaws.{pick-true, pick-false, and-yes, and-first, and-second}
 
 -- ---- the strings of a rule, one after the other
@@ -381,31 +381,21 @@ list-not : (names : List ℕ) (rs : List Rule) → 4096 < length rs → listGood
 unfolding listGood
 list-not names rs h = and-first _ _ (lt-leb _ _ h)
 
-much-by : (names l : List ℕ) (n : ℕ) (x : Read (List Rule)) → readMany readRule n l ≡ x → 4096 < n → Faulty (listGood names) x
-much-by names l n cut e h = runs-out refl
-much-by names l n (got rs q) e h = let long : 4096 < length rs = omega (arith, many-length readRule n l rs q e) in fails rs q refl (list-not names rs long)
-
 module _ (s names : List ℕ) (at : ℕ) (r : Number) (p : r ≡ numberAt 2 s at) where
   pub list-cut : r ≡ number.Cut → Bad ≡ endIn s (listGood names) (readList (drop at s))
-  unfolding endIn readList andRead judge
-  list-cut q = rw (count-cut s at r p q) refl
+  unfolding readList
+  list-cut = counted-cut s readRule (listGood names) (rulesFrom names 0) 4096 (list-not names) (list-is names) at r p
 
   module _ (n d : ℕ) (q : r ≡ number.Of n d) where
-    list-reads : readList (drop at s) ≡ readMany readRule n (drop d s)
-    unfolding readList andRead
-    list-reads = rw (count-of s at r n d p q .reads) refl
-
     pub list-much : 4096 < n → Bad ≡ endIn s (listGood names) (readList (drop at s))
-    unfolding endIn
-    list-much h = sym (ap (endIn s (listGood names)) list-reads ∙ judge-faulty _ _ _ _ (much-by names _ n _ refl h))
+    unfolding readList
+    list-much = counted-much s readRule (listGood names) (rulesFrom names 0) 4096 (list-not names) (list-is names) at r p n d q
 
     pub list-starts : d ≤ length s
     list-starts = count-of s at r n d p q .fits
 
     pub list-many : (x : Section) → n ≤ 4096 → x ≡ endIn s (rulesFrom names 0) (readMany readRule n (drop d s)) → x ≡ endIn s (listGood names) (readList (drop at s))
-    unfolding endIn
-    list-many x h e =
-        e ∙ sym (ap (endIn s (listGood names)) list-reads
-        ∙ judge-same _ _ _ _ _ (λ rs t g. let few : length rs ≤ 4096 = omega (arith, many-length readRule n (drop d s) rs t g) in list-is names rs few))
+    unfolding readList
+    list-many = counted-many s readRule (listGood names) (rulesFrom names 0) 4096 (list-not names) (list-is names) at r p n d q
 
 pub ruleset list-laws = (list-cut, list-much, list-starts, list-many)

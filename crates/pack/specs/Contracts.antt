@@ -13,7 +13,7 @@ use Rattle.languages.specs.Names.{languageName}
 use Rattle.rule.specs.Matching.{firstCode}
 use Rattle.strings.specs.Reading.{Read, cut, got, readByte, readNumber, placeIn}
 use Rattle.pack.specs.Packs.{Guess, readGuess, readList, any, guessGood, listGood, listCount}
-use Rattle.rule_lines.specs.Rules.{Rule, ruleGood}
+use Rattle.rule_lines.specs.Rules.{Rule, ruleGood, rule}
 use Rattle.pack.specs.PlaceContracts.{foundIn}
 use Rattle.strings.specs.Contracts.{behind, readSome}
 use Rattle.strings.specs.declared.Number.{Number}
@@ -92,6 +92,10 @@ rulesFrom names = allFrom (ruleFits names) (λ least r. firstCode (r .pattern)) 
 
 unfoldable pub ruledAs : List ℕ → ℕ → ℕ → Rule → Ruled
 ruledAs names least end r = pick (ruleFits names least r) (ruled.Next end (firstCode (r .pattern))) ruled.Bad
+
+-- the same of a rule's four strings
+abbrev pub ruledOf : List ℕ → ℕ → ℕ → List ℕ → List ℕ → List ℕ → List ℕ → Ruled
+ruledOf names least end p l r e = ruledAs names least end (rule p l r e)
 
 unfoldable pub ruledIn : List ℕ → List ℕ → ℕ → Read Rule → Ruled
 ruledIn s names least rd = judge ruled.Bad (ruleFits names least) rd (λ r q. ruled.Next (placeIn s q) (firstCode (r .pattern)))

@@ -4,9 +4,8 @@ ghost use Prim.Native.Nat.{_≤_};
 ghost use lib.ListN.{length, drop};
 ghost use Rattle.strings.specs.Reading.{readMany};
 ghost use Rattle.pack.specs.Packs.{readRule, readList, listGood};
-ghost use Rattle.rule_lines.specs.Rules.{rule};
 ghost use Rattle.pack.specs.PlaceContracts.{ruleStandsAt, ruleCount};
-ghost use Rattle.pack.specs.Contracts.{endIn, ruledAs, ruledIn, rulesFrom};
+ghost use Rattle.pack.specs.Contracts.{endIn, ruledOf, ruledIn, rulesFrom};
 use crate::sections::Section;
 use strings::Next;
 use strings::Number;
@@ -92,7 +91,7 @@ fn rule_behind(
     right: &[u8],
     expression: &[u8],
 ) -> Ruled
-    ensures { λ r. ⌜ r ≡ ruledAs (now (names .entry)) least end (rule (now (pattern .entry)) (now (left .entry)) (now (right .entry)) (now (expression .entry))) ⌝ }
+    ensures { λ r. ⌜ r ≡ ruledOf (now (names .entry)) least end (now (pattern .entry)) (now (left .entry)) (now (right .entry)) (now (expression .entry)) ⌝ }
 {
     let code = rule::first_code(pattern);
     if code < least {
