@@ -10,4 +10,7 @@ pub use names::string_at;
 pub use sets::LanguageSet;
 pub use sets::Single;
 pub use sets::coded;
+pub use sets::is_empty_code;
+pub use sets::merge_codes;
+pub use sets::narrow_codes;
 pub use sets::subtract;

@@ -1,5 +1,2 @@
 pub mod Sets
 pub mod BufferContracts
-pub mod Passes
-pub mod Contracts
-pub mod TableContracts

@@ -132,6 +132,15 @@ languages-subtract κs a = (tt, λ x y v w p q. (one p q, refl))
 pub languages-coded : Settled languages.coded.ended languages.coded.Reads.Asked languages.coded.Reads.Learnt
 languages-coded κs a = (tt, λ x y v w p q. (one p q, refl))
 
+pub languages-narrow-codes : Settled languages.narrow_codes.ended languages.narrow_codes.Reads.Asked languages.narrow_codes.Reads.Learnt
+languages-narrow-codes κs a = (tt, λ x y v w p q. (one p q, refl))
+
+pub languages-merge-codes : Settled languages.merge_codes.ended languages.merge_codes.Reads.Asked languages.merge_codes.Reads.Learnt
+languages-merge-codes κs a = (tt, λ x y v w p q. (one p q, refl))
+
+pub languages-is-empty-code : Settled languages.is_empty_code.ended languages.is_empty_code.Reads.Asked languages.is_empty_code.Reads.Learnt
+languages-is-empty-code κs a = (tt, λ x y v w p q. (one p q, refl))
+
 pub languages-is-language-name : Settled languages.is_language_name.ended languages.is_language_name.Reads.Asked languages.is_language_name.Reads.Learnt
 languages-is-language-name κs a = (tt, λ x y v w p q. (one p q, refl))
 
