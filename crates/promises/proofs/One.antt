@@ -1,6 +1,6 @@
 -- What each public function promises settles its answer (01, What the statements have to settle): a law for each, named CRATE-FUNCTION, of the contract that
--- the code itself has (`Asked` and `Learnt` of its `Reads`). Two promises leave something open, as said there:
--- `write_lists` (the buffer after a refusal), `word` (its work buffers). Assumes nothing.
+-- the code itself has (`Asked` and `Learnt` of its `Reads`). Some promises leave something open, as said there:
+-- `write_lists` (the buffer after a refusal), `word` (its work buffers), `index` and `first_match` (what is not looked at). Assumes nothing.
 use mathlib.Core.Path.{_≡_, refl, sym, ap, ap₂, _∙_}
 use mathlib.Core.List.{List, []}
 use Prim.Native.Nat.{ℕ}
@@ -12,6 +12,9 @@ use Rattle.bundles.proofs.Laws.{numbers-one}
 use Rattle.rule_lists.specs.Outcomes.{Loading, fine, notLoaded}
 use Rattle.rule_lists.specs.declared.writing.Written.{Written}
 use Rattle.rule_lists.specs.declared.writing.Written.the-variants.{Done, Refused}
+use Rattle.pack.specs.declared.sections.Surveyed.{Surveyed}
+use Rattle.rule_index.specs.Matching.{Matcher}
+use Rattle.rule_index.specs.Contracts.{matcher, seenIn}
 use Rattle.phoneme_builder.specs.declared.words.Worded.{Worded}
 use Rattle.lower_case.proofs.LowerLaws.{lowered-one}
 use Rattle.languages.proofs.NumberLaws.{set-one, listed-one}
@@ -21,6 +24,8 @@ use Rattle.rules_parser.proofs.NumberLaws.{item-one}
 use Rattle.pack.proofs.NumberLaws.{checked-one}
 use Rattle.pack.proofs.Laws.{survey-one}
 use Rattle.loader.proofs.Accepted.{load-one}
+use Rattle.rule_index.proofs.TableLaws.{index-one}
+use Rattle.rule_index.proofs.MatchLaws.{match-one}
 use Rattle.phoneme_builder.proofs.WordLaws.{word-one}
 use Rattle.engine.proofs.AnswerLaws.{spell-one}
 use Rattle.engine.proofs.LinesLaws.{lines-one}
@@ -42,6 +47,7 @@ use Rattle.pack_bytes.proofs as pack_bytes
 use Rattle.bundles.proofs as bundles
 use Rattle.rule_lists.proofs as rule_lists
 use Rattle.loader.proofs as loader
+use Rattle.rule_index.proofs as rule_index
 use Rattle.phoneme_builder.proofs as phoneme_builder
 use Rattle.engine.proofs as engine
 use Rattle.beider_morse.proofs as beider_morse
@@ -310,6 +316,14 @@ pub «rule_lists-write-lists» : SettledBy rule_lists.write_lists.ended {B = Wri
 
 pub loader-load : Settled loader.load.ended loader.load.Reads.Asked loader.load.Reads.Learnt
 loader-load κs a = (tt, λ x y v w p q. content (λ o. (tt, (tt, (o, tt)))) (load-one _ _ p q))
+
+-- ---- rule_index: of the table is told what is found by it, and of a match the expression and not its place
+
+pub «rule_index-index» : SettledBy rule_index.index.ended {B = Surveyed × (ℕ → Matcher)} (λ κs a x v. (x, matcher (now (a .0)) (v .1 .0))) rule_index.index.Reads.Asked rule_index.index.Reads.Learnt
+«rule_index-index» κs a = (tt, λ x y v w. index-one _ x y _ _)
+
+pub «rule_index-first-match» : SettledBy rule_index.first_match.ended (λ κs a x v. seenIn (now (a .0)) x) rule_index.first_match.Reads.Asked rule_index.first_match.Reads.Learnt
+«rule_index-first-match» κs a = (tt, λ x y v w. match-one _ _ _ _ x y)
 
 -- ---- phoneme_builder: of its three work buffers `word` promises nothing; the fourth, `out`, is its thirteenth parameter
 

@@ -1,0 +1,228 @@
+-- The table: the loop over the lists, and what a survey's answer gives for it. Assumes nothing.
+use mathlib.Core.Path.{_≡_, refl, sym, ap, ap₂, subst, _∙_}
+use mathlib.Core.Bool.{Bool, true, false}
+use mathlib.Core.List.{List, [], _∷_}
+use Prim.Native.Nat.{ℕ, zero, suc, _+_, _-_, _*_, _%_, _≤_, _<_, zero-le}
+use native.Mathlib.Omega.{arith}
+use lib.Dec.{ltb}
+use lib.ListN.{length, getD, set, take, drop, replicate, length-replicate, getD-replicate, List·getD-append}
+use lib.Seq.{sets, sets-eq, length-sets, getD-set-same, getD-set-other}
+use mir.Syntax.{w64}
+use mir.Val.{Fits}
+use borrow.Author.Tests.{ltb-true, ltb-false}
+use Rattle.base.specs.Pick.{pick, and}
+use Rattle.base.proofs.One.{one}
+use Rattle.base.proofs.PickLaws.{pick-true, pick-false, and-yes, and-first, and-second}
+use Rattle.texts.specs.Parts.{prefixOf}
+use Rattle.pack.specs.Packs.{Rule, Pack, Verdict, accepted, refused, listCount, packOf, stringsLength}
+use Rattle.pack.specs.PlaceContracts.{placesOf, surveyedOf, listAt, SurveyIs}
+use Rattle.pack.specs.Numbers.{surveyedNumbers}
+use Rattle.pack.specs.declared.sections.Surveyed.{Surveyed}
+use Rattle.pack.specs.declared.sections.Surveyed.the-variants as surveyed
+use Rattle.pack.proofs.Readers.{clash}
+use Rattle.pack.proofs.NumberLaws.{surveyed-one}
+use Rattle.pack.proofs.Laws.{RulesAt, no-rule, one-rule, good-rule, languages-few, lists-counted, places-counted, list-held, list-told, SurveyedPack, surveyed-pack}
+use Rattle.rule_index.specs.Matching.{none, Matcher, firstMatch}
+use Rattle.rule_index.specs.Contracts.{packBy, packIn, rulesBetween, tried, matcher, Blank, ListReady, RowFinds, ListsReady, Finds, IndexIs}
+use Rattle.rule_index.proofs.RowLaws.{never-past}
+
+-- ---- a list matches nothing behind a word
+
+past-held : {s names : List ℕ} {at : ℕ} {rs : List Rule} (word : List ℕ) (place : ℕ) → length word ≤ place → RulesAt s names at rs → firstMatch rs word place ≡ none
+unfolding firstMatch
+past-held word place h no-rule = refl
+past-held {names = names} word place h (one-rule {r = r} p w v k l) = pick-false _ _ _ (never-past r word place (good-rule names r k .«pattern-some») h) ∙ past-held word place h l
+
+-- ---- rows
+
+blank-finds : {s row : List ℕ} → Blank row → RowFinds s row []
+unfolding tried rulesBetween
+blank-finds {s} {row} w = record {
+  found = λ word place.
+      let kind = getD word place 0 % 64 in
+      ap (λ (e : ℕ). firstMatch (rulesBetween e s (getD row kind 0) e) word place) (w .clear kind (omega arith));
+}
+
+-- a row that is there lies in the table
+row-within : (table : List (List ℕ)) (k : ℕ) → length (getD table k []) ≡ 128 → k < length table
+row-within [] k h = let no-way : ⊥ = omega (arith, h) in absurd no-way
+row-within (x ∷ table) zero h = omega arith
+row-within (x ∷ table) (suc k) h = omega (arith, row-within table k h)
+
+no-list : (ls : List (List Rule)) (k : ℕ) → length ls ≤ k → getD ls k [] ≡ []
+no-list [] k h = refl
+no-list (x ∷ ls) zero h = let no-way : ⊥ = omega (arith, h) in absurd no-way
+no-list (x ∷ ls) (suc k) h = no-list ls k (omega (arith, h))
+
+-- what is found by a table, from what is found by its rows
+module _ (s : List ℕ) (table : List (List ℕ)) (rows : (k : ℕ) → k < 98 → RowFinds s (getD table k []) (getD (packIn s .lists) k []))
+    (past : (k : ℕ) (word : List ℕ) (place : ℕ) → length word ≤ place → firstMatch (getD (packIn s .lists) k []) word place ≡ none)
+    (few : length (packIn s .lists) ≤ 98) where
+  finds-by : (k : ℕ) (word : List ℕ) (place : ℕ) (t u : Bool) → ltb k 98 ≡ t → ltb place (length word) ≡ u → matcher s table k word place ≡ firstMatch (getD (packIn s .lists) k []) word place
+  unfolding matcher firstMatch
+  finds-by k word place true true e f = pick-true _ _ _ (and-yes _ _ e f) ∙ rows k (ltb-true _ _ e) .found word place
+  finds-by k word place true false e f = pick-false _ _ _ (and-second _ _ e f) ∙ sym (past k word place (ltb-false _ _ f))
+  finds-by k word place false u e f =
+      pick-false _ _ _ (and-first _ _ e) ∙ ap (λ (l : List Rule). firstMatch l word place) (sym (no-list (packIn s .lists) k (omega (arith, few, ltb-false k 98 e))))
+
+  finds : Finds s table
+  finds k = λ i word place. finds-by k word place _ _ refl refl i
+
+-- ---- the loop over the lists
+
+-- the rows before the k-th find the rules of their lists, and the others are blank
+pub record Listing (s places : List ℕ) (lists : ℕ) (table : List (List ℕ)) (k : ℕ) : Type 0 where
+  pub is : packOf s ≡ accepted (packIn s)
+  pub counted : lists ≡ listCount (length (packIn s .names))
+  pub held : (j : ℕ) → j < lists → getD places j 0 ≡ getD (placesOf s) j 0
+  pub blank : (j : ℕ) → k ≤ j → j < 98 → Blank (getD table j [])
+  pub found : (j : ℕ) → j < k → RowFinds s (getD table j []) (getD (packIn s .lists) j [])
+  pub within : k ≤ lists
+  pub few : lists ≤ 98
+  pub long : length places ≡ 98
+
+pub listing-start : {s places : List ℕ} {lists : ℕ} {table : List (List ℕ)} → ListsReady s places lists table → Listing s places lists table 0
+unfolding listCount
+listing-start {s} w = record {
+  is = w .is;
+  counted = w .counted;
+  held = w .held;
+  blank = λ j l h. w .blank j h;
+  found = λ j h. let no-way : ⊥ = omega arith in absurd no-way;
+  within = zero-le;
+  few = omega (arith, w .counted, languages-few s (packIn s) (1 + stringsLength (packIn s .names)) (w .is) refl);
+  long = w .long;
+}
+
+module _ {s places : List ℕ} {lists k : ℕ} {table : List (List ℕ)} (w : Listing s places lists table k) where
+  many : length (packIn s .lists) ≡ lists
+  many = lists-counted s (packIn s) (1 + stringsLength (packIn s .names)) (w .is) refl ∙ sym (w .counted)
+
+  past-by : (j : ℕ) (word : List ℕ) (place : ℕ) → length word ≤ place → (t : Bool) → ltb j lists ≡ t → firstMatch (getD (packIn s .lists) j []) word place ≡ none
+  unfolding firstMatch
+  past-by j word place h true e =
+      past-held word place h (list-held s (packIn s) (1 + stringsLength (packIn s .names)) (w .is) refl j (rw (← w .counted) (ltb-true _ _ e)) .held)
+  past-by j word place h false e = ap (λ (l : List Rule). firstMatch l word place) (no-list (packIn s .lists) j (omega (arith, many, ltb-false j lists e)))
+
+  row-by : lists ≤ k → (j : ℕ) → j < 98 → (t : Bool) → ltb j lists ≡ t → RowFinds s (getD table j []) (getD (packIn s .lists) j [])
+  row-by h j l true e = w .found j (omega (arith, h, ltb-true j lists e))
+  row-by h j l false e =
+      subst (λ (rs : List Rule). RowFinds s (getD table j []) rs) (sym (no-list (packIn s .lists) j (omega (arith, many, ltb-false j lists e))))
+      (blank-finds (w .blank j (omega (arith, w .within, ltb-false j lists e)) l))
+
+  pub listing-done : lists ≤ k → Finds s table
+  listing-done h = finds s table (λ j l. row-by h j l _ refl) (λ j word place l. past-by j word place l _ refl) (omega (arith, many, w .few))
+
+  module _ (h : k < lists) where
+    pub listing-row : k < 98
+    listing-row = omega (arith, w .few)
+
+    pub listing-place : k < length places
+    listing-place = omega (arith, w .few, w .long)
+
+    pub listing-next : ListReady s (getD table k []) (getD places k 0)
+    listing-next = record { is = w .is; list = k; known = rw (← w .counted) h; held = w .held k h; blank = w .blank k (omega arith) listing-row }
+
+    module _ {row : List ℕ} (v : RowFinds s row (listAt s (getD places k 0))) where
+      row-told : RowFinds s row (getD (packIn s .lists) k [])
+      row-told =
+          subst (RowFinds s row) (ap (listAt s) (w .held k h) ∙ list-told s (packIn s) (1 + stringsLength (packIn s .names)) (w .is) refl k (rw (← w .counted) h)) v
+
+      found-by : (j : ℕ) → j < k + 1 → (t : Bool) → ltb j k ≡ t → RowFinds s (getD (set table k row) j []) (getD (packIn s .lists) j [])
+      found-by j l true e =
+          let less : j < k = ltb-true _ _ e in
+          subst (λ (r : List ℕ). RowFinds s r (getD (packIn s .lists) j [])) (sym (getD-set-other table k j row [] (λ n. omega (arith, n, less)))) (w .found j less)
+      found-by j l false e =
+          let more : k ≤ j = ltb-false _ _ e in
+          let same : j ≡ k = omega arith in
+          rw (same, getD-set-same table k row [] (row-within table k (w .blank k (omega arith) listing-row .long))) row-told
+
+      pub listing-turn : Listing s places lists (set table k row) (k + 1)
+      listing-turn = record {
+        is = w .is;
+        counted = w .counted;
+        held = w .held;
+        blank = λ j l m. subst Blank (sym (getD-set-other table k j row [] (λ n. omega (arith, n, l)))) (w .blank j (omega (arith, l)) m);
+        found = λ j l. found-by j l _ refl;
+        within = omega arith;
+        few = w .few;
+        long = w .long;
+      }
+
+pub ruleset listing-laws = (listing-start, listing-done, listing-row, listing-place, listing-next, listing-turn)
+
+-- ---- a survey's answer
+
+pack-in : (s : List ℕ) (p : Pack) → packOf s ≡ accepted p → packIn s ≡ p
+unfolding packIn packBy
+pack-in s p e = ap packBy e
+
+module _ {s t t′ : List ℕ} {r : Surveyed} (w : SurveyIs s t r t′) where
+  refused-by : (place : ℕ) (v : Verdict) → packOf s ≡ v → surveyedOf v ≡ surveyed.Refused place → packIn s .lists ≡ []
+  unfolding surveyedOf packIn packBy
+  refused-by place (accepted p) e q = clash (cc)
+  refused-by place (refused k) e q = ap (λ (x : Verdict). packBy x .lists) e
+
+  -- a refused pack has no list
+  pub index-refused : {table : List (List ℕ)} → ((k : ℕ) → k < 98 → Blank (getD table k [])) → (place : ℕ) → r ≡ surveyed.Refused place → IndexIs s (surveyed.Refused place) table
+  unfolding firstMatch
+  index-refused {table} blank place q =
+      let none-there : packIn s .lists ≡ [] = refused-by place _ refl (sym (surveyed-one _ _ (w .result)) ∙ q) in
+      let empty : (k : ℕ) → getD (packIn s .lists) k [] ≡ [] = λ k. ap (λ (l : List (List Rule)). getD l k []) none-there in
+      record {
+        result = ap surveyedNumbers (sym q) ∙ w .result;
+        found = finds s table (λ k h. subst (λ (l : List Rule). RowFinds s (getD table k []) l) (sym (empty k)) (blank-finds (blank k h)))
+            (λ k word place h. ap (λ (l : List Rule). firstMatch l word place) (empty k)) (omega (arith, ap length none-there));
+      }
+
+  module _ (n g : ℕ) (q : r ≡ surveyed.Accepted n g) where
+    pub index-accepted : {table : List (List ℕ)} → Finds s table → IndexIs s (surveyed.Accepted n g) table
+    index-accepted f = record { result = ap surveyedNumbers (sym q) ∙ w .result; found = f }
+
+    there : SurveyedPack s n g
+    there = surveyed-pack s n g r (surveyed-one _ _ (w .result)) q
+
+    few : n ≤ 32
+    few = omega (arith, there .languages, languages-few s (there .pack) g (there .is) (there .guesses))
+
+    same : packIn s ≡ there .pack
+    same = pack-in s (there .pack) (there .is)
+
+    pub thrice-fits : Fits w64 (3 * n)
+    thrice-fits = record { fits = omega (arith, few) }
+
+    pub lists-fit : Fits w64 (3 * n + 2)
+    lists-fit = record { fits = omega (arith, few) }
+
+    lists-many : 3 * n + 2 ≡ listCount (length (packIn s .names))
+    unfolding listCount
+    lists-many = ap listCount (there .languages ∙ ap (λ (p : Pack). length (p .names)) (sym same))
+
+    pub index-ready : {table : List (List ℕ)} → length t ≡ 98 → ((k : ℕ) → k < 98 → Blank (getD table k [])) → ListsReady s t′ (3 * n + 2) table
+    index-ready long blank =
+        let room : length (placesOf s) ≡ 3 * n + 2 = places-counted s (packIn s) g (there .is ∙ ap accepted (sym same)) (there .guesses ∙ ap (λ (p : Pack). 1 + stringsLength (p .names)) (sym same)) ∙ sym lists-many in
+        record {
+          is = there .is ∙ ap accepted (sym same);
+          counted = lists-many;
+          long = ap length (w .buffer) ∙ length-sets t 0 (placesOf s) ∙ long;
+          held = λ k h. ap (λ (x : List ℕ). getD x k 0) (w .buffer ∙ sets-eq (placesOf s) t 0 (omega (arith, room, long, few))) ∙ List·getD-append (placesOf s) _ 0 k (omega (arith, h, room));
+          blank = blank;
+        }
+
+-- ---- a new table
+
+pub zeros-long : length (replicate {A = ℕ} 98 0) ≡ 98
+zeros-long = length-replicate {A = ℕ} 98 0
+
+pub zeros-blank : (n m : ℕ) → n ≡ 98 → m ≡ 128 → (k : ℕ) → k < 98 → Blank (getD (replicate n (replicate m 0)) k [])
+zeros-blank n m en em k h =
+    subst Blank (sym (getD-replicate n k _ [] (omega (arith, en))))
+    (record { long = length-replicate m 0 ∙ em; clear = λ kind l. getD-replicate m (kind + 64) 0 0 (omega (arith, em)) })
+
+pub ruleset survey-laws = (index-refused, index-accepted, thrice-fits, lists-fit, index-ready, zeros-long, zeros-blank)
+
+-- the promise of `index` allows one answer, and one table as far as it is looked at
+pub index-one : (s : List ℕ) (r r′ : Surveyed) (t t′ : List (List ℕ)) → IndexIs s r t → IndexIs s r′ t′ → _≡_ {A = Surveyed × (ℕ → Matcher)} (r, matcher s t) (r′, matcher s t′)
+index-one s r r′ t t′ a b =
+    let same : matcher s t ≡ matcher s t′ = λ i k. (a .found k ∙ sym (b .found k)) i in
+    ap₂ (λ (x : Surveyed) (m : ℕ → Matcher). (x, m)) (surveyed-one _ _ (one (a .result) (b .result))) same

@@ -1,0 +1,8 @@
+// The table of a pack's rules: built, and the first rule that matches at a place. Nobody else knows its layout.
+mod indexing;
+mod matching;
+
+pub use indexing::Table;
+pub use indexing::index;
+pub use matching::Matched;
+pub use matching::first_match;
