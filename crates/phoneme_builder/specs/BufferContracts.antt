@@ -14,7 +14,7 @@ use Rattle.refusals.specs.declared.Refusal.the-variants.{TooManyTexts}
 use Rattle.phoneme_builder.specs.Sets.{lengthened, appended, Spelling, refusal, united}
 use Rattle.phoneme_builder.specs.declared.set.Found.{Found}
 use Rattle.phoneme_builder.specs.declared.set.Found.the-variants.{At, Free}
-use Rattle.phoneme_builder.specs.declared.set.Filled.{Filled}
+use Rattle.phoneme_builder.specs.declared.set.Target.{Target}
 use Rattle.phoneme_builder.specs.declared.set.Between.{Between}
 use Rattle.phoneme_builder.specs.declared.apply.Most.{Most}
 use Rattle.phoneme_builder.specs.declared.apply.Applied.{Applied}
@@ -181,13 +181,13 @@ pub record GrownAt (a b : Arena) (k r : ℕ) (l : List Entry) : Type 0 where
   pub is : entriesAt b k r ≡ l
   pub others : Only k k a b
 
-pub record AddsTo (a : Arena) (to : Filled) (long g : ℕ) : Type 0 where
+pub record AddsTo (a : Arena) (to : Target) (long g : ℕ) : Type 0 where
   pub set : SetAt a (to .set) (to .count)
   pub room : to .count < 256
   pub fits : long ≤ 128
   pub code : IsCode g
 
-abbrev pub AddedTo : Arena → Arena → Filled → Text → ℕ → ℕ → Type 0
+abbrev pub AddedTo : Arena → Arena → Target → Text → ℕ → ℕ → Type 0
 AddedTo a b to t g r = GrownAt a b (to .set) r (insert (entry t (decoded g)) (entriesAt a (to .set) (to .count)))
 
 abbrev pub BegunAs : Arena → Arena → ℕ → ℕ → ℕ → Type 0
@@ -261,7 +261,7 @@ pub record OfferedAt (limit : ℕ) (cs l : List Entry) (a b : Arena) (to : ℕ) 
   pub is : (rest : List Entry) → outcomeBy r b to (enter limit rest) ≡ enter limit (cs ++ rest) l
   pub others : Only to to a b
 
-pub record Offers (a : Arena) (to : Filled) (g h limit : ℕ) : Type 0 where
+pub record Offers (a : Arena) (to : Target) (g h limit : ℕ) : Type 0 where
   pub set : SetAt a (to .set) (to .count)
   pub room : to .count < limit
   pub few : limit ≤ 256
@@ -269,28 +269,28 @@ pub record Offers (a : Arena) (to : Filled) (g h limit : ℕ) : Type 0 where
   pub other : IsCode h
 
 -- the alternatives entered under the entry e
-abbrev pub OfferedUnder : Entry → List Alternative → ℕ → Arena → Arena → Filled → Applied → Type 0
+abbrev pub OfferedUnder : Entry → List Alternative → ℕ → Arena → Arena → Target → Applied → Type 0
 OfferedUnder e alts limit a b to r = OfferedAt limit (under e alts) (entriesAt a (to .set) (to .count)) a b (to .set) r
 
-abbrev pub OfferedTo : Arena → Arena → Filled → Text → ℕ → Text → ℕ → ℕ → Applied → Type 0
+abbrev pub OfferedTo : Arena → Arena → Target → Text → ℕ → Text → ℕ → ℕ → Applied → Type 0
 OfferedTo a b to t g u h limit r = OfferedUnder (entry t (decoded g)) (alternative u (decoded h) ∷ []) limit a b to r
 
-pub record RowOffers (a : Arena) (to : Filled) (g : ℕ) (expr alts : List ℕ) (most : Most) : Type 0 where
+pub record RowOffers (a : Arena) (to : Target) (g : ℕ) (expr alts : List ℕ) (most : Most) : Type 0 where
   pub set : SetAt a (to .set) (to .count)
   pub table : AltsIn expr alts (most .alternatives)
   pub few : most .limit ≤ 256
   pub code : IsCode g
 
-abbrev pub RowOffered : Arena → Arena → Filled → Text → ℕ → List ℕ → List ℕ → Most → Applied → Type 0
+abbrev pub RowOffered : Arena → Arena → Target → Text → ℕ → List ℕ → List ℕ → Most → Applied → Type 0
 RowOffered a b to t g expr alts most r = OfferedUnder (entry t (decoded g)) (alternatives expr alts (most .alternatives)) (most .limit) a b to r
 
-pub record TextOffers (a : Arena) (from i : ℕ) (to : Filled) (expr alts : List ℕ) (most : Most) : Type 0 where
+pub record TextOffers (a : Arena) (from i : ℕ) (to : Target) (expr alts : List ℕ) (most : Most) : Type 0 where
   pub text : TextIn (a .slots) from i
   pub set : SetAt a (to .set) (to .count)
   pub table : AltsIn expr alts (most .alternatives)
   pub few : most .limit ≤ 256
 
-abbrev pub TextOffered : Arena → Arena → ℕ → ℕ → Filled → List ℕ → List ℕ → Most → Applied → Type 0
+abbrev pub TextOffered : Arena → Arena → ℕ → ℕ → Target → List ℕ → List ℕ → Most → Applied → Type 0
 TextOffered a b from i to expr alts most r = OfferedUnder (entryIn a from i) (alternatives expr alts (most .alternatives)) (most .limit) a b to r
 
 -- the set to read has its texts, and the set to write is another
@@ -322,12 +322,12 @@ pub record LengthenedAt (a b : Arena) (to : ℕ) (e : Entry) (l : List Entry) (r
   pub is : InsertedBy r b to e l
   pub others : Only to to a b
 
-pub record Lengthens (a : Arena) (from i : ℕ) (to : Filled) : Type 0 where
+pub record Lengthens (a : Arena) (from i : ℕ) (to : Target) : Type 0 where
   pub text : TextIn (a .slots) from i
   pub set : SetAt a (to .set) (to .count)
   pub room : to .count < 256
 
-abbrev pub LengthenedTo : Arena → Arena → ℕ → ℕ → Filled → Text → Applied → Type 0
+abbrev pub LengthenedTo : Arena → Arena → ℕ → ℕ → Target → Text → Applied → Type 0
 LengthenedTo a b from i to c r = LengthenedAt a b (to .set) (lengthened c (entryIn a from i)) (entriesAt a (to .set) (to .count)) r
 
 abbrev pub AppendedTo : Arena → Arena → Between → Text → Applied → Type 0
@@ -384,21 +384,21 @@ pub record UnitedAt (a b : Arena) (to : ℕ) (g : LanguageSet) (xs l : List Entr
   pub is : (rest : List Entry → Spelling) → spellingAt r b to rest ≡ united g xs l rest
   pub others : Only to to a b
 
-pub record UnitesTo (a : Arena) (to : Filled) (t : Text) (h g : ℕ) : Type 0 where
+pub record UnitesTo (a : Arena) (to : Target) (t : Text) (h g : ℕ) : Type 0 where
   pub set : SetAt a (to .set) (to .count)
   pub fits : length t ≤ 128
   pub code : IsCode h
   pub worked : IsCode g
 
-abbrev pub UnitedTo : Arena → Arena → Filled → Text → ℕ → ℕ → United → Type 0
+abbrev pub UnitedTo : Arena → Arena → Target → Text → ℕ → ℕ → United → Type 0
 UnitedTo a b to t h g r = UnitedAt a b (to .set) (decoded g) (entry t (decoded h) ∷ []) (entriesAt a (to .set) (to .count)) r
 
-pub record UnitesText (a : Arena) (from i : ℕ) (to : Filled) (g : ℕ) : Type 0 where
+pub record UnitesText (a : Arena) (from i : ℕ) (to : Target) (g : ℕ) : Type 0 where
   pub text : TextIn (a .slots) from i
   pub set : SetAt a (to .set) (to .count)
   pub worked : IsCode g
 
-abbrev pub UnitedText : Arena → Arena → ℕ → ℕ → Filled → ℕ → United → Type 0
+abbrev pub UnitedText : Arena → Arena → ℕ → ℕ → Target → ℕ → United → Type 0
 UnitedText a b from i to g r = UnitedAt a b (to .set) (decoded g) (entryIn a from i ∷ []) (entriesAt a (to .set) (to .count)) r
 
 pub record UnitesSet (a : Arena) (sets : Between) (n g : ℕ) : Type 0 where

@@ -1,2 +1,4 @@
 pub mod Sets
 pub mod BufferContracts
+pub mod Passes
+pub mod Contracts

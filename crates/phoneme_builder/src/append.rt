@@ -2,7 +2,7 @@
 ghost use Rattle.phoneme_builder.specs.BufferContracts.{arena, Lengthens, LengthenedTo, BetweenIn, AppendedTo};
 use crate::apply::Applied;
 use crate::set::Between;
-use crate::set::Filled;
+use crate::set::Target;
 use crate::set::ROW;
 use crate::set::Slots;
 use crate::set::Store;
@@ -16,7 +16,7 @@ fn lengthen(
     slots: &mut Slots,
     from: usize,
     i: usize,
-    to: Filled,
+    to: Target,
     c: &[u8],
 ) -> Applied
     requires { ⌜ Lengthens (arena (now store) (now slots)) from i to ⌝ }
@@ -47,7 +47,7 @@ pub(crate) fn append(store: &mut Store, slots: &mut Slots, sets: Between, c: &[u
             slots,
             sets.from,
             i,
-            Filled { set: sets.to, count },
+            Target { set: sets.to, count },
             c,
         ) {
             Applied::Now(grown) => {

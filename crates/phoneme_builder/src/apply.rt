@@ -1,7 +1,7 @@
 // Applying a rule (01, Spelling a name, step 7).
 ghost use Rattle.phoneme_builder.specs.BufferContracts.{arena, Offers, OfferedTo, RowOffers, RowOffered, TextOffers, TextOffered, Applies, AppliedTo};
 use crate::set::Between;
-use crate::set::Filled;
+use crate::set::Target;
 use crate::set::ROW;
 use crate::set::Slots;
 use crate::set::Store;
@@ -28,7 +28,7 @@ pub(crate) enum Applied {
 fn offer(
     store: &mut Store,
     slots: &mut Slots,
-    to: Filled,
+    to: Target,
     text: &[u8],
     langs: u64,
     more: &[u8],
@@ -53,7 +53,7 @@ fn offer(
 fn apply_row(
     store: &mut Store,
     slots: &mut Slots,
-    to: Filled,
+    to: Target,
     text: &[u8],
     langs: u64,
     expr: &[u8],
@@ -77,7 +77,7 @@ fn apply_row(
         match offer(
             store,
             slots,
-            Filled { set: to.set, count },
+            Target { set: to.set, count },
             text,
             langs,
             &expr[start..end],
@@ -101,7 +101,7 @@ fn apply_text(
     slots: &mut Slots,
     from: usize,
     i: usize,
-    to: Filled,
+    to: Target,
     expr: &[u8],
     alts: &[u64],
     most: Most,
@@ -142,7 +142,7 @@ pub(crate) fn apply(
             slots,
             sets.from,
             old,
-            Filled { set: sets.to, count },
+            Target { set: sets.to, count },
             expr,
             alts,
             most,

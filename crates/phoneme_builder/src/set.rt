@@ -24,7 +24,7 @@ pub(crate) const ROW: usize = 128;
 pub(crate) const MOST: usize = 256;
 
 // A set by its number, and how many texts it has.
-pub(crate) struct Filled {
+pub(crate) struct Target {
     pub(crate) set: usize,
     pub(crate) count: usize,
 }
@@ -154,7 +154,7 @@ fn add(store: &mut [u8], slots: &mut [u64], count: usize, a: &[u8], b: &[u8], la
 pub(crate) fn add_to(
     store: &mut Store,
     slots: &mut Slots,
-    to: Filled,
+    to: Target,
     a: &[u8],
     b: &[u8],
     langs: u64,
@@ -205,5 +205,5 @@ pub(crate) fn begin(store: &mut Store, slots: &mut Slots, set: usize, langs: u64
     requires { ⌜ IsCode langs ⌝ }
     ensures { λ r. ⌜ BegunAs (arena (now (store .entry)) (now (slots .entry))) (arena (now (store .exit)) (now (slots .exit))) set langs r ⌝ }
 {
-    add_to(store, slots, Filled { set, count: 0 }, b"", b"", langs)
+    add_to(store, slots, Target { set, count: 0 }, b"", b"", langs)
 }

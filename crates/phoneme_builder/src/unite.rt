@@ -1,7 +1,7 @@
 // Uniting the results of a final pass (01, Spelling a name, step 8).
 ghost use Rattle.phoneme_builder.specs.BufferContracts.{InsertsRow, RowInserted, Unites, UnitedRow, arena, UnitesTo, UnitedTo, UnitesText, UnitedText, UnitesSet, UnitedSet};
 use crate::set::Between;
-use crate::set::Filled;
+use crate::set::Target;
 use crate::set::Found;
 use crate::set::MOST;
 use crate::set::Slots;
@@ -68,7 +68,7 @@ fn unite_row(
 fn unite_to(
     store: &mut Store,
     slots: &mut Slots,
-    to: Filled,
+    to: Target,
     text: &[u8],
     langs: u64,
     worked: u64,
@@ -94,7 +94,7 @@ fn unite_text(
     slots: &mut Slots,
     from: usize,
     i: usize,
-    to: Filled,
+    to: Target,
     worked: u64,
 ) -> United
     requires { ⌜ UnitesText (arena (now store) (now slots)) from i to worked ⌝ }
@@ -129,7 +129,7 @@ pub(crate) fn unite(
             slots,
             sets.from,
             next,
-            Filled { set: sets.to, count },
+            Target { set: sets.to, count },
             worked,
         ) {
             United::Into(grown) => {

@@ -1,6 +1,6 @@
 use borrow.Author.Needs.{needs}
 use Rattle.phoneme_builder.specs.BufferContracts.{arena}
-use Rattle.phoneme_builder.proofs.AppendLaws.{Appending, appending-laws}
+use Rattle.phoneme_builder.proofs.AppendLaws.{Appending, appending-laws, appending-in}
 use Rattle.phoneme_builder.proofs.append.append.Statement.{statement}
 use Rattle.phoneme_builder.proofs.append.append.Tie as tie
 
@@ -10,6 +10,9 @@ Inv-loop store₀ slots₀ sets c i₀ count₀ store slots i count = Appending 
 abbrev μ-loop : tie.MeasureT-loop
 μ-loop store₀ slots₀ sets c i₀ count₀ store slots i count = i
 
+lengthen-requires : tie.Need-lengthen-requires Inv-loop μ-loop
+lengthen-requires c κs = record { text = appending-in (c .before .before .before .loop .inv) (search needs); set = search needs; room = search (appending-laws, needs) }
+
 pub append-spec : {M : Type 1} → statement M
 append-spec =
     tie.close
@@ -18,7 +21,7 @@ append-spec =
     μ-loop
     (λ c. search (appending-laws, needs))
     (λ c. search needs)
-    (λ c κs. search (appending-laws, needs))
+    lengthen-requires
     (λ c. search needs)
     (λ c. search needs)
     (λ c. search (appending-laws, needs))
