@@ -40,6 +40,27 @@ unfolding pick
 pick-all P true a b p q = p
 pick-all P false a b p q = q
 
+pub pick-same : {A : Type 0} (t : Bool) (a : A) → pick t a a ≡ a
+unfolding pick
+pick-same true a = refl
+pick-same false a = refl
+
+pub pick-and : {A : Type 0} (t u : Bool) (a b : A) → pick (and t u) a b ≡ pick t (pick u a b) b
+unfolding pick and
+pick-and true u a b = refl
+pick-and false u a b = refl
+
+pub pick-map : {A B : Type 0} (h : A → B) (t : Bool) (a b : A) → h (pick t a b) ≡ pick t (h a) (h b)
+unfolding pick
+pick-map h true a b = refl
+pick-map h false a b = refl
+
+-- a test that says no, passed
+pub pick-past : (t b : Bool) → pick t false b ≡ true → (t ≡ false) × (b ≡ true)
+unfolding pick
+pick-past true b e = absurd (false≢true e)
+pick-past false b e = (refl, e)
+
 -- a test that a call made: t is the callee's result
 pub yes-by : {t u : Bool} → t ≡ u → t ≡ true → u ≡ true
 yes-by p q = sym p ∙ q
@@ -77,6 +98,11 @@ pub and-inv : (t u : Bool) → and t u ≡ true → (t ≡ true) × (u ≡ true)
 unfolding and
 and-inv true u e = (refl, e)
 and-inv false u e = absurd (false≢true e)
+
+pub and-assoc : (a b c : Bool) → and (and a b) c ≡ and a (and b c)
+unfolding and
+and-assoc true b c = refl
+and-assoc false b c = refl
 
 -- the tests that the code makes, as the definitions write them
 pub ruleset tests = (lt-ltb, le-ltb, le-leb, lt-leb, eq-eqb, ne-eqb, yes-by, no-by, and-yes, and-first, and-second)

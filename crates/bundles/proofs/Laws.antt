@@ -13,18 +13,17 @@ use lib.Seq.{drop-drop}
 use borrow.Author.Tests.{le-leb, lt-leb, eq-eqb, ne-eqb}
 use Rattle.base.specs.Pick.{pick, and}
 use Rattle.refusals.specs.Numbers.{numberOf}
-use Rattle.letters.specs.Order.{orderOf, sameText}
+use Rattle.letters.specs.Order.{orderOf, sameText, isLess, increasing}
 use Rattle.letters.specs.declared.order.Order.{Order}
 use Rattle.letters.specs.declared.order.Order.the-variants.{Less, Equal, Greater}
-use Rattle.languages.specs.declared.names.Next.{Next}
-use Rattle.languages.specs.declared.names.Next.the-variants as next
-use Rattle.pack.specs.Reading.{Read, cut, got, andRead, readNumber, readMany}
-use Rattle.pack.specs.Packs.{isLess, increasing, isNil}
-use Rattle.pack.specs.Contracts.{numberAt}
-use Rattle.pack.specs.declared.reading.Number.{Number}
-use Rattle.pack.specs.declared.reading.Number.the-variants as number
-use Rattle.pack.proofs.Readers.{clash, count-of, count-cut, mask-of, mask-cut, text-is, text-cut}
-use Rattle.pack.proofs.GuessLaws.{some-one}
+use Rattle.strings.specs.declared.Next.{Next}
+use Rattle.strings.specs.declared.Next.the-variants as next
+use Rattle.strings.specs.Reading.{Read, cut, got, andRead, readNumber, readMany, isNil}
+use Rattle.strings.specs.Contracts.{numberAt, stringAt, behind, readSome}
+use Rattle.strings.specs.declared.Number.{Number}
+use Rattle.strings.specs.declared.Number.the-variants as number
+use Rattle.strings.proofs.Readers.{count-of, count-cut, mask-of, mask-cut, text-is, text-cut, some-one}
+use Rattle.base.proofs.Arms.{clash}
 use Rattle.bundles.specs.Bundles.{File, file, readContent, readFile, readBundle, fileName, wellFormed, Found, missing, found, fileNamed}
 use Rattle.bundles.specs.PlaceContracts.{FileNumbers, stands, nowhere, fileNumbers, contentFrom, contentTo, placeAmong, fileAt}
 use Rattle.bundles.specs.Contracts.{followsIn, Placed, EntryIs, Stands, filesOf}
@@ -32,9 +31,7 @@ use Rattle.bundles.specs.declared.FileAt.{FileAt}
 use Rattle.bundles.specs.declared.FileAt.the-variants as file-at
 use Rattle.bundles.specs.declared.Entry.{Entry}
 use Rattle.bundles.specs.declared.Entry.the-variants.{Whole, Cut}
-use Rattle.base.proofs.PickLaws.{pick-true, pick-false}
-use Rattle.languages.specs.Contracts.{stringAt}
-use Rattle.pack.specs.PlaceContracts.{behind, readSome}
+use Rattle.base.proofs.PickLaws.{pick-true, pick-false, and-assoc}
 
 -- ---- a file at a place
 
@@ -144,11 +141,6 @@ and-false : (t : Bool) → false ≡ and t false
 unfolding and
 and-false true = refl
 and-false false = refl
-
-and-assoc : (a b c : Bool) → and (and a b) c ≡ and a (and b c)
-unfolding and
-and-assoc true b c = refl
-and-assoc false b c = refl
 
 well-one : (first : Bool) (p : List ℕ) (f : File) (x : Read (List File))
     → wellFrom first p (andRead x (λ fs q. got (f ∷ fs) q)) ≡ and (followsIn first p (f .name)) (wellFrom false (f .name) x)

@@ -6,9 +6,8 @@ use mathlib.Core.List.{List, [], _∷_, map}
 use lib.Dec.{leb}
 use lib.ListN.{length, take, drop}
 use Rattle.base.specs.Pick.{pick, and}
-use Rattle.letters.specs.Order.{sameText}
-use Rattle.pack.specs.Reading.{Read, cut, got, andRead, readNumber, readText, readMany}
-use Rattle.pack.specs.Packs.{increasing, isNil}
+use Rattle.letters.specs.Order.{sameText, increasing}
+use Rattle.strings.specs.Reading.{Read, cut, got, andRead, readNumber, readText, readMany, isNil}
 
 pub record File : Type 0 where
   pub name : List ℕ

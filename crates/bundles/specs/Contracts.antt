@@ -5,13 +5,12 @@ use mathlib.Core.Bool.{Bool, true}
 use mathlib.Core.List.{List}
 use lib.ListN.{length, take, drop}
 use Rattle.base.specs.Pick.{pick}
-use Rattle.letters.specs.Order.{orderOf}
-use Rattle.pack.specs.Reading.{cut, got, readNumber}
-use Rattle.pack.specs.Packs.{isLess}
+use Rattle.letters.specs.Order.{orderOf, isLess}
+use Rattle.strings.specs.Reading.{cut, got, readNumber}
 use Rattle.bundles.specs.Bundles.{file, readFile, File}
 use Rattle.bundles.specs.declared.Entry.{Entry}
 use Rattle.bundles.specs.declared.Entry.the-variants.{Whole, Cut}
-use Rattle.pack.specs.PlaceContracts.{behind, readSome}
+use Rattle.strings.specs.Contracts.{behind, readSome}
 
 -- the files of any bytes, up to where they run out
 unfoldable pub filesOf : List ℕ → List File

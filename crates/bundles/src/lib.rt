@@ -3,9 +3,9 @@ ghost use mathlib.Core.Path.{_≡_};
 ghost use Rattle.bundles.specs.Bundles.{readBundle, wellFormed};
 ghost use Rattle.bundles.specs.PlaceContracts.{fileNumbers, fileAt};
 ghost use Rattle.bundles.specs.Contracts.{followsIn, EntryIs};
-use languages::Next;
 use letters::Order;
-use pack::Number;
+use strings::Next;
+use strings::Number;
 
 // A file by its number in the bundle, from 0, and where its content stands; or that none has the name.
 pub enum FileAt {
@@ -32,11 +32,11 @@ pub(crate) enum Entry {
 fn entry_at(bundle: &[u8], at: usize) -> Entry
     ensures { λ r. ⌜ EntryIs (now (bundle .entry)) at r ⌝ }
 {
-    match languages::string_at(bundle, at) {
+    match strings::string_at(bundle, at) {
         Next::Whole {
             start: name,
             end: name_end,
-        } => match pack::mask_at(bundle, name_end) {
+        } => match strings::mask_at(bundle, name_end) {
             Number::Of { value, next: start } => {
                 let n = value as usize;
                 if n <= bundle.len() - start {
@@ -74,7 +74,7 @@ fn follows(first: bool, before: &[u8], name: &[u8]) -> bool
 pub fn check_bundle(bundle: &[u8]) -> bool
     ensures { λ r. ⌜ r ≡ wellFormed (readBundle (now (bundle .entry))) ⌝ }
 {
-    match pack::count_at(bundle, 0) {
+    match strings::count_at(bundle, 0) {
         Number::Of { value, next } => {
             let mut left = value;
             let mut at = next;
@@ -114,7 +114,7 @@ pub fn check_bundle(bundle: &[u8]) -> bool
 pub fn find_file(bundle: &[u8], wanted: &[u8]) -> FileAt
     ensures { λ r. ⌜ fileNumbers r ≡ fileAt (now (bundle .entry)) (now (wanted .entry)) ⌝ }
 {
-    match pack::count_at(bundle, 0) {
+    match strings::count_at(bundle, 0) {
         Number::Of { value, next } => {
             let mut left = value;
             let mut at = next;

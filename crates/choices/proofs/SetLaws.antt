@@ -17,7 +17,8 @@ use Rattle.letters.specs.declared.order.Order.the-variants.{Less, Equal, Greate
 use Rattle.choices.specs.Apply.{Entry, textsOf, insert, enter, NextSet, overlong, nextSet}
 use Rattle.choices.specs.Choices.{Holds, first, later, First, Increasing, times}
 use Rattle.languages.specs.declared.sets.LanguageSet.{LanguageSet}
-use Rattle.choices.proofs.TextLaws.{clash, compare-same, compare-refl, compare-flip, compare-trans}
+use Rattle.letters.proofs.StrictOrder.{compare-same, compare-refl, compare-flip, compare-trans}
+use Rattle.base.proofs.Arms.{clash}
 
 -- ---- insert, by the order of the text at the front and the new one
 

@@ -15,7 +15,8 @@ use Rattle.choices.specs.Apply.{Places, Entry, candidates, start}
 use Rattle.choices.specs.Choices.{Choice, end, choose, spelt, leaves, Holds, first, later}
 use Rattle.languages.specs.declared.sets.LanguageSet.{LanguageSet}
 use Rattle.languages.specs.declared.sets.LanguageSet.the-variants.{Any, NoLanguages, SomeLanguages}
-use Rattle.choices.proofs.TextLaws.{clash, compare-refl}
+use Rattle.letters.proofs.StrictOrder.{compare-refl}
+use Rattle.base.proofs.Arms.{clash}
 use Rattle.choices.proofs.ApplyLaws.{holds-eq, candidates-has}
 
 -- ---- the choices, listed: no limit, and equal texts side by side

@@ -19,8 +19,8 @@ use Rattle.letters.proofs.Utf8Laws.{end-at}
 use Rattle.letters.proofs.CodesLaws.{decode-drop}
 use Rattle.letters.proofs.ReadingLaws.{Pieces, end, one, bad, pieces-of}
 use Rattle.choices.specs.Texts.{Text}
-use Rattle.choices.proofs.TextLaws.{clash}
-use Rattle.base.proofs.PickLaws.{pick-all, and-inv}
+use Rattle.base.proofs.Arms.{clash}
+use Rattle.base.proofs.PickLaws.{pick-all, and-inv, pick-and}
 
 -- between two characters; within one, where so many bytes follow the next one, which lies within two bounds; or lost
 pub data State : Type 0 where
@@ -143,11 +143,6 @@ module _ (a : ℕ) (s : Text) where
   unfolding Reads pick after
   reads-by n lo hi k true q h e = ap (λ (r : State). after r (take (suc n) s)) q ∙ enough n lo hi s h e
   reads-by n lo hi k false q h e = λ f. short n lo hi s h e (ap (λ (r : State). after r s) (sym q) ∙ f)
-
-pick-and : {A : Type 0} (t u : Bool) (x y : A) → pick (and t u) x y ≡ pick t (pick u x y) y
-unfolding pick and
-pick-and true u x y = refl
-pick-and false u x y = refl
 
 low-second : (a : ℕ) → 0x80 ≤ lowSecond a
 unfolding lowSecond

@@ -15,7 +15,7 @@ use Rattle.name_parts.specs.Joining.{spaced}
 use Rattle.pack.specs.Packs.{Pack, packOf, accepted}
 use Rattle.choices.specs.Texts.{Text}
 use Rattle.choices.specs.Apply.{Entry, textsOf, start}
-use Rattle.choices.proofs.TextLaws.{clash}
+use Rattle.base.proofs.Arms.{clash}
 use Rattle.phoneme_builder.specs.Sets.{Spelling, refusal}
 use Rattle.phoneme_builder.specs.Sets as sets
 use Rattle.phoneme_builder.specs.Passes.{ran, run, joined}

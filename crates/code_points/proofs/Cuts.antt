@@ -11,7 +11,7 @@ use Rattle.base.specs.Pick.{pick}
 use Rattle.texts.specs.Parts.{tail, front, firstIs, lastIs, placeOf, prefixOf}
 use Rattle.phonemes.specs.Expressions.{round, unround, bar, opening, onFirst, cutAt, inside, extra, piecesIn, textOf}
 use Rattle.choices.specs.Texts.{Text}
-use Rattle.choices.proofs.TextLaws.{clash}
+use Rattle.base.proofs.Arms.{clash}
 use Rattle.code_points.proofs.Bytes.{State, border, step, after, Formed, formed-rest, sign-border}
 use Rattle.base.proofs.PickLaws.{pick-all, and-inv}
 

@@ -33,7 +33,7 @@ use Rattle.name_parts.proofs.Laws.{one-is}
 use Rattle.name_parts.proofs.JoinLaws.{Free, free-start, free-here, free-next, free-end}
 use Rattle.pack.specs.Packs.{all}
 use Rattle.choices.specs.Texts.{Text}
-use Rattle.choices.proofs.TextLaws.{clash}
+use Rattle.base.proofs.Arms.{clash}
 use Rattle.engine.specs.Spelling.{Steps, partedAs}
 use Rattle.answers.specs.Answers.{WordOf, all-joined, only-word, of-word, of-remainder, of-joined}
 use Rattle.code_points.proofs.Bytes.{State, border, needs, lost, plain, next, high, step, after, Formed, after-append, formed-append, sign-border, char-formed}

@@ -15,7 +15,7 @@ use Rattle.phonemes.specs.declared.answers.Expression.the-variants.{Good}
 use Rattle.pack.specs.Packs.{Rule, Pack, packOf, accepted, all, ruleGood, listGood}
 use Rattle.pack.proofs.Laws.{GoodRule, good-rule, ListsAt, no-list, one-list, is-pack}
 use Rattle.choices.specs.Texts.{Text}
-use Rattle.choices.proofs.TextLaws.{clash}
+use Rattle.base.proofs.Arms.{clash}
 use Rattle.phoneme_builder.specs.Passes.{Match, by, firstMatch}
 use Rattle.engine.specs.Calls.{listNumbered}
 use Rattle.code_points.proofs.Bytes.{formed-of}

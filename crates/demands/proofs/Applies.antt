@@ -11,7 +11,7 @@ use Rattle.base.specs.Pick.{pick}
 use Rattle.languages.specs.declared.sets.LanguageSet.{LanguageSet}
 use Rattle.choices.specs.Texts.{Text}
 use Rattle.choices.specs.Apply.{Alternative, Entry, NextSet, overlong, nextSet, apply, insert, start}
-use Rattle.choices.proofs.TextLaws.{clash}
+use Rattle.base.proofs.Arms.{clash}
 use Rattle.choices.proofs.ApplyLaws.{Applied}
 use Rattle.phoneme_builder.specs.Sets.{Spelling, refusal, texts, holdsText, remerged, united}
 use Rattle.phoneme_builder.specs.Passes.{Matcher, Turn, rule, letter, turnsOf, Ran, tooLong, ran, flagged, applied, afterLetter, unmatched, run, raised, onRan, finalText, finalFrom, finalPass, then, mainOf, wordOf}

@@ -12,7 +12,7 @@ use Rattle.languages.specs.declared.sets.LanguageSet.{LanguageSet}
 use Rattle.choices.specs.Texts.{Text}
 use Rattle.choices.specs.Apply.{Alternative, Places, Entry, textsOf, NextSet, overlong, nextSet, apply, start}
 use Rattle.choices.specs.Choices.{_∈_, Choice, end, choose, spelt, leaves, Holds, first, First, Increasing}
-use Rattle.choices.proofs.TextLaws.{clash}
+use Rattle.base.proofs.Arms.{clash}
 use Rattle.choices.proofs.SetLaws.{times-one}
 use Rattle.choices.proofs.ApplyLaws.{Applied, From, from, holds-eq, apply-from, apply-has, apply-increasing}
 use Rattle.phoneme_builder.specs.Passes.{Matcher, Turn, rule, letter, turnsOf, ran, applied, afterLetter, unmatched, run}

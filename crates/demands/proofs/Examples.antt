@@ -7,21 +7,21 @@ use lib.ListN.{getD}
 use Rattle.base.specs.Pick.{pick, and}
 use Rattle.letters.specs.Utf8.{within, decodeBytes, decodeAt}
 use Rattle.letters.specs.Reading.{symbolsOn, symbolsFrom, symbolsOf}
-use Rattle.letters.specs.Order.{orderOf, sameText}
-use Rattle.texts.specs.Parts.{tail, front, firstIs, lastIs, placeOf, has, prefixOf, suffixOf}
+use Rattle.letters.specs.Order.{orderOf, sameText, isLess, increasing}
+use Rattle.texts.specs.Parts.{tail, front, firstIs, lastIs, placeOf, has, prefixOf, suffixOf, withoutCaret, withoutDollar}
 use Rattle.languages.specs.Sets.{narrowed, isEmpty}
-use Rattle.languages.specs.Names.{isLetter, allLetters, languageName, strings, stringsOf, namePlace, bitAt, languageBit}
+use Rattle.languages.specs.Names.{isLetter, allLetters, languageName, namePlace, bitAt, languageBit}
+use Rattle.strings.specs.Reading.{strings, stringsOf, andRead, readByte, readMore, readNumber, readText, readMany, placeIn, isNil}
 use Rattle.languages.specs.declared.sets.LanguageSet.{LanguageSet}
 use Rattle.languages.specs.declared.sets.LanguageSet.the-variants.{Any, SomeLanguages}
-use Rattle.regex_optim.specs.Contexts.{literalForm, withoutCaret, withoutDollar, formIn, formOf, leftForm, rightForm, kindOf, fits}
+use Rattle.regex_optim.specs.Contexts.{literalForm, formIn, formOf, leftForm, rightForm, kindOf, fits}
 use Rattle.phonemes.specs.Expressions.{onFirst, cutAt, inside, extra, piecesIn, allOf, formedPiece, formed, boxOf, withBits, namesMask, pieceMask, isListed, textOf, maskSet, setOf, checkedOf}
 use Rattle.rule.specs.Matching.{plainCode, plainIn, ruleText, codeIn, firstCode, ruleMatches}
-use Rattle.pack.specs.Reading.{andRead, readByte, readMore, readNumber, readText, readMany}
-use Rattle.pack.specs.Packs.{Rule, Pack, rule, readNames, readGuesses, readRule, readList, all, isLess, increasing, holds, namesGood, guessesGood, isForm, isGood, ruleGood, orderedByCode, listGood, accepted, section, placeIn, namesIn, listCount, listSections, isNil, endSection, packOf}
+use Rattle.pack.specs.Packs.{Rule, Pack, rule, readNames, readGuesses, readRule, readList, all, holds, namesGood, guessesGood, isForm, isGood, ruleGood, orderedByCode, listGood, accepted, section, namesIn, listCount, listSections, endSection, packOf}
 use Rattle.choices.specs.Texts.{Text, byOrder}
 use Rattle.choices.specs.Apply.{Alternative, Places, Entry, insert, under, candidates, enter, apply, start}
 use Rattle.choices.specs.Choices.{here, there, Choice, end, choose, spelt, leaves, times}
-use Rattle.choices.proofs.TextLaws.{clash}
+use Rattle.base.proofs.Arms.{clash}
 use Rattle.choices.proofs.Tests.{sameSet, fits as agrees, agreeing, allAgree, alike-by-test}
 use Rattle.phoneme_builder.specs.Passes.{Turn, offered, firstMatch, stepLength, turnOn, turnsFrom, turnsOf, Ran, ran, flagged, applied, afterLetter, unmatched, run}
 use Rattle.demands.specs.Demands.{rulePlaces, StayedFewer, AlikeAgree, Demand3OfWord}

@@ -14,13 +14,15 @@ use Rattle.base.proofs.One.{one}
 use Rattle.lower_case.specs.Lower.{lowerText}
 use Rattle.lower_case.specs.declared.lower_case.Lowered.{Lowered}
 use Rattle.lower_case.proofs.LowerLaws.{lower-text-length}
-use Rattle.name_parts.specs.Contracts.{cap, Put}
+use Rattle.writing.specs.Contracts.{cap, Put}
 use Rattle.name_parts.specs.Words.{oneWord}
 use Rattle.name_parts.specs.Joining.{spaced}
 use Rattle.prefixes.specs.declared.prefixes.NameType.{NameType}
 use Rattle.prefixes.specs.declared.prefixes.Prefix.{Prefix}
 use Rattle.prefixes.specs.declared.prefixes.Prefix.the-variants.{Parted, Whole}
-use Rattle.name_parts.proofs.Laws.{clash, slice-room, spaced-long}
+use Rattle.name_parts.proofs.Laws.{spaced-long}
+use Rattle.base.proofs.Arms.{clash}
+use Rattle.writing.proofs.Laws.{slice-room}
 use Rattle.pack.specs.Packs.{refused, packOf}
 use Rattle.pack.specs.Guessing.{guessed}
 use Rattle.pack.proofs.Laws.{languages-few, guess-told, guess-below}

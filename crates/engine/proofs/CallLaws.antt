@@ -20,7 +20,8 @@ use Rattle.letters.specs.Order.{sameText}
 use Rattle.letters.specs.Reading.{firstIll, firstOutside}
 use Rattle.letters.specs.declared.utf8.Found.{Found}
 use Rattle.letters.specs.declared.utf8.Found.the-variants.{At, Nothing}
-use Rattle.languages.specs.Names.{stringsOf, namePlace, bitAt, languageBit}
+use Rattle.languages.specs.Names.{namePlace, bitAt, languageBit}
+use Rattle.strings.specs.Reading.{stringsOf}
 use Rattle.languages.specs.declared.names.Listed.{Listed}
 use Rattle.languages.specs.declared.names.Listed.the-variants.{Bit, Unlisted}
 use Rattle.languages.specs.declared.sets.LanguageSet.{LanguageSet}
@@ -33,7 +34,7 @@ use Rattle.pack.specs.declared.sections.Surveyed.the-variants as surveyed
 use Rattle.pack.proofs.Laws.{is-pack, languages-few, guesses-within, names-strings, places-counted, SurveyedPack, surveyed-pack}
 use Rattle.prefixes.specs.declared.prefixes.NameType.{NameType}
 use Rattle.choices.specs.Texts.{Text}
-use Rattle.choices.proofs.TextLaws.{clash}
+use Rattle.base.proofs.Arms.{clash}
 use Rattle.refusals.specs.declared.Refusal.{Refusal}
 use Rattle.refusals.specs.declared.Refusal.the-variants.{NotUtf8, OutsideRange, NameTooLong, SettingUnknown}
 use Rattle.engine.specs.Calls.{kindKnown, settingsKnown, haveLanguages, typeOf, startSet, CallOutcome, refusedBy, key, unless, onPack, lettersThen, checkedThen, callOf}

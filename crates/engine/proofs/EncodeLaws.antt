@@ -5,8 +5,8 @@ use mathlib.Core.List.{List, [], _∷_}
 use Prim.Native.Nat.{ℕ, _+_, _-_, _*_, _≤_, _<_, min}
 use native.Mathlib.Omega.{arith}
 use lib.Dec.{leb}
-use lib.ListN.{length, take, drop, length-drop}
-use lib.Seq.{take-all, length-sets}
+use lib.ListN.{length, take, drop}
+use lib.Seq.{length-sets}
 use borrow.Author.Tests.{eq-eqb, le-leb, lt-ltb}
 use Rattle.base.specs.Pick.{pick, and}
 use Rattle.languages.specs.Sets.{singleOf}
@@ -14,7 +14,7 @@ use Rattle.languages.specs.declared.sets.LanguageSet.{LanguageSet}
 use Rattle.languages.specs.declared.sets.Single.{Single}
 use Rattle.languages.specs.declared.sets.Single.the-variants.{Language, NotSingle}
 use Rattle.languages.proofs.Laws.{single-below}
-use Rattle.name_parts.specs.Contracts.{cap, Put}
+use Rattle.writing.specs.Contracts.{cap, Put}
 use Rattle.name_parts.specs.Words.{wordAt, wordsOf, oneWord}
 use Rattle.prefixes.specs.Prefixes.{splitOf}
 use Rattle.name_parts.specs.Joining.{joinedName, joinedWords}
@@ -22,7 +22,9 @@ use Rattle.prefixes.specs.declared.prefixes.NameType.{NameType}
 use Rattle.prefixes.specs.declared.prefixes.NameType.the-variants.{Ashkenazi, Generic, Sephardic}
 use Rattle.prefixes.specs.declared.prefixes.Prefix.{Prefix}
 use Rattle.prefixes.specs.declared.prefixes.Prefix.the-variants.{Parted, Whole}
-use Rattle.name_parts.proofs.Laws.{clash, split-within, rest-shorter, joined-shorter, joined-short, put-fits, put-long, slice-room}
+use Rattle.name_parts.proofs.Laws.{split-within, rest-shorter, joined-shorter, joined-short}
+use Rattle.base.proofs.Arms.{clash}
+use Rattle.writing.proofs.Laws.{put-fits, put-long, slice-room}
 use Rattle.pack.specs.Packs.{listCount, stringsLength}
 use Rattle.pack.specs.Guessing.{guessed}
 use Rattle.pack.proofs.Laws.{languages-few, guesses-within, guess-told, guessed-below}
@@ -48,6 +50,7 @@ use Rattle.engine.specs.declared.encode.Lists.{Lists}
 use Rattle.base.proofs.PickLaws.{pick-true, pick-false, pick-all, and-yes}
 use Rattle.languages.specs.Contracts.{BitsBelow}
 use Rattle.pack.specs.Contracts.{guessedAt}
+use Rattle.base.proofs.Stores.{rest-is}
 
 -- ---- what a word's answer tells
 
@@ -183,9 +186,6 @@ module _ (s places : List ℕ) (call : Call) (w : CallReady s places call) where
           rw word-is (word-told (slice-room o room) (spelled-word (listNumbers call l)) _ (v .result ∙ pick-true _ _ _ fit) (v .buffer ∙ pick-true _ _ _ fit) ended)
 
 -- ---- a name by its parts
-
-pub rest-is : (s : List ℕ) (k : ℕ) → take (length s - k) (drop k s) ≡ drop k s
-rest-is s k = take-all (length s - k) (drop k s) (omega (arith, length-drop k s))
 
 -- a prefix stands within the name, and both parts are shorter
 module _ (kind : NameType) (name : Text) (x : Prefix) (e : x ≡ partedAs kind name) (keep skip : ℕ) (q : x ≡ Parted keep skip) where

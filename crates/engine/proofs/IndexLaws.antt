@@ -15,12 +15,13 @@ use Rattle.base.specs.Pick.{pick}
 use Rattle.texts.specs.Parts.{prefixOf}
 use Rattle.rule.specs.Matching.{ruleMatches}
 use Rattle.choices.specs.Texts.{Text}
-use Rattle.pack.specs.Reading.{got}
+use Rattle.strings.specs.Reading.{got}
 use Rattle.pack.specs.Packs.{Rule, readRule, listCount, stringsLength}
-use Rattle.pack.specs.PlaceContracts.{ruleStandsAt, ruleCount, listAt, readSome}
+use Rattle.pack.specs.PlaceContracts.{ruleStandsAt, ruleCount, listAt}
+use Rattle.strings.specs.Contracts.{readSome}
 use Rattle.pack.specs.declared.rules.RuleAt.{RuleAt}
 use Rattle.pack.specs.declared.rules.RuleAt.the-variants as rules
-use Rattle.pack.proofs.GuessLaws.{some-one}
+use Rattle.strings.proofs.Readers.{some-one}
 use Rattle.pack.proofs.RuleLaws.{RuleIs, rule-is}
 use Rattle.pack.proofs.Laws.{RulesAt, ListIs, held-pattern, held-good, held-rest, held-whole, rules-start, list-held, list-told, languages-few}
 use Rattle.phoneme_builder.specs.Passes.{Match, none, by, Matcher, firstMatch}

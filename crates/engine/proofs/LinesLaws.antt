@@ -14,13 +14,14 @@ use lib.Seq.{sets, set-comm, set-append-left, length-sets, drop-drop}
 use borrow.Author.Tests.{lt-ltb, le-ltb, le-leb, lt-leb, eq-eqb, ne-eqb, ltb-false, leb-true, leb-false}
 use Rattle.base.specs.Pick.{pick, and}
 use Rattle.base.proofs.One.{one}
-use Rattle.base.proofs.Stores.{sets-then}
+use Rattle.base.proofs.Stores.{sets-then, rest-is}
 use Rattle.texts.specs.Parts.{placeOf, has}
 use Rattle.letters.specs.declared.utf8.Found.{Found}
 use Rattle.letters.specs.declared.utf8.Found.the-variants.{At, Nothing}
 use Rattle.languages.specs.declared.sets.LanguageSet.{LanguageSet}
-use Rattle.name_parts.specs.Contracts.{Put}
-use Rattle.name_parts.proofs.Laws.{clash, slice-room, put-then, put-long}
+use Rattle.writing.specs.Contracts.{Put}
+use Rattle.base.proofs.Arms.{clash}
+use Rattle.writing.proofs.Laws.{slice-room, put-then, put-long}
 use Rattle.prefixes.specs.declared.prefixes.Prefix.{Prefix}
 use Rattle.prefixes.specs.declared.prefixes.Prefix.the-variants.{Parted, Whole}
 use Rattle.pack.specs.Packs.{Verdict, accepted, refused}
@@ -36,7 +37,6 @@ use Rattle.engine.specs.Calls.{speltBy, wordBy, stepsBy, stepsOf, spelle
 use Rattle.engine.specs.Lines.{decimalBy, decimal, flagDigit, answerLine, refusalLine, wholeLine, most, holdsLine, needed, lineWith, lineFor, linesFrom, wholeLines, Taken, andTaken, noneTaken, takeLines, taken, BlockNumbers, blockNumbers, took, noRoom, numbersBy, blockBy, LinesIs}
 use Rattle.engine.specs.LineContracts.{LineAt, headOf, lineLength, DoneIs, placeTold, refusedLine, lengthTold, lengthNeeded, waitsFor, RefusedIs, stoppedAt}
 use Rattle.engine.proofs.NumberLaws.{told-is}
-use Rattle.engine.proofs.EncodeLaws.{rest-is}
 use Rattle.engine.specs.declared.call.Settings.{Settings}
 use Rattle.engine.specs.declared.call.Start.{Start}
 use Rattle.engine.specs.declared.lines.Lines.{Lines}

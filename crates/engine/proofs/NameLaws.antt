@@ -7,20 +7,22 @@ use native.Mathlib.Omega.{arith}
 use lib.ListN.{length, take, drop}
 use Rattle.base.specs.Pick.{pick}
 use Rattle.choices.specs.Texts.{Text}
-use Rattle.name_parts.specs.Contracts.{cap, Put}
+use Rattle.writing.specs.Contracts.{cap, Put}
 use Rattle.name_parts.specs.Words.{wordsOf, wordAt, pastWord, oneWord}
 use Rattle.name_parts.specs.Joining.{joinedName}
 use Rattle.prefixes.specs.declared.prefixes.NameType.{NameType}
 use Rattle.prefixes.specs.declared.prefixes.Prefix.{Prefix}
 use Rattle.prefixes.specs.declared.prefixes.Prefix.the-variants.{Parted}
-use Rattle.name_parts.proofs.Laws.{slice-room, word-later, past-within, word-shorter}
+use Rattle.name_parts.proofs.Laws.{word-later, past-within, word-shorter}
+use Rattle.writing.proofs.Laws.{slice-room}
 use Rattle.refusals.specs.declared.Refusal.{Refusal}
 use Rattle.engine.specs.Spelling.{Spelt, partedAs, spelledName, eachWord, afreshBy}
 use Rattle.engine.specs.Contracts.{Scratch, afreshOf, stepsAt, startAt, NameTold, bothOf, HyphenAt}
 use Rattle.engine.specs.declared.call.Call.{Call}
 use Rattle.engine.specs.declared.encode.Ends.{Ends}
 use Rattle.engine.proofs.ToldLaws.{WordsTold, words-start, words-end, words-place, words-turn, a-word}
-use Rattle.engine.proofs.EncodeLaws.{rest-is, rest-short, joined-part, front-is}
+use Rattle.engine.proofs.EncodeLaws.{rest-short, joined-part, front-is}
+use Rattle.base.proofs.Stores.{rest-is}
 
 -- the buffers keep their sizes
 pub scratch-kept : {a b a′ b′ : ℕ} → Scratch a b → a′ ≡ a → b′ ≡ b → Scratch a′ b′

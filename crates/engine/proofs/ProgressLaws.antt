@@ -18,10 +18,10 @@ use Rattle.letters.specs.declared.utf8.Step.the-variants.{Char, Ill, End}
 use Rattle.letters.specs.declared.utf8.Found.{Found}
 use Rattle.letters.specs.declared.utf8.Found.the-variants.{At, Nothing}
 use Rattle.letters.proofs.Utf8Laws.{char-at, ill-in}
-use Rattle.name_parts.specs.Contracts.{cap}
-use Rattle.name_parts.proofs.Laws.{clash}
-use Rattle.pack.specs.Reading.{Read, cut, got, readByte}
-use Rattle.pack.specs.Packs.{Verdict, accepted, refused, Rule, readNames, readGuesses, readList, section, placeIn, listSections, endSection, packOf}
+use Rattle.writing.specs.Contracts.{cap}
+use Rattle.base.proofs.Arms.{clash}
+use Rattle.strings.specs.Reading.{Read, cut, got, readByte, placeIn}
+use Rattle.pack.specs.Packs.{Verdict, accepted, refused, Rule, readNames, readGuesses, readList, section, listSections, endSection, packOf}
 use Rattle.choices.specs.Texts.{Text}
 use Rattle.refusals.specs.Numbers.{numberOf}
 use Rattle.refusals.specs.declared.Refusal.{Refusal}

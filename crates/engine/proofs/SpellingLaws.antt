@@ -18,7 +18,8 @@ use Rattle.prefixes.specs.declared.prefixes.NameType.{NameType}
 use Rattle.prefixes.specs.declared.prefixes.NameType.the-variants.{Ashkenazi, Generic, Sephardic}
 use Rattle.prefixes.specs.declared.prefixes.Prefix.{Prefix}
 use Rattle.prefixes.specs.declared.prefixes.Prefix.the-variants.{Parted, Whole}
-use Rattle.name_parts.proofs.Laws.{clash, words-none, words-next, word-later, past-within, word-shorter, rest-shorter, joined-shorter}
+use Rattle.name_parts.proofs.Laws.{words-none, words-next, word-later, past-within, word-shorter, rest-shorter, joined-shorter}
+use Rattle.base.proofs.Arms.{clash}
 use Rattle.engine.specs.Spelling.{Spelt, Steps, both, hyphened, andWords, eachWord, onePart, byWords, partedAs, byPrefix, nameBy, nameFrom, spelledName, afreshBy}
 use Rattle.base.proofs.PickLaws.{pick-true, pick-false, pick-cong}
 

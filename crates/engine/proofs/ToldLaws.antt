@@ -8,9 +8,10 @@ use lib.ListN.{length, drop, length-append}
 use lib.Seq.{sets}
 use Rattle.base.proofs.Stores.{sets-then}
 use Rattle.choices.specs.Texts.{Text}
-use Rattle.name_parts.specs.Contracts.{cap, Put}
+use Rattle.writing.specs.Contracts.{cap, Put}
 use Rattle.name_parts.specs.Words.{wordsOf, wordAt, pastWord}
-use Rattle.name_parts.proofs.Laws.{put-long, put-place, words-none, words-next, word-later}
+use Rattle.name_parts.proofs.Laws.{words-none, words-next, word-later}
+use Rattle.writing.proofs.Laws.{put-long, put-place}
 use Rattle.refusals.specs.declared.Refusal.{Refusal}
 use Rattle.engine.specs.Spelling.{Spelt, unspelt, speltAs, or, both, hyphened, andWords, eachWord}
 use Rattle.engine.specs.Contracts.{Wrote, isSpelt, ToldBy, NameTold, bothOf, HyphenAt}

@@ -9,7 +9,7 @@ use lib.Seq.{sets}
 use Rattle.base.specs.Pick.{pick}
 use Rattle.languages.specs.Names.{namePlace}
 use Rattle.languages.specs.declared.sets.LanguageSet.{LanguageSet}
-use Rattle.name_parts.specs.Contracts.{cap, Put}
+use Rattle.writing.specs.Contracts.{cap, Put}
 use Rattle.prefixes.specs.declared.prefixes.Prefix.{Prefix}
 use Rattle.prefixes.specs.declared.prefixes.Prefix.the-variants as prefix
 use Rattle.pack.specs.Packs.{Pack, Verdict, accepted, refused, packOf, listCount, any, stringsLength}

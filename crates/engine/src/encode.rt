@@ -7,7 +7,7 @@ ghost use lib.ListN.{length};
 ghost use Rattle.base.specs.Pick.{pick};
 ghost use Rattle.languages.specs.Sets.{singleOf};
 ghost use Rattle.name_parts.specs.Words.{oneWord, wordsOf};
-ghost use Rattle.name_parts.specs.Contracts.{cap, Put};
+ghost use Rattle.writing.specs.Contracts.{cap, Put};
 ghost use Rattle.engine.specs.Spelling.{partedAs, or, spelledName, onePart, eachWord, afreshBy};
 ghost use Rattle.engine.specs.Calls.{languageBy};
 ghost use Rattle.engine.specs.Contracts.{CallReady, Scratch, stepsAt, startAt, listNumbers, EndedIs, NameTold, ToldWhole, bothOf, HyphenAt};
@@ -221,7 +221,7 @@ pub(crate) fn part_of(kind: NameType, name: &[u8]) -> Prefix
 fn middle(out: &mut [u8], at: usize) -> usize
     ensures { λ r. ⌜ Put (now (out .entry)) (now (out .exit)) at r (41 ∷ 45 ∷ 40 ∷ mathlib.Core.List.[]) ⌝ }
 {
-    name_parts::copy(b")-(", out, at)
+    writing::copy(b")-(", out, at)
 }
 
 // Between words, and not before the first: p is how far the name is read.
@@ -231,7 +231,7 @@ fn hyphen(out: &mut [u8], at: usize, p: usize) -> usize
     if p == 0 {
         at
     } else {
-        name_parts::push(out, at, b'-')
+        writing::push(out, at, b'-')
     }
 }
 
@@ -282,11 +282,11 @@ pub(crate) fn spell_name(
             let again = afresh(call);
             let mut joined = [0u8; 96];
             let n = name_parts::join_prefix(name, keep, skip, &mut joined);
-            let p = name_parts::push(out, at, b'(');
+            let p = writing::push(out, at, b'(');
             let a = spell_name(store, marks, pack, places, again, &name[skip..], out, p);
             let q = middle(out, a.at);
             let b = spell_name(store, marks, pack, places, again, &joined[0..n], out, q);
-            let end = name_parts::push(out, b.at, b')');
+            let end = writing::push(out, b.at, b')');
             both(b, a, end)
         }
         Prefix::Whole => {

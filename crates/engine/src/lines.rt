@@ -3,7 +3,7 @@ ghost use mathlib.Core.Path.{_≡_};
 ghost use Prim.Native.Nat.{_+_, _-_, _≤_, min, max};
 ghost use lib.Dec.{leb};
 ghost use lib.ListN.{length};
-ghost use Rattle.name_parts.specs.Contracts.{Put};
+ghost use Rattle.writing.specs.Contracts.{Put};
 ghost use Rattle.engine.specs.Calls.{callOf, refusedAs};
 ghost use Rattle.engine.specs.Contracts.{DeskIs, Scratch};
 ghost use Rattle.engine.specs.Lines.{most, decimal, refusalLine, needed, lineFor, LinesIs};
@@ -51,10 +51,10 @@ fn put_decimal(n: usize, out: &mut [u8], at: usize) -> usize
 {
     let d = 48 + (n % 10) as u8;
     if n < 10 {
-        return name_parts::push(out, at, d);
+        return writing::push(out, at, d);
     }
     let p = put_decimal(n / 10, out, at);
-    name_parts::push(out, p, d)
+    writing::push(out, p, d)
 }
 
 // The line of a refusal, as far as there is room.
@@ -62,9 +62,9 @@ fn put_refusal(code: u8, place: usize, out: &mut [u8], at: usize) -> usize
     ensures { λ r. ⌜ Put (now (out .entry)) (now (out .exit)) at r (refusalLine (refusedAs code place)) ⌝ }
 {
     let p = put_decimal(code as usize, out, at);
-    let q = name_parts::push(out, p, b' ');
+    let q = writing::push(out, p, b' ');
     let e = put_decimal(place, out, q);
-    name_parts::push(out, e, b'\n')
+    writing::push(out, e, b'\n')
 }
 
 // Whether a line with an answer of so many bytes has room.
@@ -124,7 +124,7 @@ fn put_head(flag: bool, out: &mut [u8], at: usize) -> usize
     ensures { λ r. ⌜ Put (now (out .entry)) (now (out .exit)) at r (headOf flag) ⌝ }
 {
     let head = [b'0', b' ', b'0' + flag as u8, b' '];
-    name_parts::copy(&head, out, at)
+    writing::copy(&head, out, at)
 }
 
 // What stands before and behind an answer in its place, 4 bytes behind `at`, where they fit; else the answer is too long.
@@ -134,7 +134,7 @@ fn done_line(written: usize, flag: bool, out: &mut [u8], at: usize, size: usize)
 {
     if has_room(written, size - at) {
         put_head(flag, out, at);
-        let next = name_parts::push(out, at + 4 + written, b'\n');
+        let next = writing::push(out, at + 4 + written, b'\n');
         Fit::Behind { next }
     } else {
         refused_line(9, written, out, at, size)

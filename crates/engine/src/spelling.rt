@@ -122,7 +122,7 @@ fn keep(a: Ends, apart: &[u8], out: &mut [u8]) -> bool
     if a.fine {
         if n <= out.len() {
             if n <= apart.len() {
-                name_parts::copy(&apart[0..n], out, 0);
+                writing::copy(&apart[0..n], out, 0);
                 return true;
             }
             return false;

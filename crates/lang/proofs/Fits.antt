@@ -3,72 +3,22 @@
 use mathlib.Core.Path.{_≡_, refl, sym, ap, ap₂, _∙_}
 use mathlib.Core.Bool.{Bool, true, false, not}
 use mathlib.Core.List.{List, [], _∷_}
-use Prim.Native.Nat.{ℕ, suc, _+_, _-_, _≤_, _<_, zero-le}
-use native.Mathlib.Omega.{arith}
-use lib.Dec.{ltb, leb, eqb, leb·zero, leb·suc-suc}
+use Prim.Native.Nat.{ℕ, _+_, _-_, _≤_, _<_, zero-le}
+use lib.Dec.{leb, eqb}
 use lib.ListN.{length, take, drop}
-use borrow.Author.Tests.{eq-eqb, ne-eqb, leb-true, leb-false}
-use Rattle.base.specs.Pick.{pick, and}
+use borrow.Author.Tests.{leb-true, leb-false}
+use Rattle.base.specs.Pick.{and}
 use Rattle.letters.specs.Utf8.{decodeAt}
 use Rattle.letters.specs.Reading.{codesOf}
 use Rattle.letters.specs.declared.utf8.Step.{Step}
 use Rattle.letters.specs.declared.utf8.Step.the-variants.{Char, Ill, End}
-use Rattle.letters.proofs.Utf8Laws.{ill-in}
 use Rattle.letters.proofs.CodesLaws.{codes-char, codes-ill, codes-end}
-use Rattle.letters.proofs.ReadingLaws.{step-less}
-use Rattle.texts.specs.Parts.{firstIs, lastIs, placeOf, has}
-use Rattle.lang.specs.Patterns.{caret, dollar, opening, Piece, withoutCaret, middle, insideOf, boxPiece, charPiece, pieceAt, lengthAt, patternPieces, takes, fitsAt, fitsAnywhere, matchesIn, matchesOf}
-use Rattle.lang.proofs.Pieces.{first-in, piece-box, piece-char, next-within, next-pieces, pieces-none}
+use Rattle.letters.proofs.ReadingLaws.{step-less, ill-less}
+use Rattle.texts.specs.Parts.{firstIs, lastIs, has, caret, dollar, opening, withoutCaret}
+use Rattle.lang.specs.Patterns.{Piece, middle, insideOf, boxPiece, charPiece, pieceAt, lengthAt, patternPieces, takes, fitsAt, fitsAnywhere, matchesIn, matchesOf}
+use Rattle.lang.proofs.PieceLaws.{piece-box, piece-char, next-within, next-pieces, pieces-none}
 use Rattle.base.proofs.PickLaws.{pick-true, pick-false, pick-yes, pick-no, and-first}
-
--- ---- a member of a list
-
-step-by : (t : Bool) (n m : ℕ) → ltb (pick t 0 (suc n)) (suc m) ≡ pick t true (ltb n m)
-unfolding pick
-step-by true n m = leb·suc-suc 0 m ∙ leb·zero m
-step-by false n m = leb·suc-suc (suc n) m
-
-pub has-cons : (k x : ℕ) (l : List ℕ) → has k (x ∷ l) ≡ pick (eqb x k) true (has k l)
-unfolding has placeOf
-has-cons k x l = step-by (eqb x k) (placeOf k l) (length l)
-
-pub has-nil : (k : ℕ) → has k [] ≡ false
-unfolding has placeOf
-has-nil k = refl
-
--- ---- the characters of a box, as far as place p
-
-pub record Seeking (k : ℕ) (l : List ℕ) (p : ℕ) : Type 0 where
-  pub is : has k (codesOf l) ≡ has k (codesOf (drop p l))
-
-pub seeking-start : (k : ℕ) (l : List ℕ) → Seeking k l 0
-seeking-start k l = record { is = refl }
-
-module _ {k : ℕ} {l : List ℕ} {p : ℕ} (w : Seeking k l p) (r : Step) (e : r ≡ decodeAt l p) where
-  first : (c n : ℕ) → r ≡ Char c n → has k (codesOf l) ≡ pick (eqb c k) true (has k (codesOf (drop (p + n) l)))
-  first c n q = w .is ∙ ap (has k) (codes-char l p c n (sym e ∙ q)) ∙ has-cons k c (codesOf (drop (p + n) l))
-
-  pub seeking-next : (c n : ℕ) → r ≡ Char c n → (c ≡ k → ⊥) → Seeking k l (p + n)
-  seeking-next c n q h = record { is = first c n q ∙ pick-false _ _ _ (ne-eqb c k h) }
-
-  pub seeking-found : (c n : ℕ) → r ≡ Char c n → c ≡ k → true ≡ has k (codesOf l)
-  seeking-found c n q h = sym (first c n q ∙ pick-true _ _ _ (eq-eqb c k h))
-
-  pub seeking-past : r ≡ Ill → Seeking k l (p + 1)
-  seeking-past q = record { is = w .is ∙ ap (has k) (codes-ill l p (sym e ∙ q)) }
-
-  pub seeking-none : r ≡ End → false ≡ has k (codesOf l)
-  seeking-none q = sym (w .is ∙ ap (has k) (codes-end l p (sym e ∙ q)) ∙ has-nil k)
-
--- a step over an ill-formed byte, as `step-end` and `step-less` over a character
-module _ (s : List ℕ) (p : ℕ) (r : Step) (e : r ≡ decodeAt s p) (q : r ≡ Ill) where
-  pub past-end : p + 1 ≤ length s
-  past-end = omega (arith, ill-in s p (sym e ∙ q))
-
-  pub past-less : length s - (p + 1) < length s - p
-  past-less = omega (arith, ill-in s p (sym e ∙ q))
-
-pub ruleset seeking-laws = (seeking-start, seeking-next, seeking-found, seeking-past, seeking-none, step-less, past-less)
+use Rattle.texts.proofs.Laws.{first-some-by}
 
 -- ---- a piece
 
@@ -104,7 +54,7 @@ module _ (l : List ℕ) (k : ℕ) (t : Bool) (e : t ≡ firstIs opening l) (r : 
   pub takes-other : t ≡ false → r ≡ takes (charPiece (decodeAt l 0)) k → r ≡ takes (pieceAt l) k
   takes-other p h = h ∙ ap (λ (y : Piece). takes y k) (piece-char l t e p)
 
-pub ruleset takes-laws = (first-in, box-negated, box-plain, takes-char, takes-ill, takes-end, takes-box, takes-other)
+pub ruleset takes-laws = (first-some-by, box-negated, box-plain, takes-char, takes-ill, takes-end, takes-box, takes-other)
 
 -- ---- the pieces from a place on: as far as q in the pattern and `at` in the name
 
@@ -151,7 +101,7 @@ module _ {t : List ℕ} {end : Bool} {name : List ℕ} {from q at : ℕ} (w : Fi
   pub fitting-end : r ≡ End → leb (length t) q ≡ fitsAt (patternPieces t) end (codesOf (drop from name))
   fitting-end u = over u (leb (length t) q) refl
 
-pub ruleset fitting-laws = (fitting-start, fitting-over, fitting-next, fitting-stop, fitting-past, fitting-end, step-less, past-less)
+pub ruleset fitting-laws = (fitting-start, fitting-over, fitting-next, fitting-stop, fitting-past, fitting-end, step-less, ill-less)
 
 -- ---- any place, as far as `at`
 
@@ -186,7 +136,7 @@ module _ {t : List ℕ} {end : Bool} {name : List ℕ} {at : ℕ} (w : Trying t 
         let c = codes-end name at (sym e ∙ u) in
         sym (w .is ∙ ap (fitsAnywhere (patternPieces t) end) c ∙ ap (fitsAt (patternPieces t) end) (sym c) ∙ sym f ∙ p)
 
-pub ruleset trying-laws = (trying-start, trying-found, trying-next, trying-past, trying-none, step-less, past-less)
+pub ruleset trying-laws = (trying-start, trying-found, trying-next, trying-past, trying-none, step-less, ill-less)
 
 -- ---- a pattern and a name
 

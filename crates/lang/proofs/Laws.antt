@@ -3,7 +3,7 @@ use mathlib.Core.Path.{_≡_, refl, sym, ap, ap₂, _∙_}
 use mathlib.Core.Bool.{Bool, true, false, not, false≢true}
 use mathlib.Core.List.{List, [], _∷_, _++_, append-nil}
 use mathlib.Core.Logic.{⊎-elim, _↔_}
-use Prim.Native.Nat.{ℕ, zero, suc, _+_, _-_, _≤_}
+use Prim.Native.Nat.{ℕ, zero, suc, _+_, _≤_}
 use native.Mathlib.Numerals.{add-one}
 use lib.Dec.{eqb}
 use lib.ListN.{length, take, drop, take-append-drop, length-drop}
@@ -11,16 +11,18 @@ use borrow.Author.Tests.{eqb-true}
 use native.Mathlib.Omega.{arith}
 use Rattle.base.specs.Pick.{pick, and}
 use Rattle.letters.specs.Reading.{codesOf}
-use Rattle.texts.specs.Parts.{firstIs, lastIs, placeOf, has}
+use Rattle.texts.specs.Parts.{firstIs, lastIs, placeOf, has, caret, dollar, opening, closing, withoutCaret, withoutDollar, tail, front}
 use Rattle.letters.specs.Utf8.{encode, decodeAt}
 use Rattle.letters.specs.declared.utf8.Step.{Step}
 use Rattle.letters.specs.declared.utf8.Step.the-variants.{Char, Ill, End}
 use Rattle.letters.proofs.Utf8Laws.{char-at}
-use Rattle.lang.specs.Patterns.{caret, dollar, opening, closing, Piece, exactly, box, stray, withoutCaret, withoutDollar, middle, insideOf, boxLength, boxPiece, charPiece, charLength, pieceAt, lengthAt, listedBox, goodPiece, patternPiecesIn, patternPieces, allGood, framed, inForms, takes, fitsAt, fitsAnywhere, matchesIn, matchesOf}
-use Rattle.lang.proofs.Pieces.{piece-bytes, pieces-cons}
-use Rattle.lang.proofs.Forms.{listed-none}
-use Rattle.lang.proofs.Fits.{has-nil, has-cons, anywhere-here}
+use Rattle.lang.specs.Patterns.{Piece, exactly, box, stray, middle, insideOf, boxLength, boxPiece, charPiece, charLength, pieceAt, lengthAt, listedBox, goodPiece, patternPiecesIn, patternPieces, allGood, framed, inForms, takes, fitsAt, fitsAnywhere, matchesIn, matchesOf}
+use Rattle.lang.proofs.PieceLaws.{piece-bytes, pieces-cons}
+use Rattle.lang.proofs.FormLaws.{listed-none}
+use Rattle.lang.proofs.Fits.{anywhere-here}
+use Rattle.texts.proofs.Chars.{has-nil, has-cons}
 use Rattle.base.proofs.PickLaws.{pick-true, pick-false, pick-inv, pick-all, and-yes, and-inv}
+use Rattle.base.proofs.Arms.{clash}
 
 -- the pieces take these characters, one each
 pub data Taken : List Piece → List ℕ → Type 0 where
@@ -36,9 +38,6 @@ pub record Match (start : Bool) (xs : List Piece) (end : Bool) (cs : List ℕ) :
   pub taken : Taken xs hit
   pub first : start ≡ true → before ≡ []
   pub last : end ≡ true → after ≡ []
-
-clash : {A : Type 0} → _≡_ {A = ℕ} 0 1 → A
-clash z = absurd (omega arith)
 
 -- ---- from a place on
 
@@ -65,13 +64,13 @@ record Front (xs : List Piece) (end : Bool) (cs : List ℕ) : Type 0 where
   taken : Taken xs hit
   last : end ≡ true → after ≡ []
 
-front : (xs : List Piece) (end : Bool) (cs : List ℕ) → fitsAt xs end cs ≡ true → Front xs end cs
+taken-first : (xs : List Piece) (end : Bool) (cs : List ℕ) → fitsAt xs end cs ≡ true → Front xs end cs
 unfolding fitsAt
-front [] end cs e = record { hit = []; after = cs; whole = refl; taken = none; last = none-left end cs e }
-front (x ∷ xs) end [] e = absurd (false≢true e)
-front (x ∷ xs) end (c ∷ cs) e =
+taken-first [] end cs e = record { hit = []; after = cs; whole = refl; taken = none; last = none-left end cs e }
+taken-first (x ∷ xs) end [] e = absurd (false≢true e)
+taken-first (x ∷ xs) end (c ∷ cs) e =
     let w = and-inv (takes x c) (fitsAt xs end cs) e in
-    let r = front xs end cs (w .1) in
+    let r = taken-first xs end cs (w .1) in
     record { hit = c ∷ r .hit; after = r .after; whole = ap (λ (l : List ℕ). c ∷ l) (r .whole); taken = one (w .0) (r .taken); last = r .last }
 
 -- ---- from any place on
@@ -93,13 +92,13 @@ anywhere xs end (c ∷ cs) after e = pick-all (λ (b : Bool). b ≡ true) _ _ _ 
 
 at-start : (xs : List Piece) (end : Bool) (cs : List ℕ) → fitsAt xs end cs ≡ true → Match true xs end cs
 at-start xs end cs e =
-    let f = front xs end cs e in
+    let f = taken-first xs end cs e in
     record { before = []; hit = f .hit; after = f .after; whole = f .whole; taken = f .taken; first = λ _. refl; last = f .last }
 
 at-any : (xs : List Piece) (end : Bool) (cs : List ℕ) → fitsAnywhere xs end cs ≡ true → Match false xs end cs
 at-any xs end cs e =
     let w = place xs end cs e in
-    let f = front xs end (w .1) (w .3) in
+    let f = taken-first xs end (w .1) (w .3) in
     record { before = w .0; hit = f .hit; after = f .after; whole = w .2 ∙ ap (λ (l : List ℕ). w .0 ++ l) (f .whole); taken = f .taken; first = λ q. absurd (false≢true q); last = f .last }
 
 pub found : (start : Bool) (xs : List Piece) (end : Bool) (cs : List ℕ) → matchesIn start xs end cs ≡ true → Match start xs end cs
@@ -127,7 +126,7 @@ means-matches p name m = finds _ _ _ _ m
 -- ---- the patterns without a piece: `^` and `$` fit every name, `^$` the empty one alone
 
 computing : Unit {0}
-unfolding matchesOf matchesIn inForms framed allGood patternPieces patternPiecesIn middle withoutCaret withoutDollar firstIs lastIs has placeOf pick and
+unfolding matchesOf matchesIn inForms framed allGood patternPieces patternPiecesIn middle withoutCaret withoutDollar tail front firstIs lastIs has placeOf pick and
 computing = tt
 
 module _ (name : List ℕ) where
@@ -172,19 +171,17 @@ caret-step x xs true q = ap (λ (y : ℕ). y ∷ xs) (sym (eqb-true x caret q))
 caret-step x xs false q = refl
 
 caret-back : (s : List ℕ) → pick (firstIs caret s) (caret ∷ []) [] ++ withoutCaret s ≡ s
-unfolding firstIs withoutCaret pick
+unfolding firstIs withoutCaret tail pick
 caret-back [] = refl
 caret-back (x ∷ xs) = caret-step x xs (eqb x caret) refl
 
-last-back : (b : ℕ) (s : List ℕ) → lastIs b s ≡ true → take (length s - 1) s ++ (b ∷ []) ≡ s
-unfolding lastIs
+last-back : (b : ℕ) (s : List ℕ) → lastIs b s ≡ true → front s ++ (b ∷ []) ≡ s
+unfolding lastIs front
 last-back b [] e = absurd (false≢true e)
 last-back b (x ∷ []) e = ap (λ (y : ℕ). y ∷ []) (sym (eqb-true x b e))
-last-back b (x ∷ y ∷ l) e =
-    let z : suc (suc (length l)) - 1 ≡ suc (suc (length l) - 1) = omega arith in
-    ap (λ (n : ℕ). take n (x ∷ y ∷ l) ++ (b ∷ [])) z ∙ ap (λ (m : List ℕ). x ∷ m) (last-back b (y ∷ l) e)
+last-back b (x ∷ y ∷ l) e = ap (λ (m : List ℕ). x ∷ m) (last-back b (y ∷ l) e)
 
-dollar-step : (s : List ℕ) (t : Bool) → lastIs dollar s ≡ t → pick t (take (length s - 1) s) s ++ pick t (dollar ∷ []) [] ≡ s
+dollar-step : (s : List ℕ) (t : Bool) → lastIs dollar s ≡ t → pick t (front s) s ++ pick t (dollar ∷ []) [] ≡ s
 unfolding pick
 dollar-step s true e = last-back dollar s e
 dollar-step s false e = append-nil s
@@ -201,7 +198,7 @@ last-step x [] true e = rw (eqb-true x caret e) refl
 last-step x (y ∷ l) true e = refl
 
 last-same : (p : List ℕ) → lastIs dollar (withoutCaret p) ≡ lastIs dollar p
-unfolding withoutCaret firstIs pick
+unfolding withoutCaret firstIs tail pick
 last-same [] = refl
 last-same (x ∷ xs) = last-step x xs (eqb x caret) refl
 

@@ -23,12 +23,13 @@ use Rattle.letters.specs.declared.utf8.Step.{Step}
 use Rattle.letters.specs.declared.utf8.Step.the-variants.{Char, Ill, End}
 use Rattle.letters.proofs.Utf8Laws.{decode-one, char-at, char-drop, char-length, ill-in, encode-one, encode-two, encode-three, encode-four}
 use Rattle.letters.proofs.CodesLaws.{codes-char, codes-ill, codes-end}
-use Rattle.texts.specs.Parts.{firstIs, lastIs, placeOf, has}
-use Rattle.lang.specs.Patterns.{caret, dollar, opening, closing, Piece, boxLength, charPiece, pieceAt, lengthAt, charLength, patternPieces, middle, takes, fitsAt, fitsAnywhere, matchesIn, matchesOf}
-use Rattle.lang.specs.Contracts.{otherwise, bitOf, signatureOf, hasBit, mayIn, mayMatch}
-use Rattle.lang.proofs.Pieces.{pieces-cons, piece-char, piece-bytes, rest-all, next-less}
-use Rattle.lang.proofs.Fits.{has-cons}
-use Rattle.base.proofs.PickLaws.{pick-true, pick-false, pick-inv, and-inv, and-first}
+use Rattle.texts.specs.Parts.{firstIs, lastIs, placeOf, has, caret, dollar, opening, closing}
+use Rattle.lang.specs.Patterns.{Piece, boxLength, charPiece, pieceAt, lengthAt, charLength, patternPieces, middle, takes, fitsAt, fitsAnywhere, matchesIn, matchesOf}
+use Rattle.lang.specs.Contracts.{beginsWithOther, bitOf, signatureOf, hasBit, mayIn, mayMatch}
+use Rattle.lang.proofs.PieceLaws.{pieces-cons, piece-char, piece-bytes, next-less}
+use Rattle.base.proofs.Stores.{rest-is}
+use Rattle.texts.proofs.Chars.{has-cons}
+use Rattle.base.proofs.PickLaws.{pick-true, pick-false, pick-inv, and-inv, and-first, pick-past}
 
 -- ---- a place
 
@@ -60,19 +61,14 @@ module _ (t name : List ℕ) (end : Bool) (from : ℕ) (b : ℕ) (i : from < len
       ap (λ (y : Piece). takes y (getD name from 0)) (sym (piece-char t false (sym (first-not t opening h o)) refl)) ∙ takes-not t (getD name from 0) (decodeAt t 0) refl (λ q. n (q ∙ sym a)) low in
       sym (rw (pieces-cons t h, codes) (and-first _ _ piece))
 
-past : (t b : Bool) → pick t false b ≡ true → (t ≡ false) × (b ≡ true)
-unfolding pick
-past true b e = absurd (false≢true e)
-past false b e = (refl, e)
-
-pub place-passed : (t name : List ℕ) (end : Bool) (from : ℕ) (r : Bool) → from < length name → r ≡ otherwise t (getD name from 0) → r ≡ true
+pub place-passed : (t name : List ℕ) (end : Bool) (from : ℕ) (r : Bool) → from < length name → r ≡ beginsWithOther t (getD name from 0) → r ≡ true
     → false ≡ fitsAt (patternPieces t) end (codesOf (drop from name))
-unfolding otherwise
+unfolding beginsWithOther
 place-passed t name end from r i e q =
     let b = getD name from 0 in
-    let u = past (ltb (length t) 1) _ (sym e ∙ q) in
-    let v = past (eqb (getD t 0 0) opening) _ (u .1) in
-    let w = past (eqb (getD t 0 0) b) _ (v .1) in
+    let u = pick-past (ltb (length t) 1) _ (sym e ∙ q) in
+    let v = pick-past (eqb (getD t 0 0) opening) _ (u .1) in
+    let w = pick-past (eqb (getD t 0 0) b) _ (v .1) in
     passed-by t name end from b i refl (omega (arith, ltb-false (length t) 1 (u .0))) (eqb-false _ _ (v .0)) (eqb-false _ _ (w .0)) (leb-true b 0x7F (w .1))
 
 -- ---- the signature
@@ -291,7 +287,7 @@ module _ {bits : ℕ} {t : List ℕ} {q : ℕ} (w : Passing bits t q) where
 
   pub passing-box : (n : ℕ) → q < length t → getD t q 0 ≡ opening → n ≡ lengthAt (take (length t - q) (drop q t)) → Passing bits t (q + n)
   passing-box n h o e =
-      let size : n ≡ lengthAt (drop q t) = e ∙ ap lengthAt (rest-all t q) in
+      let size : n ≡ lengthAt (drop q t) = e ∙ ap lengthAt (rest-is t q) in
       let front : mayIn bits false (drop q t) ≡ mayIn bits false (drop (lengthAt (drop q t)) (drop q t)) = rw (here h) (front-passed bits (getD t q 0) (drop (q + 1) t) (eq-eqb _ _ o)) in
       record { is = w .is ∙ front ∙ ap (λ (m : ℕ). mayIn bits false (drop m (drop q t))) (sym size) ∙ ap (mayIn bits false) (drop-drop n q t) }
 

@@ -7,11 +7,12 @@ use lib.Bits.{bitAnd, bitOr}
 use lib.Dec.{eqb, leb, ltb}
 use lib.ListN.{length, getD}
 use Rattle.base.specs.Pick.{pick, and}
-use Rattle.lang.specs.Patterns.{opening, closing, middle}
+use Rattle.lang.specs.Patterns.{middle}
+use Rattle.texts.specs.Parts.{opening, closing}
 
 -- t begins with a character that is not b, and b is a character by itself (below U+0080)
-unfoldable pub otherwise : List ℕ → ℕ → Bool
-otherwise t b = pick (ltb (length t) 1) false (pick (eqb (getD t 0 0) opening) false (pick (eqb (getD t 0 0) b) false (leb b 0x7F)))
+unfoldable pub beginsWithOther : List ℕ → ℕ → Bool
+beginsWithOther t b = pick (ltb (length t) 1) false (pick (eqb (getD t 0 0) opening) false (pick (eqb (getD t 0 0) b) false (leb b 0x7F)))
 
 -- of each byte one of 64 bits
 abbrev pub bitOf : ℕ → ℕ

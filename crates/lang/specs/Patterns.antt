@@ -10,19 +10,7 @@ use Rattle.letters.specs.Reading.{codesOf}
 use Rattle.letters.specs.Reading as letters
 use Rattle.letters.specs.declared.utf8.Step.{Step}
 use Rattle.letters.specs.declared.utf8.Step.the-variants.{Char, Ill, End}
-use Rattle.texts.specs.Parts.{firstIs, lastIs, placeOf, has}
-
-abbrev pub caret : ℕ
-caret = 94
-
-abbrev pub dollar : ℕ
-dollar = 36
-
-abbrev pub opening : ℕ
-opening = 91
-
-abbrev pub closing : ℕ
-closing = 93
+use Rattle.texts.specs.Parts.{firstIs, lastIs, placeOf, has, caret, dollar, opening, closing, withoutCaret, withoutDollar}
 
 -- "a character other than `\ . + * ? ( ) | [ ] { } ^ $`"
 unfoldable pub signs : List ℕ
@@ -45,12 +33,6 @@ pub data Piece : Type 0 where
   exactly : (code : ℕ) → Piece
   box : (negated : Bool) (list : List ℕ) → Piece
   stray : Piece
-
-unfoldable pub withoutCaret : List ℕ → List ℕ
-withoutCaret l = pick (firstIs caret l) (drop 1 l) l
-
-unfoldable pub withoutDollar : List ℕ → List ℕ
-withoutDollar l = pick (lastIs dollar l) (take (length l - 1) l) l
 
 -- "an optional `^`, pieces, an optional `$`"
 unfoldable pub middle : List ℕ → List ℕ

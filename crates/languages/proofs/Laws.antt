@@ -1,32 +1,32 @@
 -- What the crates above use of language sets and of listed names. Assumes nothing.
-use mathlib.Core.Path.{_≡_, refl, sym, ap, ap₂, _∙_}
+use mathlib.Core.Path.{_≡_, refl, sym, ap, _∙_}
 use mathlib.Core.Bool.{Bool, true, false}
-use mathlib.Core.List.{List, [], _∷_, _++_}
-use Prim.Native.Nat.{ℕ, zero, suc, _+_, _-_, _^_, _≤_, _<_, min}
+use mathlib.Core.List.{List, [], _∷_}
+use Prim.Native.Nat.{ℕ, suc, _^_, _≤_, _<_, min}
 use native.Mathlib.Omega.{arith}
 use native.Mathlib.Nat.{lt-of-lt-of-le, lt-of-le-of-lt, lt-of-not-le, not-le-of-lt, le-of-suc-le-suc, not-suc-le-zero}
 use lib.Count.{ones, trailingZeros}
 use lib.Bits.{and-lt, or-lt, and-le-l}
-use lib.Dec.{eqb, leb, ltb}
-use lib.ListN.{length, getD, length-append}
-use lib.Seq.{take-append-seam, drop-append-seam}
+use lib.Dec.{eqb, ltb}
+use lib.ListN.{length, getD}
 use lib.Pow.{pow-lt, pow-mono}
-use borrow.Author.Tests.{eqb-true, ltb-true, ltb-false, leb-true, leb-false, le-leb}
+use borrow.Author.Tests.{eqb-true, ltb-true, leb-true}
 use Rattle.base.specs.Pick.{pick}
 use Rattle.base.proofs.Bits.{single-is}
 use Rattle.letters.specs.Order.{sameText}
 use Rattle.languages.specs.Sets.{narrowed, merged, singleOf, without}
-use Rattle.languages.specs.Names.{languageName, strings, stringsOf, namePlace, bitAt, languageBit}
+use Rattle.languages.specs.Names.{languageName, namePlace, bitAt, languageBit}
+use Rattle.strings.specs.Reading.{stringsOf}
 use Rattle.languages.specs.declared.sets.LanguageSet.{LanguageSet}
 use Rattle.languages.specs.declared.sets.LanguageSet.the-variants.{Any, NoLanguages, SomeLanguages}
 use Rattle.languages.specs.declared.sets.Single.{Single}
 use Rattle.languages.specs.declared.sets.Single.the-variants.{Language, NotSingle}
 use Rattle.languages.specs.declared.names.Listed.{Listed}
 use Rattle.languages.specs.declared.names.Listed.the-variants.{Bit, Unlisted}
-use Rattle.languages.specs.declared.names.Next.{Next}
-use Rattle.languages.specs.declared.names.Next.the-variants.{Whole, Cut}
-use Rattle.base.proofs.PickLaws.{pick-true, and-inv}
-use Rattle.languages.specs.Contracts.{stringAt, BitsBelow}
+use Rattle.base.proofs.PickLaws.{and-inv}
+use Rattle.languages.specs.Contracts.{BitsBelow}
+use Rattle.base.proofs.Arms.{clash}
+use Rattle.letters.proofs.OrderLaws.{same-is}
 
 -- ---- sets with bits of the first n languages only
 
@@ -75,9 +75,6 @@ mask-below n x p = p
 
 -- ---- the single language of a set
 
-clash : {A : Type 0} → _≡_ {A = ℕ} 0 1 → A
-clash e = let no-way : ⊥ = omega arith in absurd no-way
-
 pow-back : (k n : ℕ) → 2 ^ k < 2 ^ n → k < n
 pow-back k n h = lt-of-not-le (λ l. not-le-of-lt h (pow-mono l))
 
@@ -112,13 +109,6 @@ module _ (n : ℕ) (a : LanguageSet) (l : ℕ) (r : Single) (h : n ≤ 32) (k : 
   single-below = is-one n a l h k (sym p ∙ e) .within
 
 -- ---- a name that is listed
-
-same-is : (a b : List ℕ) → sameText a b ≡ true → a ≡ b
-unfolding sameText
-same-is [] [] e = refl
-same-is [] (y ∷ ys) e = clash (cc)
-same-is (x ∷ xs) [] e = clash (cc)
-same-is (x ∷ xs) (y ∷ ys) e = let both = and-inv _ _ e in ap₂ _∷_ (eqb-true x y (both .0)) (same-is xs ys (both .1))
 
 found-cons : (name t : List ℕ) (ts : List (List ℕ)) (p : ℕ) (b : Bool) → sameText t name ≡ b → (p < length ts → getD ts p [] ≡ name)
     → pick b 0 (suc p) < length (t ∷ ts) → getD (t ∷ ts) (pick b 0 (suc p)) [] ≡ name
@@ -161,59 +151,8 @@ module _ (s name : List ℕ) (b : ℕ) (r : Listed) (p : r ≡ languageBit s nam
   pub bit-held : b < 2 ^ length (stringsOf s)
   bit-held = let l = is-listed in rw (l .bit) (pow-lt (l .there))
 
--- ---- strings one after the other
-
-pub strings-none : (f : ℕ) → strings f [] ≡ []
-unfolding strings
-strings-none zero = refl
-strings-none (suc f) = refl
-
-pub strings-all : (l : List ℕ) → stringsOf l ≡ strings (length l) l
-unfolding stringsOf
-strings-all l = refl
-
--- a string behind its length byte, and what follows
-pub strings-one : (f : ℕ) (t l : List ℕ) → strings (suc f) (length t ∷ (t ++ l)) ≡ t ∷ strings f l
-unfolding strings
-strings-one f t l =
-    let fits : length t ≤ length (t ++ l) = simp length-append (omega arith) in
-    pick-true _ _ _ (le-leb _ _ fits) ∙ ap₂ (λ (x y : List ℕ). x ∷ strings f y) (take-append-seam t l) (drop-append-seam t l)
-
 -- ---- a language name has a letter
 
 pub name-some : (t : List ℕ) → languageName t ≡ true → 1 ≤ length t
 unfolding languageName
 name-some t e = leb-true _ _ (and-inv _ _ e .0)
-
--- ---- the string at a place
-
--- it stands behind its length byte, and ends within
-pub record StringIs (s : List ℕ) (at start end : ℕ) : Type 0 where
-  pub begins : start ≡ at + 1
-  pub ends : end ≡ at + 1 + getD s at 0
-  pub fits : end ≤ length s
-
-whole-by : (s : List ℕ) (at a e : ℕ) (t u : Bool) → ltb at (length s) ≡ t → leb (getD s at 0) (length s - (at + 1)) ≡ u
-    → pick t (pick u (Whole (at + 1) (at + 1 + getD s at 0)) Cut) Cut ≡ Whole a e → StringIs s at a e
-unfolding pick
-whole-by s at a e false u p q w = clash (cc)
-whole-by s at a e true false p q w = clash (cc)
-whole-by s at a e true true p q w =
-    let ends : at + 1 + getD s at 0 ≡ e = cc in
-    record { begins = cc; ends = sym ends; fits = omega (arith, ltb-true, leb-true) }
-
-cut-by : (s : List ℕ) (at : ℕ) (t u : Bool) → ltb at (length s) ≡ t → leb (getD s at 0) (length s - (at + 1)) ≡ u
-    → pick t (pick u (Whole (at + 1) (at + 1 + getD s at 0)) Cut) Cut ≡ Cut → length s < at + 1 + getD s at 0
-unfolding pick
-cut-by s at false u p q w = omega (arith, ltb-false)
-cut-by s at true false p q w = omega (arith, leb-false)
-cut-by s at true true p q w = clash (cc)
-
-pub string-whole : (s : List ℕ) (at a e : ℕ) (r : Next) → r ≡ stringAt s at → r ≡ Whole a e → StringIs s at a e
-unfolding stringAt
-string-whole s at a e r p q = whole-by s at a e _ _ refl refl (sym p ∙ q)
-
--- or bytes run out
-pub string-cut : (s : List ℕ) (at : ℕ) (r : Next) → r ≡ stringAt s at → r ≡ Cut → length s < at + 1 + getD s at 0
-unfolding stringAt
-string-cut s at r p q = cut-by s at _ _ refl refl (sym p ∙ q)

@@ -1,16 +1,12 @@
 -- No two sets and no two answers of a list have the same numbers: `-one` reads a promise, `-told` makes one. Assumes nothing.
 use mathlib.Core.Path.{_≡_, refl, ap}
-use Prim.Native.Nat.{ℕ}
-use native.Mathlib.Omega.{arith}
 use Rattle.refusals.specs.Numbers.{numberOf}
 use Rattle.languages.specs.Numbers.{setNumbers, listedNumbers}
 use Rattle.languages.specs.declared.sets.LanguageSet.{LanguageSet}
 use Rattle.languages.specs.declared.sets.LanguageSet.the-variants.{Any, NoLanguages, SomeLanguages}
 use Rattle.languages.specs.declared.names.Listed.{Listed}
 use Rattle.languages.specs.declared.names.Listed.the-variants.{Bit, Unlisted}
-
-pub clash : {A : Type 0} → _≡_ {A = ℕ} 0 1 → A
-clash e = let no : ⊥ = omega arith in absurd no
+use Rattle.base.proofs.Arms.{clash}
 
 pub set-one : (r d : LanguageSet) → setNumbers r ≡ setNumbers d → r ≡ d
 unfolding setNumbers

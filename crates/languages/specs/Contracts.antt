@@ -4,14 +4,10 @@ use Prim.Native.Nat.{ℕ, _+_, _-_, _^_, _%_, _<_}
 use mathlib.Core.Path.{_≡_}
 use mathlib.Core.Bool.{Bool}
 use lib.Bits.{bitAnd, bitOr}
-use lib.Dec.{ltb, leb, eqb}
+use lib.Dec.{ltb, eqb}
 use Rattle.base.specs.Pick.{pick}
 use Rattle.languages.specs.declared.sets.LanguageSet.{LanguageSet}
 use Rattle.languages.specs.declared.sets.LanguageSet.the-variants.{Any, NoLanguages, SomeLanguages}
-use mathlib.Core.List.{List}
-use Rattle.languages.specs.declared.names.Next.{Next}
-use lib.ListN.{length, getD}
-use Rattle.languages.specs.declared.names.Next.the-variants.{Whole, Cut}
 use Prim.{Unit}
 
 -- only bits of the first n languages: "listed bits only" (01, Bundle and pack)
@@ -19,13 +15,6 @@ unfoldable pub BitsBelow : ℕ → LanguageSet → Type 0
 BitsBelow n Any = Unit {0}
 BitsBelow n NoLanguages = Unit {0}
 BitsBelow n (SomeLanguages x) = x < 2 ^ n
-
--- where the string at a place starts and ends
-unfoldable pub stringAt : List ℕ → ℕ → Next
-stringAt s at =
-    pick (ltb at (length s))
-    (pick (leb (getD s at 0) (length s - (at + 1))) (Whole (at + 1) (at + 1 + getD s at 0)) Cut)
-    Cut
 
 unfoldable pub coded : LanguageSet → ℕ
 coded Any = 2 ^ 34 - 1

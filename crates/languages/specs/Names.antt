@@ -1,11 +1,12 @@
 -- Language names, and the bit of a listed one (01, Language sets; Bundle and pack).
-use Prim.Native.Nat.{ℕ, zero, suc, _^_, min}
+use Prim.Native.Nat.{ℕ, suc, _^_, min}
 use mathlib.Core.Bool.{Bool, true, false}
 use mathlib.Core.List.{List, [], _∷_}
 use lib.Dec.{ltb, leb}
-use lib.ListN.{length, take, drop}
+use lib.ListN.{length}
 use Rattle.base.specs.Pick.{pick, and}
 use Rattle.letters.specs.Order.{sameText}
+use Rattle.strings.specs.Reading.{stringsOf}
 use Rattle.languages.specs.declared.names.Listed.{Listed}
 use Rattle.languages.specs.declared.names.Listed.the-variants.{Bit, Unlisted}
 
@@ -24,16 +25,6 @@ common = 99 ∷ 111 ∷ 109 ∷ 109 ∷ 111 ∷ 110 ∷ []
 -- names are 1 to 24 letters `a` to `z`, but not `common` (01, Language sets)
 unfoldable pub languageName : List ℕ → Bool
 languageName t = and (leb 1 (length t)) (and (leb (length t) 24) (pick (sameText t common) false (allLetters t)))
-
--- strings follow their length byte (01, Bundle and pack), one after the other; one that is cut off ends the list
-unfoldable pub strings : ℕ → List ℕ → List (List ℕ)
-strings zero s = []
-strings (suc fuel) [] = []
-strings (suc fuel) (n ∷ s) = pick (leb n (length s)) (take n s ∷ strings fuel (drop n s)) []
-
--- each string takes a byte or more, so the length is fuel enough
-unfoldable pub stringsOf : List ℕ → List (List ℕ)
-stringsOf s = strings (length s) s
 
 -- how many strings stand before the first that is the name: all of them, where none is
 unfoldable pub namePlace : List ℕ → List (List ℕ) → ℕ

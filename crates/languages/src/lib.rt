@@ -3,10 +3,8 @@ mod names;
 mod sets;
 
 pub use names::Listed;
-pub use names::Next;
 pub use names::find_language;
 pub use names::is_language_name;
-pub use names::string_at;
 pub use sets::LanguageSet;
 pub use sets::Single;
 pub use sets::coded;

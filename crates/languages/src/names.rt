@@ -2,18 +2,12 @@
 ghost use mathlib.Core.Path.{_≡_};
 ghost use Rattle.languages.specs.Names.{isLetter, allLetters, languageName, languageBit};
 ghost use Rattle.languages.specs.Numbers.{listedNumbers};
-ghost use Rattle.languages.specs.Contracts.{stringAt};
+use strings::Next;
 
 // The bit of a name that a list holds.
 pub enum Listed {
     Bit(u32),
     Unlisted,
-}
-
-// What stands at a place of a list of strings: a string from start up to end, or no whole one.
-pub enum Next {
-    Whole { start: usize, end: usize },
-    Cut,
 }
 
 // A letter a to z.
@@ -53,23 +47,6 @@ pub fn is_language_name(s: &[u8]) -> bool
     all_letters(s)
 }
 
-// The string at a place of `names`: a length byte and as many bytes.
-pub fn string_at(names: &[u8], at: usize) -> Next
-    ensures { λ r. ⌜ r ≡ stringAt (now (names .entry)) at ⌝ }
-{
-    if names.len() <= at {
-        return Next::Cut;
-    }
-    let n = names[at] as usize;
-    let start = at + 1;
-    if n <= names.len() - start {
-        let end = start + n;
-        Next::Whole { start, end }
-    } else {
-        Next::Cut
-    }
-}
-
 // The bit of `name`: 2 to the place of the first string that is `name`, among the first 32 that `names` holds.
 pub fn find_language(names: &[u8], name: &[u8]) -> Listed
     ensures { λ r. ⌜ listedNumbers r ≡ listedNumbers (languageBit (now (names .entry)) (now (name .entry))) ⌝ }
@@ -77,7 +54,7 @@ pub fn find_language(names: &[u8], name: &[u8]) -> Listed
     let mut at: usize = 0;
     let mut place: u32 = 0;
     while place < 32 {
-        match string_at(names, at) {
+        match strings::string_at(names, at) {
             Next::Whole { start, end } => {
                 if letters::same(&names[start..end], name) {
                     let bit: u32 = 1 << place;

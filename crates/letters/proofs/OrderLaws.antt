@@ -1,6 +1,6 @@
 -- The two loops over two texts, as far as index i: what is left to compare decides. A law for each way that a turn can go.
 -- Assumes nothing.
-use mathlib.Core.Path.{_≡_, refl, sym, ap, _∙_}
+use mathlib.Core.Path.{_≡_, refl, sym, ap, ap₂, _∙_}
 use mathlib.Core.Bool.{Bool, true, false}
 use mathlib.Core.List.{List, [], _∷_}
 use Prim.Native.Nat.{ℕ, suc, _+_, _≤_, _<_, zero-le}
@@ -9,12 +9,13 @@ use native.Mathlib.Nat.{le-of-lt}
 use lib.Dec.{eqb}
 use lib.ListN.{length, drop, getD, drop-of-length-le}
 use lib.Seq.{drop-cons}
-use borrow.Author.Tests.{lt-ltb, le-ltb, eq-eqb, ne-eqb}
+use borrow.Author.Tests.{eqb-true, lt-ltb, le-ltb, eq-eqb, ne-eqb}
 use Rattle.base.specs.Pick.{pick, and}
 use Rattle.letters.specs.Order.{orderOf, sameText}
 use Rattle.letters.specs.declared.order.Order.{Order}
 use Rattle.letters.specs.declared.order.Order.the-variants.{Less, Equal, Greater}
-use Rattle.base.proofs.PickLaws.{and-no}
+use Rattle.base.proofs.PickLaws.{and-no, and-inv}
+use Rattle.base.proofs.Arms.{clash}
 
 -- f of what is left from index i on is f of the whole
 pub record Left (A : Type 0) (f : List ℕ → List ℕ → A) (a b : List ℕ) (i : ℕ) : Type 0 where
@@ -67,6 +68,13 @@ pub same-refl : (a : List ℕ) → sameText a a ≡ true
 unfolding sameText and
 same-refl [] = refl
 same-refl (x ∷ xs) = rw (eq-eqb x x refl) (same-refl xs)
+
+pub same-is : (a b : List ℕ) → sameText a b ≡ true → a ≡ b
+unfolding sameText
+same-is [] [] e = refl
+same-is [] (y ∷ ys) e = clash (cc)
+same-is (x ∷ xs) [] e = clash (cc)
+same-is (x ∷ xs) (y ∷ ys) e = let both = and-inv _ _ e in ap₂ _∷_ (eqb-true x y (both .0)) (same-is xs ys (both .1))
 
 pub same-not : (a b : List ℕ) → (length a ≡ length b → ⊥) → false ≡ sameText a b
 unfolding sameText

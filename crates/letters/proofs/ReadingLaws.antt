@@ -13,6 +13,7 @@ use Rattle.letters.specs.declared.utf8.Found.{Found}
 use Rattle.letters.specs.declared.utf8.Found.the-variants.{At, Nothing}
 use Rattle.letters.proofs.Utf8Laws.{char-at, ill-in}
 use Rattle.base.proofs.PickLaws.{pick-true, pick-false}
+use Rattle.base.proofs.Arms.{clash}
 
 -- l is what stands in s from p on
 pub data Pieces (s : List ℕ) : ℕ → List Symbol → Type 0 where
@@ -50,10 +51,6 @@ pub record Walk (A : Type 0) (g : List Symbol → A) (s : List ℕ) (p : ℕ) : 
 
 pub walk-start : (A : Type 0) (g : List Symbol → A) (s : List ℕ) → Walk A g s 0
 walk-start A g s = record { left = symbolsOf s; pieces = pieces-of s; within = zero-le; is = refl }
-
--- two steps at one place
-clash : {A : Type 0} → _≡_ {A = ℕ} 0 1 → A
-clash z = absurd (omega arith)
 
 pub char-left : {s : List ℕ} {p k n : ℕ} {l : List Symbol} → Pieces s p l → decodeAt s p ≡ Char k n → (m : List Symbol) × (l ≡ symbol p k ∷ m) × Pieces s (p + n) m
 char-left (end e) q = clash (cc)
@@ -127,6 +124,14 @@ step-less s p k n r e q = let b = char-at s p k n (sym e ∙ q) in omega arith
 
 pub step-end : (s : List ℕ) (p k n : ℕ) (r : Step) → r ≡ decodeAt s p → r ≡ Char k n → p + n ≤ length s
 step-end s p k n r e q = char-at s p k n (sym e ∙ q) .end
+
+-- the same over an ill-formed byte
+module _ (s : List ℕ) (p : ℕ) (r : Step) (e : r ≡ decodeAt s p) (q : r ≡ Ill) where
+  pub ill-end : p + 1 ≤ length s
+  ill-end = omega (arith, ill-in s p (sym e ∙ q))
+
+  pub ill-less : length s - (p + 1) < length s - p
+  ill-less = omega (arith, ill-in s p (sym e ∙ q))
 
 pub ruleset ill-laws = (walk-start, ill-on, ill-found, ill-none, step-less)
 

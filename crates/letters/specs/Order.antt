@@ -20,3 +20,14 @@ sameText [] [] = true
 sameText [] (y ∷ ys) = false
 sameText (x ∷ xs) [] = false
 sameText (x ∷ xs) (y ∷ ys) = and (eqb x y) (sameText xs ys)
+
+unfoldable pub isLess : Order → Bool
+isLess Less = true
+isLess Equal = false
+isLess Greater = false
+
+-- "strictly increasing"
+unfoldable pub increasing : List (List ℕ) → Bool
+increasing [] = true
+increasing (x ∷ []) = true
+increasing (x ∷ y ∷ l) = and (isLess (orderOf x y)) (increasing (y ∷ l))

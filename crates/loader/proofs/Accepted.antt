@@ -13,10 +13,10 @@ use borrow.Author.Tests.{leb-true, le-leb}
 use Rattle.refusals.specs.declared.Refusal.{Refusal}
 use Rattle.refusals.specs.Numbers.{numberOf}
 use Rattle.refusals.proofs.NumberLaws.{number-one, number-some}
-use Rattle.name_parts.proofs.Laws.{clash}
+use Rattle.base.proofs.Arms.{clash}
 use Rattle.prefixes.specs.declared.prefixes.NameType.{NameType}
 use Rattle.prefixes.specs.declared.prefixes.NameType.the-variants.{Ashkenazi, Generic, Sephardic}
-use Rattle.pack.specs.Reading.{Read, cut, got}
+use Rattle.strings.specs.Reading.{Read, cut, got}
 use Rattle.pack.specs.Packs.{Guess, Rule, Pack, accepted, packOf, all, guessesGood, ruleGood, listGood, listCount}
 use Rattle.pack_bytes.specs.Bytes.{namesBytes, packBytes}
 use Rattle.pack_bytes.proofs.Laws.{packed}

@@ -8,7 +8,7 @@ use native.Mathlib.Omega.{arith}
 use lib.ListN.{length}
 use Rattle.refusals.specs.declared.Refusal.{Refusal}
 use Rattle.refusals.specs.declared.Refusal.the-variants.{LineUnreadable}
-use Rattle.name_parts.proofs.Laws.{clash}
+use Rattle.base.proofs.Arms.{clash}
 use Rattle.pack.specs.Packs.{all}
 use Rattle.rules_parser.specs.Files.{itemAt, itemsOf}
 use Rattle.rules_parser.proofs.Laws.{passed-goes, passed-in, tells-goes, tells-in, items-start, items-end, items-passed, items-tells, items-wrong}

@@ -16,14 +16,15 @@ use Rattle.base.specs.Pick.{pick}
 use Rattle.base.proofs.Bits.{and-or}
 use Rattle.refusals.specs.declared.Refusal.{Refusal}
 use Rattle.refusals.specs.declared.Refusal.the-variants.{LineUnreadable, OutsideForms, NameUnlisted, TooMuch}
-use Rattle.languages.specs.Names.{stringsOf}
+use Rattle.strings.specs.Reading.{stringsOf}
 use Rattle.languages.specs.declared.names.Listed.{Listed}
 use Rattle.languages.specs.declared.names.Listed.the-variants.{Bit, Unlisted}
 use Rattle.languages.proofs.Laws.{is-listed, bit-held}
 use Rattle.phonemes.specs.Expressions.{plus, onFirst, cutAt, withBits, namesMask}
 use Rattle.lang.specs.Patterns.{inForms}
-use Rattle.name_parts.specs.Contracts.{Put, cap}
-use Rattle.name_parts.proofs.Laws.{clash, put-none, put-then, put-long, put-place}
+use Rattle.writing.specs.Contracts.{Put, cap}
+use Rattle.base.proofs.Arms.{clash}
+use Rattle.writing.proofs.Laws.{put-none, put-then, put-long, put-place}
 use Rattle.pack.specs.Packs.{Guess, guess, guessGood, guessesGood}
 use Rattle.pack_bytes.specs.Bytes.{textBytes, maskBytes, guessBytes}
 use Rattle.rules_parser.specs.Fields.{partOf}

@@ -10,11 +10,11 @@ use lib.ListN.{length, take, drop, length-take}
 use borrow.Author.Tests.{le-leb, lt-leb}
 use Rattle.refusals.specs.declared.Refusal.{Refusal}
 use Rattle.refusals.specs.declared.Refusal.the-variants.{SettingUnknown, NoRoom, BundleBroken, FileMissing}
-use Rattle.languages.specs.Names.{stringsOf}
-use Rattle.name_parts.specs.Contracts.{Put}
-use Rattle.name_parts.proofs.Laws.{put-then, clash}
+use Rattle.strings.specs.Reading.{stringsOf, Read, cut, got}
+use Rattle.writing.specs.Contracts.{Put}
+use Rattle.writing.proofs.Laws.{put-then}
+use Rattle.base.proofs.Arms.{clash}
 use Rattle.prefixes.specs.declared.prefixes.NameType.{NameType}
-use Rattle.pack.specs.Reading.{Read, cut, got}
 use Rattle.pack.specs.Packs.{Guess, Rule, Pack, namesGood}
 use Rattle.pack_bytes.specs.Bytes.{countBytes, namesBytes, guessBytes, listBytes, packBytes}
 use Rattle.bundles.specs.Bundles.{File, Found, missing, found, readBundle, wellFormed, fileNamed}
@@ -26,8 +26,8 @@ use Rattle.bundles.proofs.Laws.{found-is, found-order, found-within, missing-is
 use Rattle.rule_lists.specs.Outcomes.{Loading, fine, notLoaded, andLoad}
 use Rattle.rule_lists.specs.Lists.{typePrefix, twoOf, threeOf, listFiles, listsOf}
 use Rattle.rule_lists.proofs.ListLaws.{lists-length}
-use Rattle.rule_lists.specs.declared.writing.Written.{Written}
-use Rattle.rule_lists.specs.declared.writing.Written.the-variants as wrote
+use Rattle.rule_lists.specs.declared.list_writing.Written.{Written}
+use Rattle.rule_lists.specs.declared.list_writing.Written.the-variants as wrote
 use Rattle.loader.specs.Languages.{languagesOf}
 use Rattle.loader.specs.Guesses.{guessesOf}
 use Rattle.loader.specs.Loading.{onType, languagesPart, langPart, onListed, namesOf, guessFile, listsIn, packFrom, onBundle, loadOf, written, doneAt, refusedAt, loadedNumbers, answer, filled, AnswerIs}

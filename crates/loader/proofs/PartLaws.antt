@@ -6,10 +6,11 @@ use lib.ListN.{length, take, drop}
 use borrow.Author.Tests.{le-leb, lt-leb}
 use Rattle.refusals.specs.declared.Refusal.{Refusal}
 use Rattle.refusals.specs.declared.Refusal.the-variants.{FileMissing, TooMuch}
-use Rattle.name_parts.specs.Contracts.{Put}
+use Rattle.writing.specs.Contracts.{Put}
 use Rattle.prefixes.specs.declared.prefixes.NameType.{NameType}
 use Rattle.prefixes.specs.declared.prefixes.NameType.the-variants.{Ashkenazi, Generic, Sephardic}
-use Rattle.name_parts.proofs.Laws.{clash, put-then}
+use Rattle.base.proofs.Arms.{clash}
+use Rattle.writing.proofs.Laws.{put-then}
 use Rattle.pack.specs.Packs.{Guess}
 use Rattle.pack_bytes.specs.Bytes.{countBytes}
 use Rattle.bundles.specs.PlaceContracts.{fileNumbers, fileAt}

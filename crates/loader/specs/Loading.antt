@@ -11,7 +11,7 @@ use Rattle.refusals.specs.declared.Refusal.the-variants.{SettingUnknown, NoRoom
 use Rattle.prefixes.specs.declared.prefixes.NameType.{NameType}
 use Rattle.prefixes.specs.declared.prefixes.NameType.the-variants.{Ashkenazi, Generic, Sephardic}
 use Rattle.refusals.specs.Numbers.{numberOf}
-use Rattle.pack.specs.Reading.{Read, cut, got}
+use Rattle.strings.specs.Reading.{Read, cut, got}
 use Rattle.pack.specs.Packs.{Guess, Rule, Pack}
 use Rattle.pack_bytes.specs.Bytes.{namesBytes, packBytes}
 use Rattle.bundles.specs.Bundles.{File, Found, missing, found, readBundle, wellFormed, fileNamed}

@@ -1,7 +1,7 @@
 // The guessing file: its rules, checked and written.
 ghost use mathlib.Core.Path.{_≡_};
 ghost use Prim.Native.Nat.{_≤_};
-ghost use Rattle.name_parts.specs.Contracts.{Put, cap};
+ghost use Rattle.writing.specs.Contracts.{Put, cap};
 ghost use Rattle.loader.specs.Contracts.{guessPut, judgedAs, GuessesAre};
 use languages::Listed;
 use refusals::Refusal;
@@ -56,7 +56,7 @@ fn judge(names: &[u8], pattern: &[u8], joined: &[u8]) -> Judged
 fn put_guess(accept: bool, mask: u32, pattern: &[u8], out: &mut [u8], at: usize) -> usize
     ensures { λ r. ⌜ Put (now (out .entry)) (now (out .exit)) at r (guessPut accept mask (now (pattern .entry))) ⌝ }
 {
-    let p = name_parts::push(out, at, accept as u8);
+    let p = writing::push(out, at, accept as u8);
     let q = pack_bytes::put_mask(mask, out, p);
     pack_bytes::put_text(pattern, out, q)
 }

@@ -3,7 +3,7 @@ ghost use mathlib.Core.Path.{_≡_};
 ghost use mathlib.Core.List.{List, _++_};
 ghost use Prim.Native.Nat.{ℕ, _≤_, min};
 ghost use lib.ListN.{length};
-ghost use Rattle.name_parts.specs.Contracts.{Put, cap};
+ghost use Rattle.writing.specs.Contracts.{Put, cap};
 ghost use Rattle.bundles.specs.PlaceContracts.{fileAt};
 ghost use Rattle.rule_lists.specs.Lists.{typePrefix};
 ghost use Rattle.loader.specs.Loading.{languagesPart, langPart, namesOf, guessFile, packFrom, written, AnswerIs, LoadIs};
@@ -129,8 +129,8 @@ fn write_front(names: &[u8], languages: usize, guesses: usize, out: &mut [u8]) -
     requires { ⌜ (languages ≤ 32) × (guesses ≤ 4096) ⌝ }
     ensures { λ r. ⌜ Put (now (out .entry)) (now (out .exit)) 0 r (frontBytes languages (now (names .entry)) guesses) ⌝ }
 {
-    let p = name_parts::push(out, 0, languages as u8);
-    let q = name_parts::copy(names, out, p);
+    let p = writing::push(out, 0, languages as u8);
+    let q = writing::copy(names, out, p);
     pack_bytes::put_count(guesses as u16, out, q)
 }
 
@@ -149,7 +149,7 @@ fn write_pack(
     let p = write_front(names, languages, guesses, out);
     match load_guesses(kind, bundle, names, out, p) {
         Guessed::Done { count: _, at } => {
-            let q = name_parts::push(out, at, (3 * languages + 2) as u8);
+            let q = writing::push(out, at, (3 * languages + 2) as u8);
             rule_lists::write_lists(kind, bundle, names, out, q)
         }
         Guessed::Refused { why, line, file } => Written::Refused { why, line, file },

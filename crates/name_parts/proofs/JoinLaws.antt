@@ -7,22 +7,21 @@ use native.Mathlib.Decide.{decLe}
 use native.Mathlib.Numerals.{add-one}
 use native.Mathlib.Omega.{arith}
 use lib.Dec.{eqb, leb·suc-suc}
-use lib.ListN.{length, getD, take, drop, set, length-set, drop-of-length-le, length-drop}
+use lib.ListN.{length, getD, take, drop, set, length-set, drop-of-length-le}
 use lib.Seq.{take-all, drop-cons, drop-length}
 use borrow.Author.Tests.{lt-ltb, le-ltb, eq-eqb, ne-eqb}
 use Rattle.base.specs.Pick.{pick}
 use Rattle.texts.specs.Parts.{has, placeOf}
-use Rattle.name_parts.specs.Contracts.{Put, cap}
+use Rattle.writing.specs.Contracts.{Put, cap}
 use Rattle.name_parts.specs.Words.{wordsOf, wordAt, pastWord}
 use Rattle.prefixes.specs.Prefixes.{isPrefix}
 use Rattle.name_parts.specs.Joining.{spaced, joinedName, afterApostrophe, keptOf, dropsOut, remaining, joinedBySpace, joinedWords}
 use Rattle.prefixes.specs.declared.prefixes.NameType.{NameType}
-use Rattle.name_parts.proofs.Laws.{slice-room, put-none, put-then, put-long, put-place, words-none, words-next, word-later, past-within, clash}
+use Rattle.name_parts.proofs.Laws.{words-none, words-next, word-later, past-within}
+use Rattle.writing.proofs.Laws.{slice-room, put-none, put-then, put-long, put-place}
+use Rattle.base.proofs.Arms.{clash}
 use Rattle.base.proofs.PickLaws.{pick-yes, pick-no, pick-true, pick-false, pick-all}
-
--- the part from r on, as the code takes it
-rest-is : (s : List ℕ) (r : ℕ) → take (length s - r) (drop r s) ≡ drop r s
-rest-is s r = take-all (length s - r) (drop r s) (omega (arith, length-drop r s))
+use Rattle.base.proofs.Stores.{rest-is}
 
 -- ---- hyphens: the bytes before i are parted
 unfoldable pub partedTo : ℕ → List ℕ → List ℕ

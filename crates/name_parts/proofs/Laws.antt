@@ -1,20 +1,19 @@
--- What the crates above use of names and of writing, without the definitions. Assumes nothing.
+-- What the crates above use of names, without the definitions. Assumes nothing.
 use mathlib.Core.Path.{_≡_, refl, sym, ap, ap₂, _∙_}
 use mathlib.Core.Bool.{Bool, true, false, not}
-use mathlib.Core.List.{List, [], _∷_, _++_}
-use Prim.Native.Nat.{ℕ, zero, suc, _+_, _-_, _*_, _≤_, _<_, min, zero-le, suc-le-suc}
+use mathlib.Core.List.{List, [], _∷_}
+use Prim.Native.Nat.{ℕ, zero, suc, _+_, _-_, _≤_, _<_, zero-le, suc-le-suc}
 use native.Mathlib.Nat.{add-sub-cancel-left, le-trans}
 use native.Mathlib.Decide.{decLe}
 use native.Mathlib.Omega.{arith}
 use lib.Dec.{eqb}
-use lib.ListN.{length, take, drop, set, length-set, length-append, length-drop, length-take, length-map}
-use lib.Seq.{sets, set-out, take-at, take-length, drop-length, drop-drop, sets-eq, length-sets, length-take-le}
+use lib.ListN.{length, take, drop, length-append, length-drop, length-take, length-map}
+use lib.Seq.{take-length, drop-length, drop-drop, length-take-le}
 use borrow.Author.Tests.{eqb-true, not-true, not-false}
 use Rattle.base.specs.Pick.{pick}
-use Rattle.base.proofs.Stores.{sets-then}
-use Rattle.texts.specs.Parts.{has, prefixOf}
-use Rattle.texts.proofs.Laws.{prefix-short, first-some-by}
-use Rattle.name_parts.specs.Contracts.{Put, cap}
+use Rattle.base.proofs.Arms.{clash}
+use Rattle.texts.specs.Parts.{has}
+use Rattle.texts.proofs.Laws.{first-some-by, prefix-within}
 use Rattle.name_parts.specs.Words.{goesOn, led, wordsOf, spaces, letters, wordStart, wordEnd, pastWord, stretch, wordAt, oneWord}
 use Rattle.prefixes.specs.Prefixes.{generic, prefixesOf, prefixFits, firstFit, splitOf}
 use Rattle.name_parts.specs.Joining.{spaced, joinedName, afterApostrophe, keptOf, dropsOut, remaining, joinedBySpace, joinedWords}
@@ -23,48 +22,6 @@ use Rattle.prefixes.specs.declared.prefixes.NameType.the-variants.{Ashkenazi, G
 use Rattle.prefixes.specs.declared.prefixes.Prefix.{Prefix}
 use Rattle.prefixes.specs.declared.prefixes.Prefix.the-variants.{Parted}
 use Rattle.base.proofs.PickLaws.{pick-true, pick-false, pick-all, and-inv}
-
-pub clash : {A : Type 0} → _≡_ {A = ℕ} 0 1 → A
-clash e = absurd (omega arith)
-
--- ---- writing what fits
-
-sets-out : (vs l : List ℕ) (i : ℕ) → length l ≤ i → sets l i vs ≡ l
-sets-out [] l i h = refl
-sets-out (v ∷ vs) l i h = sets-out vs (set l i v) (suc i) (omega (arith, length-set l i v)) ∙ set-out l i v h
-
-sets-cap : (l : List ℕ) (i : ℕ) (vs : List ℕ) → length l ≤ cap → sets l (min i cap) vs ≡ sets l i vs
-sets-cap l i vs h = elim (decLe i cap) [
-  | yes k ↦ let e : min i cap ≡ i = omega arith in rw e refl
-  | no k ↦ sets-out vs l (min i cap) (omega arith) ∙ sym (sets-out vs l i (omega arith))
-]
-
--- what is known of a slice of bytes, as the logic states it
-pub slice-room : (o : List ℕ) → length o * 1 < cap → length o < cap
-slice-room o h = omega arith
-
-pub put-none : (o : List ℕ) (at : ℕ) → length o < cap → at ≤ cap → Put o o at at []
-put-none o at r h = record { wrote = refl; ends = omega arith; room = r }
-
--- one text, and then another
-pub put-then : {o o₁ o₂ : List ℕ} {at p q : ℕ} {t u : List ℕ} → Put o o₁ at p t → Put o₁ o₂ p q u → Put o o₂ at q (t ++ u)
-put-then {o} {o₁} {o₂} {at} {p} {q} {t} {u} x y = record {
-  wrote = y .wrote ∙ rw (x .wrote, x .ends) (sets-cap (sets o at t) (at + length t) u (omega (arith, x .room, length-sets o at t)) ∙ sets-then o at t u);
-  ends = omega (arith, x .ends, y .ends, length-append t u);
-  room = x .room;
-}
-
-pub put-long : (o o₁ : List ℕ) (at p : ℕ) (t : List ℕ) → Put o o₁ at p t → length o₁ ≡ length o
-put-long o o₁ at p t x = ap length (x .wrote) ∙ length-sets o at t
-
-pub put-place : (o o₁ : List ℕ) (at p : ℕ) (t : List ℕ) → Put o o₁ at p t → p ≤ cap
-put-place o o₁ at p t x = omega (arith, x .ends)
-
--- a text that fits stands at the front, whole
-pub put-fits : {o o′ : List ℕ} {r : ℕ} {t : List ℕ} → Put o o′ 0 r t → length t ≤ length o → (r ≡ length t) × (take r o′ ≡ t)
-put-fits {o} {o′} {r} {t} x h =
-    let e : r ≡ length t = omega (arith, x .ends, x .room) in
-    (e, rw (x .wrote, sets-eq t o 0 (omega arith)) (take-at t _ r (sym e)))
 
 -- ---- the first word of a text, and what follows it
 
@@ -270,12 +227,6 @@ word-shorter s zero o h = elim (decLe (length s) (length (wordAt s 0))) [
 
 -- ---- where a name is parted
 
-prefix-within : (t s : List ℕ) → prefixOf t s ≡ true → length t ≤ length s
-prefix-within t s e = elim (decLe (length t) (length s)) [
-  | yes k ↦ k
-  | no k ↦ let n = prefix-short t s (omega arith) in clash (cc)
-]
-
 fits-within : (p s : List ℕ) → prefixFits p s ≡ true → length p < length s
 unfolding prefixFits
 fits-within p s e = let l = first-some-by 32 (drop (length p) s) true (sym (and-inv _ _ e .1)) refl in omega (arith, length-drop (length p) s)
@@ -380,4 +331,4 @@ pub spaced-long : (s : List ℕ) → length (spaced s) ≡ length s
 unfolding spaced
 spaced-long s = length-map s _
 
-pub ruleset names-laws = (slice-room, put-none, put-then, put-long, put-place, words-none, words-next, word-later, past-within, word-within, word-part, word-shorter, one-is, one-again, word-again, rest-shorter, joined-shorter, joined-short, spaced-long)
+pub ruleset names-laws = (words-none, words-next, word-later, past-within, word-within, word-part, word-shorter, one-is, one-again, word-again, rest-shorter, joined-shorter, joined-short, spaced-long)

@@ -1,4 +1,3 @@
 pub mod Laws
 pub mod WordLaws
-pub mod WritingLaws
 pub mod JoinLaws

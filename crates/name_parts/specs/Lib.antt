@@ -1,3 +1,2 @@
-pub mod Contracts
 pub mod Words
 pub mod Joining

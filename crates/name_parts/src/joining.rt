@@ -5,15 +5,15 @@ ghost use Prim.Native.Nat.{_≤_, min};
 ghost use lib.Dec.{eqb};
 ghost use lib.ListN.{length, drop};
 ghost use Rattle.base.specs.Pick.{pick};
-ghost use Rattle.name_parts.specs.Contracts.{Put, cap};
+ghost use Rattle.writing.specs.Contracts.{Put, cap};
 ghost use Rattle.name_parts.specs.Words.{wordsOf};
 ghost use Rattle.name_parts.specs.Joining.{spaced, joinedName, afterApostrophe, keptOf, dropsOut, remaining, joinedBySpace, joinedWords};
 use crate::words::next_word;
 use crate::words::past_word;
-use crate::writing::copy;
-use crate::writing::push;
 use prefixes::NameType;
 use prefixes::is_prefix;
+use writing::copy;
+use writing::push;
 
 // A hyphen as a space.
 fn parted(b: u8) -> u8

@@ -1,7 +1,6 @@
 // A name cut up and put together (engine.rs): its words, and the texts that are spelled in its place.
 pub mod joining;
 pub mod words;
-pub mod writing;
 
 pub use joining::join_prefix;
 pub use joining::join_words;
@@ -9,5 +8,3 @@ pub use joining::part_hyphens;
 pub use words::next_word;
 pub use words::one_word;
 pub use words::past_word;
-pub use writing::copy;
-pub use writing::push;

@@ -3,8 +3,8 @@ use Prim.{Unit}
 use mathlib.Core.Path.{_≡_, refl, sym, ap, ap₂, _∙_}
 use mathlib.Core.Bool.{Bool, true, false, not}
 use mathlib.Core.List.{List, [], _∷_}
-use Prim.Native.Nat.{ℕ, zero, suc, _+_, _-_, _*_, _%_, _^_, _≤_, _<_, min}
-use native.Mathlib.Nat.{one-mul, not-suc-le-zero}
+use Prim.Native.Nat.{ℕ, _+_, _-_, _*_, _%_, _^_, _≤_, _<_, min}
+use native.Mathlib.Nat.{one-mul}
 use native.Mathlib.Omega.{arith}
 use lib.Dec.{eqb, ltb, lit<}
 use lib.Pow.{shl-exact, pow-pos}
@@ -12,28 +12,29 @@ use lib.ListN.{length, getD, take, drop, length-take, length-drop}
 use lib.Seq.{drop-drop}
 use borrow.Author.Tests.{le-leb, lt-leb, lt-ltb, le-ltb, eq-eqb, ne-eqb}
 use Rattle.base.specs.Pick.{pick, and}
-use Rattle.languages.specs.declared.names.Next.{Next}
-use Rattle.languages.specs.declared.names.Next.the-variants as next
+use Rattle.strings.specs.declared.Next.{Next}
+use Rattle.strings.specs.declared.Next.the-variants as next
 use Rattle.languages.specs.declared.sets.LanguageSet.{LanguageSet}
 use Rattle.rule.specs.Matching.{ruleText}
 use Rattle.lang.specs.Patterns.{inForms, matchesOf}
 use Rattle.lang.specs.Contracts.{signatureOf, mayMatch}
 use Rattle.lang.proofs.Shortcuts.{may-not}
-use Rattle.pack.specs.Reading.{Read, cut, got, andRead, readByte, readNumber, readText, readMany}
-use Rattle.pack.specs.Packs.{Guess, guess, readGuess, readGuesses, all, guessGood, guessesGood, placeIn}
+use Rattle.strings.specs.Reading.{Read, cut, got, andRead, readByte, readNumber, readText, readMany, placeIn}
+use Rattle.pack.specs.Packs.{Guess, guess, readGuess, readGuesses, all, guessGood, guessesGood}
 use Rattle.pack.specs.Guessing.{narrowedBy, narrowedByAll, leftOver, allListed, guessed}
-use Rattle.pack.specs.Contracts.{ByteIs, numberAt, judge, endIn, allFrom, guessesFrom, placedGuess, guessStandsAt, guessesAt, guessedAt}
-use Rattle.pack.specs.declared.reading.Number.{Number}
-use Rattle.pack.specs.declared.reading.Number.the-variants as number
-use Rattle.pack.specs.declared.reading.Section.{Section}
-use Rattle.pack.specs.declared.reading.Section.the-variants.{End, Bad}
+use Rattle.pack.specs.Contracts.{judge, endIn, allFrom, guessesFrom, placedGuess, guessStandsAt, guessesAt, guessedAt}
+use Rattle.strings.specs.Contracts.{ByteIs, numberAt, stringAt, behind, readSome}
+use Rattle.strings.specs.declared.Number.{Number}
+use Rattle.strings.specs.declared.Number.the-variants as number
+use Rattle.pack.specs.declared.sections.Section.{Section}
+use Rattle.pack.specs.declared.sections.Section.the-variants.{End, Bad}
 use Rattle.pack.specs.declared.guessing.GuessAt.{GuessAt}
 use Rattle.pack.specs.declared.guessing.GuessAt.the-variants as guesses
-use Rattle.pack.proofs.Readers.{clash, EndOf, end-here, place-drop, then-inv, many-length, byte-ends, number-ends, guess-ends, byte-some, byte-none, count-of, count-cut, mask-of, mask-cut, text-is, text-cut, TextThen, reads-on, text-then}
-use Rattle.pack.proofs.Walks.{Faulty, runs-out, fails, section-ends, section-faulty, judge-fine, judge-faulty, judge-same, walk-on, walk-off, walk-end}
+use Rattle.pack.proofs.Readers.{guess-ends}
+use Rattle.strings.proofs.Readers.{EndOf, end-here, place-drop, then-inv, many-length, byte-ends, number-ends, byte-some, byte-none, count-of, count-cut, mask-of, mask-cut, text-is, text-cut, TextThen, reads-on, text-then, some-one, some-cut}
+use Rattle.base.proofs.Arms.{clash}
+use Rattle.pack.proofs.Judging.{Faulty, runs-out, fails, section-ends, section-faulty, judge-fine, judge-faulty, judge-same, walk-on, walk-off, walk-end}
 use Rattle.base.proofs.PickLaws.{and-first, and-second}
-use Rattle.languages.specs.Contracts.{stringAt}
-use Rattle.pack.specs.PlaceContracts.{behind, readSome}
 
 -- ---- a guessing rule at a place
 
@@ -299,16 +300,6 @@ pub record Narrowing (s name : List ℕ) (start count whole at left mask : ℕ) 
 
 pub narrowing-start : (s name : List ℕ) (start count whole : ℕ) → Narrowing s name start count whole start count whole
 narrowing-start s name start count whole = record { is = refl }
-
-pub some-one : {A : Type 0} (f : List ℕ → Read A) (n : ℕ) (l : List ℕ) (a : A) (r : List ℕ) → 0 < n → f l ≡ got a r → readSome f n l ≡ a ∷ readSome f (n - 1) r
-unfolding readSome behind
-some-one f zero l a r h e = absurd (not-suc-le-zero h)
-some-one f (suc n) l a r h e = let m : suc n - 1 ≡ n = omega arith in rw (e, m) refl
-
-some-cut : {A : Type 0} (f : List ℕ → Read A) (n : ℕ) (l : List ℕ) → f l ≡ cut → readSome f n l ≡ []
-unfolding readSome behind
-some-cut f zero l e = refl
-some-cut f (suc n) l e = rw e refl
 
 -- a pattern that the name's signature rules out
 pub ruled-out : (p name : List ℕ) (bits : ℕ) (t : Bool) → bits ≡ signatureOf name → t ≡ mayMatch p bits → t ≡ false → false ≡ matchesOf p name

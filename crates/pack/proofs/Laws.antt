@@ -14,10 +14,11 @@ use lib.Seq.{take-append-seam, length-take-le}
 use borrow.Author.Tests.{leb-true, ltb-true, ltb-false, eqb-true, eq-eqb}
 use Rattle.base.specs.Pick.{pick}
 use Rattle.base.proofs.One.{one}
-use Rattle.languages.specs.Names.{strings, stringsOf}
+use Rattle.strings.specs.Reading.{strings, stringsOf, Read, cut, got, andRead, readByte, readNumber, readText, readMany, placeIn, isNil}
 use Rattle.languages.specs.declared.sets.LanguageSet.{LanguageSet}
 use Rattle.languages.specs.declared.sets.LanguageSet.the-variants.{Any}
-use Rattle.languages.proofs.Laws.{strings-none, strings-all, strings-one, without-below, any-below, mask-below}
+use Rattle.languages.proofs.Laws.{without-below, any-below, mask-below}
+use Rattle.strings.proofs.Laws.{strings-none, strings-all, strings-one}
 use Rattle.regex_optim.specs.Contexts.{leftForm, rightForm, kindOf}
 use Rattle.letters.specs.Reading.{firstIll}
 use Rattle.letters.specs.declared.utf8.Found.the-variants.{Nothing}
@@ -27,18 +28,20 @@ use Rattle.phonemes.specs.Expressions.{checkedOf}
 use Rattle.phonemes.specs.declared.answers.Expression.{Expression}
 use Rattle.phonemes.specs.declared.answers.Expression.the-variants.{Good, Malformed, Stranger}
 use Rattle.lang.specs.Patterns.{matchesOf}
-use Rattle.pack.specs.Reading.{Read, cut, got, andRead, readByte, readNumber, readText, readMany}
-use Rattle.pack.specs.Packs.{Guess, Rule, Pack, Verdict, accepted, refused, readNames, readGuess, readGuesses, readRule, readList, all, isForm, isGood, ruleGood, listGood, namesGood, guessesGood, section, placeIn, namesIn, listCount, listSections, isNil, endSection, packOf, stringsLength}
-use Rattle.pack.specs.PlaceContracts.{surveyedOf, foundIn, placesOf, SurveyIs, placedRule, placedFrom, ruleStandsAt, countIn, ruleCount, listAt, behind, readSome}
+use Rattle.pack.specs.Packs.{Guess, Rule, Pack, Verdict, accepted, refused, readNames, readGuess, readGuesses, readRule, readList, all, isForm, isGood, ruleGood, listGood, namesGood, guessesGood, section, namesIn, listCount, listSections, endSection, packOf, stringsLength}
+use Rattle.pack.specs.PlaceContracts.{surveyedOf, foundIn, placesOf, SurveyIs, placedRule, placedFrom, ruleStandsAt, countIn, ruleCount, listAt}
+use Rattle.strings.specs.Contracts.{behind, readSome, numberIn, numberAt}
 use Rattle.pack.specs.Guessing.{narrowedBy, narrowedByAll, leftOver, allListed, guessed}
-use Rattle.pack.specs.Contracts.{numberIn, numberAt, restPlaces, guessesAt, guessedAt}
+use Rattle.pack.specs.Contracts.{restPlaces, guessesAt, guessedAt}
 use Rattle.pack.specs.declared.rules.RuleAt.{RuleAt}
 use Rattle.pack.specs.declared.rules.RuleAt.the-variants as rules
 use Rattle.pack.specs.declared.sections.Surveyed.{Surveyed}
 use Rattle.pack.specs.declared.sections.Surveyed.the-variants as surveyed
 use Rattle.pack.proofs.NumberLaws.{surveyed-one}
-use Rattle.pack.proofs.Readers.{clash, EndOf, Ends, end-here, end-then, end-is, end-within, place-drop, then-inv, many-length, byte-ends, names-ends, guesses-ends, list-ends, byte-some, byte-none, count-of}
-use Rattle.pack.proofs.Walks.{Judged, fine, faulty, judged, judge-fine, Ending}
+use Rattle.pack.proofs.Readers.{names-ends, guesses-ends, list-ends}
+use Rattle.strings.proofs.Readers.{EndOf, Ends, end-here, end-then, end-is, end-within, place-drop, then-inv, many-length, byte-ends, byte-some, byte-none, count-of}
+use Rattle.base.proofs.Arms.{clash}
+use Rattle.pack.proofs.Judging.{Judged, fine, faulty, judged, judge-fine, Ending}
 use Rattle.pack.proofs.RuleLaws.{RuleIs, rule-read, rule-is}
 use Rattle.pack.proofs.SectionLaws.{section-is, found-one, names-end, names-few, rest-reads, rest-places}
 use Rattle.base.proofs.PickLaws.{pick-all, and-inv}

@@ -1,5 +1,5 @@
 pub mod Readers
-pub mod Walks
+pub mod Judging
 pub mod RuleLaws
 pub mod GuessLaws
 pub mod SectionLaws

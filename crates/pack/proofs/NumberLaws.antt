@@ -1,7 +1,7 @@
 -- No two verdicts have the same numbers: `-one` reads a promise, `-told` makes one. Assumes nothing.
 use mathlib.Core.Path.{_≡_, refl, ap}
 use Rattle.refusals.specs.Numbers.{numberOf}
-use Rattle.languages.proofs.NumberLaws.{clash}
+use Rattle.base.proofs.Arms.{clash}
 use Rattle.pack.specs.Numbers.{checkedNumbers, surveyedNumbers}
 use Rattle.pack.specs.declared.sections.Checked.{Checked}
 use Rattle.pack.specs.declared.sections.Checked.the-variants as checked

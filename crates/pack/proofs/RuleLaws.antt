@@ -8,7 +8,8 @@ use lib.Dec.{eqb, leb}
 use lib.ListN.{length, take, drop, length-take, length-drop}
 use borrow.Author.Tests.{le-leb, lt-leb}
 use Rattle.base.specs.Pick.{pick, and}
-use Rattle.regex_optim.specs.Contexts.{Form, opening, withoutCaret, withoutDollar, kindOf}
+use Rattle.regex_optim.specs.Contexts.{Form, kindOf}
+use Rattle.texts.specs.Parts.{opening, withoutCaret, withoutDollar, firstIs, lastIs, has}
 use Rattle.regex_optim.specs.Contracts.{literalKind}
 use Rattle.regex_optim.specs.declared.OptimizedRegex.{OptimizedRegex}
 use Rattle.regex_optim.specs.declared.OptimizedRegex.the-variants.{AllStringsMatcher, IsEmpty, Equals, StartsWith, EndsWith}
@@ -17,27 +18,28 @@ use Rattle.rule.specs.Matching.{ruleText, firstCode}
 use Rattle.phonemes.specs.Expressions.{round, unround, checkedOf}
 use Rattle.rule.proofs.Bare.{Clear, bare-text, bare-clear, clear-has, clear-tail, clear-front}
 use Rattle.phonemes.proofs.Bare.{clear-good, clear-malformed}
-use Rattle.texts.specs.Parts.{firstIs, lastIs, has}
 use Rattle.phonemes.specs.declared.answers.Expression.{Expression}
 use Rattle.phonemes.specs.declared.answers.Expression.the-variants.{Good, Malformed, Stranger}
-use Rattle.languages.specs.declared.names.Next.{Next}
-use Rattle.languages.specs.declared.names.Next.the-variants as next
-use Rattle.pack.specs.Reading.{Read, cut, got, andRead, readText, readMany}
-use Rattle.pack.specs.Packs.{Rule, rule, readRule, readList, all, isForm, isGood, ruleGood, orderedByCode, listGood, placeIn}
+use Rattle.strings.specs.declared.Next.{Next}
+use Rattle.strings.specs.declared.Next.the-variants as next
+use Rattle.strings.specs.Reading.{Read, cut, got, andRead, readText, readMany, placeIn}
+use Rattle.pack.specs.Packs.{Rule, rule, readRule, readList, all, isForm, isGood, ruleGood, orderedByCode, listGood}
 use Rattle.pack.specs.PlaceContracts.{placedFrom, placedRule, ruleStandsAt, countIn, ruleCount}
-use Rattle.pack.specs.Contracts.{numberAt, judge, endIn, allFrom, patternGood, leftGood, rightGood, expressionGood, ruleFits, rulesFrom, ruledAs, ruledIn}
-use Rattle.pack.specs.declared.reading.Number.{Number}
-use Rattle.pack.specs.declared.reading.Number.the-variants as number
-use Rattle.pack.specs.declared.reading.Section.{Section}
-use Rattle.pack.specs.declared.reading.Section.the-variants.{End, Bad}
+use Rattle.pack.specs.Contracts.{judge, endIn, allFrom, patternGood, leftGood, rightGood, expressionGood, ruleFits, rulesFrom, ruledAs, ruledIn}
+use Rattle.strings.specs.Contracts.{numberAt, stringAt}
+use Rattle.strings.specs.declared.Number.{Number}
+use Rattle.strings.specs.declared.Number.the-variants as number
+use Rattle.pack.specs.declared.sections.Section.{Section}
+use Rattle.pack.specs.declared.sections.Section.the-variants.{End, Bad}
 use Rattle.pack.specs.declared.rules.RuleAt.{RuleAt}
 use Rattle.pack.specs.declared.rules.RuleAt.the-variants as rules
 use Rattle.pack.specs.declared.rules.Ruled.{Ruled}
 use Rattle.pack.specs.declared.rules.Ruled.the-variants as ruled
-use Rattle.pack.proofs.Readers.{clash, end-here, end-then, end-is, end-within, place-drop, many-length, rule-ends, count-of, count-cut, TextIs, text-is, text-cut, TextRead, TextThen, reads-on, text-then}
-use Rattle.pack.proofs.Walks.{Faulty, runs-out, fails, Judged, fine, faulty, judged, judge-faulty, judge-same, walk-on, walk-off, walk-end}
+use Rattle.pack.proofs.Readers.{rule-ends}
+use Rattle.strings.proofs.Readers.{end-here, end-then, end-is, end-within, place-drop, many-length, count-of, count-cut, TextIs, text-is, text-cut, TextRead, TextThen, reads-on, text-then}
+use Rattle.base.proofs.Arms.{clash}
+use Rattle.pack.proofs.Judging.{Faulty, runs-out, fails, Judged, fine, faulty, judged, judge-faulty, judge-same, walk-on, walk-off, walk-end}
 use Rattle.base.proofs.PickLaws.{pick-true, pick-false, pick-all, and-yes, and-first, and-second}
-use Rattle.languages.specs.Contracts.{stringAt}
 use Rattle.rule.specs.Contracts.{bare}
 
 -- ---- the strings of a rule, one after the other

@@ -11,20 +11,21 @@ use lib.ListN.{length, getD, take, drop, set, length-drop, length-set}
 use lib.Seq.{sets, set-out}
 use borrow.Author.Tests.{le-leb, lt-leb, leb-true, eq-eqb, ne-eqb}
 use Rattle.base.specs.Pick.{pick, and}
-use Rattle.letters.specs.Order.{orderOf, sameText}
+use Rattle.letters.specs.Order.{orderOf, sameText, isLess, increasing}
 use Rattle.letters.specs.declared.order.Order.{Order}
 use Rattle.letters.specs.declared.order.Order.the-variants.{Less, Equal, Greater}
 use Rattle.letters.proofs.OrderLaws.{Left, left-start, order-short}
 use Rattle.languages.specs.Names.{languageName}
 use Rattle.languages.proofs.Laws.{name-some}
-use Rattle.languages.specs.declared.names.Next.{Next}
-use Rattle.languages.specs.declared.names.Next.the-variants as next
-use Rattle.pack.specs.Reading.{Read, cut, got, andRead, readByte, readText, readMany}
-use Rattle.pack.specs.Packs.{Rule, Pack, Verdict, accepted, refused, readNames, readGuesses, readList, all, isLess, increasing, holds, any, namesGood, guessesGood, listGood, section, placeIn, namesIn, listCount, listSections, isNil, endSection, packOf, verdictOf, stringsLength}
+use Rattle.strings.specs.declared.Next.{Next}
+use Rattle.strings.specs.declared.Next.the-variants as next
+use Rattle.strings.specs.Reading.{Read, cut, got, andRead, readByte, readText, readMany, placeIn, isNil}
+use Rattle.pack.specs.Packs.{Rule, Pack, Verdict, accepted, refused, readNames, readGuesses, readList, all, holds, any, namesGood, guessesGood, listGood, section, namesIn, listCount, listSections, endSection, packOf, verdictOf, stringsLength}
 use Rattle.pack.specs.PlaceContracts.{surveyedOf, behindRule, foundIn, placesOf, SurveyIs}
-use Rattle.pack.specs.Contracts.{ByteIs, judge, endIn, allFrom, past, follows, metBy, namesFrom, listsEnd, ListsAre, ended, restOf, restPlaces, RestIs}
-use Rattle.pack.specs.declared.reading.Section.{Section}
-use Rattle.pack.specs.declared.reading.Section.the-variants.{End, Bad}
+use Rattle.pack.specs.Contracts.{judge, endIn, allFrom, past, follows, metBy, namesFrom, listsEnd, ListsAre, ended, restOf, restPlaces, RestIs}
+use Rattle.strings.specs.Contracts.{ByteIs, stringAt}
+use Rattle.pack.specs.declared.sections.Section.{Section}
+use Rattle.pack.specs.declared.sections.Section.the-variants.{End, Bad}
 use Rattle.pack.specs.declared.sections.Lists.{Lists}
 use Rattle.pack.specs.declared.sections.Lists.the-variants as lists
 use Rattle.pack.specs.declared.sections.Checked.{Checked}
@@ -32,10 +33,11 @@ use Rattle.pack.specs.declared.sections.Checked.the-variants as checked
 use Rattle.pack.specs.declared.sections.Surveyed.{Surveyed}
 use Rattle.pack.specs.declared.sections.Surveyed.the-variants as surveyed
 use Rattle.pack.proofs.NumberLaws.{surveyed-one, surveyed-told}
-use Rattle.pack.proofs.Readers.{clash, EndOf, end-here, end-then, end-length, place-drop, then-inv, many-length, byte-ends, names-ends, guesses-ends, list-ends, byte-some, byte-none, text-is, text-cut, text-read, text-rest}
-use Rattle.pack.proofs.Walks.{Faulty, runs-out, fails, Ending, section-ends, section-faulty, judge-fine, judge-faulty, judge-same, walk-on, walk-off, walk-end}
-use Rattle.base.proofs.PickLaws.{pick-true, pick-false, and-first, and-inv}
-use Rattle.languages.specs.Contracts.{stringAt}
+use Rattle.pack.proofs.Readers.{names-ends, guesses-ends, list-ends}
+use Rattle.strings.proofs.Readers.{EndOf, end-here, end-then, end-length, place-drop, then-inv, many-length, byte-ends, byte-some, byte-none, text-is, text-cut, text-read, text-rest}
+use Rattle.base.proofs.Arms.{clash}
+use Rattle.pack.proofs.Judging.{Faulty, runs-out, fails, Ending, section-ends, section-faulty, judge-fine, judge-faulty, judge-same, walk-on, walk-off, walk-end}
+use Rattle.base.proofs.PickLaws.{pick-true, pick-false, and-first, and-inv, and-assoc, pick-map}
 
 -- ---- the names, one after the other
 
@@ -74,11 +76,6 @@ swap true false a i h = refl
 swap false true true i h = refl
 swap false true false i h = refl
 swap false false a i h = refl
-
-and-assoc : (a b c : Bool) → and (and a b) c ≡ and a (and b c)
-unfolding and
-and-assoc true b c = refl
-and-assoc false b c = refl
 
 -- the loop's test of what is left, from the name before it and whether `any` was met
 names-nil : (p : List ℕ) (m : Bool) → namesFrom (past p m) [] ≡ and (all languageName []) (and (shift p []) (and (increasing []) (pick m true (holds any []))))
@@ -324,11 +321,6 @@ pub section-is : {A : Type 0} (place : ℕ) (good : A → Bool) (rd : Read A) (k
 unfolding section judge
 section-is place good cut k = refl
 section-is place good (got a r) k = refl
-
-pick-map : {A B : Type 0} (h : A → B) (t : Bool) (a b : A) → h (pick t a b) ≡ pick t (h a) (h b)
-unfolding pick
-pick-map h true a b = refl
-pick-map h false a b = refl
 
 judge-map : {A R T : Type 0} (h : R → T) (bad : R) (good : A → Bool) (x : Read A) (k : A → List ℕ → R) → h (judge bad good x k) ≡ judge (h bad) good x (λ a r. h (k a r))
 unfolding judge

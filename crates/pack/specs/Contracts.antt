@@ -8,18 +8,19 @@ use lib.Dec.{eqb, leb, ltb}
 use lib.ListN.{length, getD, drop}
 use lib.Seq.{sets}
 use Rattle.base.specs.Pick.{pick, and}
-use Rattle.letters.specs.Order.{orderOf, sameText}
+use Rattle.letters.specs.Order.{orderOf, sameText, isLess}
 use Rattle.languages.specs.Names.{languageName}
 use Rattle.regex_optim.specs.Contexts.{leftForm, rightForm, kindOf}
 use Rattle.rule.specs.Matching.{ruleText, firstCode}
 use Rattle.phonemes.specs.Expressions.{checkedOf}
-use Rattle.pack.specs.Reading.{Read, cut, got, readByte, readNumber}
-use Rattle.pack.specs.Packs.{Guess, Rule, readGuess, readList, isLess, any, guessGood, isForm, isGood, ruleGood, listGood, placeIn, listCount}
-use Rattle.pack.specs.PlaceContracts.{foundIn, behind, readSome}
-use Rattle.pack.specs.declared.reading.Number.{Number}
-use Rattle.pack.specs.declared.reading.Number.the-variants as number
-use Rattle.pack.specs.declared.reading.Section.{Section}
-use Rattle.pack.specs.declared.reading.Section.the-variants.{End, Bad}
+use Rattle.strings.specs.Reading.{Read, cut, got, readByte, readNumber, placeIn}
+use Rattle.pack.specs.Packs.{Guess, Rule, readGuess, readList, any, guessGood, isForm, isGood, ruleGood, listGood, listCount}
+use Rattle.pack.specs.PlaceContracts.{foundIn}
+use Rattle.strings.specs.Contracts.{behind, readSome}
+use Rattle.strings.specs.declared.Number.{Number}
+use Rattle.strings.specs.declared.Number.the-variants as number
+use Rattle.pack.specs.declared.sections.Section.{Section}
+use Rattle.pack.specs.declared.sections.Section.the-variants.{End, Bad}
 use Rattle.pack.specs.declared.guessing.GuessAt.{GuessAt}
 use Rattle.pack.specs.declared.guessing.GuessAt.the-variants as guesses
 use Rattle.pack.specs.declared.rules.Ruled.{Ruled}
@@ -36,19 +37,6 @@ guessesAt s place = behind (readNumber 2 (drop place s)) (λ n r. readSome readG
 
 unfoldable pub guessedAt : List ℕ → ℕ → ℕ → List ℕ → LanguageSet
 guessedAt s place n name = guessed (min 32 n) (guessesAt s place) name
-
--- the byte at a place, 0 behind the end
-pub record ByteIs (s : List ℕ) (at r : ℕ) : Type 0 where
-  pub is : r ≡ getD s at 0
-  pub small : r < 256
-
-unfoldable pub numberIn : List ℕ → Read ℕ → Number
-numberIn s cut = number.Cut
-numberIn s (got n r) = number.Of n (placeIn s r)
-
--- the number of k bytes at a place, and the place behind it
-unfoldable pub numberAt : ℕ → List ℕ → ℕ → Number
-numberAt k s at = numberIn s (readNumber k (drop at s))
 
 -- a section that is read and good, and what is said where it is not
 unfoldable pub judge : {A R : Type 0} → R → (A → Bool) → Read A → (A → List ℕ → R) → R

@@ -1,4 +1,3 @@
-pub mod Reading
 pub mod Packs
 pub mod PlaceContracts
 pub mod Guessing

@@ -5,9 +5,7 @@ use mathlib.Core.List.{List, [], _∷_}
 use lib.Dec.{eqb, leb, ltb}
 use lib.ListN.{length, take, drop}
 use Rattle.base.specs.Pick.{pick, and}
-use Rattle.letters.specs.Order.{orderOf, sameText}
-use Rattle.letters.specs.declared.order.Order.{Order}
-use Rattle.letters.specs.declared.order.Order.the-variants.{Less, Equal, Greater}
+use Rattle.letters.specs.Order.{sameText, increasing}
 use Rattle.languages.specs.Names.{languageName}
 use Rattle.regex_optim.specs.Contexts.{leftForm, rightForm, kindOf}
 use Rattle.regex_optim.specs.declared.OptimizedRegex.{OptimizedRegex}
@@ -17,7 +15,7 @@ use Rattle.phonemes.specs.Expressions.{checkedOf}
 use Rattle.phonemes.specs.declared.answers.Expression.{Expression}
 use Rattle.phonemes.specs.declared.answers.Expression.the-variants.{Good, Malformed, Stranger}
 use Rattle.lang.specs.Patterns.{inForms}
-use Rattle.pack.specs.Reading.{Read, cut, got, andRead, readByte, readNumber, readText, readMany}
+use Rattle.strings.specs.Reading.{Read, cut, got, andRead, readByte, readNumber, readText, readMany, placeIn, isNil}
 use Rattle.pack.specs.declared.sections.Checked.{Checked}
 use Rattle.pack.specs.declared.sections.Checked.the-variants as checked
 
@@ -72,17 +70,6 @@ readList l = andRead (readNumber 2 l) (λ n r. readMany readRule n r)
 unfoldable pub all : {A : Type 0} → (A → Bool) → List A → Bool
 all f [] = true
 all f (x ∷ xs) = and (f x) (all f xs)
-
-unfoldable pub isLess : Order → Bool
-isLess Less = true
-isLess Equal = false
-isLess Greater = false
-
--- "strictly increasing"
-unfoldable pub increasing : List (List ℕ) → Bool
-increasing [] = true
-increasing (x ∷ []) = true
-increasing (x ∷ y ∷ l) = and (isLess (orderOf x y)) (increasing (y ∷ l))
 
 unfoldable pub holds : List ℕ → List (List ℕ) → Bool
 holds t [] = false
@@ -149,10 +136,6 @@ unfoldable pub section : {A : Type 0} → ℕ → (A → Bool) → Read A → (A
 section place good cut k = refused place
 section place good (got a r) k = pick (good a) (k a r) (refused place)
 
--- the place of what is left of s
-unfoldable pub placeIn : List ℕ → List ℕ → ℕ
-placeIn s r = length s - length r
-
 -- the bytes of the names in s, where r is what is left behind them
 unfoldable pub namesIn : List ℕ → List ℕ → List ℕ
 namesIn s r = take (length s - 1 - length r) (drop 1 s)
@@ -165,10 +148,6 @@ unfoldable pub listSections : List ℕ → List ℕ → ℕ → List ℕ → (Li
 listSections s names zero r k = k [] r
 listSections s names (suc n) r k =
     section (placeIn s r) (listGood names) (readList r) (λ rules q. listSections s names n q (λ lists t. k (rules ∷ lists) t))
-
-unfoldable pub isNil : List ℕ → Bool
-isNil [] = true
-isNil (x ∷ xs) = false
 
 -- "Sections: languages, guessing rules, list count, each list, the end; a cut pack fails in the section where bytes run out."
 unfoldable pub endSection : List ℕ → Pack → List ℕ → Verdict

@@ -7,22 +7,14 @@ use lib.Dec.{eqb}
 use lib.ListN.{length, drop}
 use lib.Seq.{sets}
 use Rattle.base.specs.Pick.{pick}
-use Rattle.pack.specs.Reading.{Read, cut, got, readByte, readNumber}
-use Rattle.pack.specs.Packs.{Rule, Verdict, accepted, refused, readNames, readGuesses, readRule, readList, namesGood, guessesGood, listGood, placeIn, namesIn, listCount, packOf, stringsLength}
+use Rattle.strings.specs.Reading.{Read, cut, got, readByte, readNumber, placeIn}
+use Rattle.pack.specs.Packs.{Rule, Verdict, accepted, refused, readNames, readGuesses, readRule, readList, namesGood, guessesGood, listGood, namesIn, listCount, packOf, stringsLength}
 use Rattle.pack.specs.Numbers.{surveyedNumbers}
 use Rattle.pack.specs.declared.sections.Surveyed.{Surveyed}
 use Rattle.pack.specs.declared.sections.Surveyed.the-variants as surveyed
 use Rattle.pack.specs.declared.rules.RuleAt.{RuleAt}
 use Rattle.pack.specs.declared.rules.RuleAt.the-variants as rules
-
--- what follows from a value that is read; nothing where bytes run out
-unfoldable pub behind : {A B : Type 0} → Read A → (A → List ℕ → List B) → List B
-behind cut k = []
-behind (got a r) k = k a r
-
-unfoldable pub readSome : {A : Type 0} → (List ℕ → Read A) → ℕ → List ℕ → List A
-readSome f zero l = []
-readSome f (suc n) l = behind (f l) (λ a r. a ∷ readSome f n r)
+use Rattle.strings.specs.Contracts.{readSome}
 
 -- ---- what a survey finds
 

@@ -5,15 +5,15 @@ ghost use lib.ListN.{length, drop};
 ghost use Rattle.lang.specs.Patterns.{matchesOf};
 ghost use Rattle.lang.specs.Contracts.{signatureOf};
 ghost use Rattle.languages.specs.Numbers.{setNumbers};
-ghost use Rattle.pack.specs.Reading.{readMany};
+ghost use Rattle.strings.specs.Reading.{readMany};
 ghost use Rattle.pack.specs.Packs.{guess, readGuess, readGuesses, guessGood, guessesGood};
 ghost use Rattle.pack.specs.Guessing.{allListed, narrowedBy, narrowedByAll, leftOver};
 ghost use Rattle.pack.specs.Contracts.{endIn, guessStandsAt, guessesFrom, guessedAt};
-ghost use Rattle.pack.specs.PlaceContracts.{readSome};
-use crate::reading::Number;
-use crate::reading::Section;
+ghost use Rattle.strings.specs.Contracts.{readSome};
+use crate::sections::Section;
 use languages::LanguageSet;
-use languages::Next;
+use strings::Next;
+use strings::Number;
 
 // A guessing rule by its places, or that bytes run out: its pattern stands from start to end.
 pub(crate) enum GuessAt {
@@ -33,10 +33,10 @@ fn guess_at(pack: &[u8], at: usize) -> GuessAt
     if pack.len() <= at {
         return GuessAt::Cut;
     }
-    match crate::reading::mask_at(pack, at + 1) {
-        Number::Of { value: mask, next } => match languages::string_at(pack, next) {
+    match strings::mask_at(pack, at + 1) {
+        Number::Of { value: mask, next } => match strings::string_at(pack, next) {
             Next::Whole { start, end } => GuessAt::At {
-                accept: crate::reading::byte_at(pack, at),
+                accept: strings::byte_at(pack, at),
                 mask,
                 start,
                 end,
@@ -129,7 +129,7 @@ pub(crate) fn guess_section(pack: &[u8], at: usize, languages: usize) -> Section
     requires { ⌜ languages ≤ 32 ⌝ }
     ensures { λ r. ⌜ r ≡ endIn (now (pack .entry)) (guessesGood languages) (readGuesses (drop at (now (pack .entry)))) ⌝ }
 {
-    match crate::reading::count_at(pack, at) {
+    match strings::count_at(pack, at) {
         Number::Of { value: count, next } => {
             if 4096 < count {
                 return Section::Bad;
@@ -212,7 +212,7 @@ pub fn guess_languages(pack: &[u8], guesses: usize, languages: usize, name: &[u8
     ensures { λ r. ⌜ setNumbers r ≡ setNumbers (guessedAt (now (pack .entry)) guesses languages (now (name .entry))) ⌝ }
 {
     let all = listed_mask(languages);
-    match crate::reading::count_at(pack, guesses) {
+    match strings::count_at(pack, guesses) {
         Number::Of { value: count, next } => left_over(narrow_all(pack, next, count, all, name)),
         Number::Cut => left_over(all),
     }

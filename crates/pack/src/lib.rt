@@ -1,13 +1,9 @@
 // The pack: checked once, read by places, and guessing over it.
 mod guessing;
-mod reading;
 mod rules;
 mod sections;
 
 pub use guessing::guess_languages;
-pub use reading::Number;
-pub use reading::count_at;
-pub use reading::mask_at;
 pub use rules::RuleAt;
 pub use rules::rule_at;
 pub use rules::rule_count;

@@ -3,15 +3,15 @@ ghost use mathlib.Core.Path.{_≡_};
 ghost use Prim.Native.Nat.{_≤_};
 ghost use lib.ListN.{length, drop};
 ghost use Rattle.phonemes.specs.Expressions.{checkedOf};
-ghost use Rattle.pack.specs.Reading.{readMany};
+ghost use Rattle.strings.specs.Reading.{readMany};
 ghost use Rattle.pack.specs.Packs.{rule, readRule, readList, isForm, isGood, ruleGood, listGood};
 ghost use Rattle.pack.specs.PlaceContracts.{ruleStandsAt, ruleCount};
 ghost use Rattle.pack.specs.Contracts.{endIn, patternGood, leftGood, rightGood, expressionGood, ruledAs, ruledIn, rulesFrom};
-use crate::reading::Number;
-use crate::reading::Section;
-use languages::Next;
+use crate::sections::Section;
 use phonemes::Expression;
 use regex_optim::OptimizedRegex;
+use strings::Next;
+use strings::Number;
 
 // A rule by its places: the pattern stands from `pattern` to `pattern_end`, and so the others; the next rule stands at `end`.
 pub enum RuleAt {
@@ -38,19 +38,19 @@ pub(crate) enum Ruled {
 pub fn rule_at(pack: &[u8], place: usize) -> RuleAt
     ensures { λ r. ⌜ r ≡ ruleStandsAt (now (pack .entry)) place ⌝ }
 {
-    match languages::string_at(pack, place) {
+    match strings::string_at(pack, place) {
         Next::Whole {
             start: pattern,
             end: pattern_end,
-        } => match languages::string_at(pack, pattern_end) {
+        } => match strings::string_at(pack, pattern_end) {
             Next::Whole {
                 start: left,
                 end: left_end,
-            } => match languages::string_at(pack, left_end) {
+            } => match strings::string_at(pack, left_end) {
                 Next::Whole {
                     start: right,
                     end: right_end,
-                } => match languages::string_at(pack, right_end) {
+                } => match strings::string_at(pack, right_end) {
                     Next::Whole {
                         start: expression,
                         end,
@@ -78,7 +78,7 @@ pub fn rule_at(pack: &[u8], place: usize) -> RuleAt
 pub fn rule_count(pack: &[u8], place: usize) -> usize
     ensures { λ r. ⌜ r ≡ ruleCount (now (pack .entry)) place ⌝ }
 {
-    match crate::reading::count_at(pack, place) {
+    match strings::count_at(pack, place) {
         Number::Of { value, next: _ } => value as usize,
         Number::Cut => 0,
     }
@@ -262,7 +262,7 @@ fn rules_from(pack: &[u8], start: usize, count: u32, names: &[u8]) -> Section
 pub(crate) fn list_section(pack: &[u8], at: usize, names: &[u8]) -> Section
     ensures { λ r. ⌜ r ≡ endIn (now (pack .entry)) (listGood (now (names .entry))) (readList (drop at (now (pack .entry)))) ⌝ }
 {
-    match crate::reading::count_at(pack, at) {
+    match strings::count_at(pack, at) {
         Number::Of { value: count, next } => {
             if 4096 < count {
                 return Section::Bad;

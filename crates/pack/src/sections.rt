@@ -6,9 +6,8 @@ ghost use Rattle.pack.specs.Packs.{readNames, namesGood, packOf, verdict
 ghost use Rattle.pack.specs.Numbers.{checkedNumbers};
 ghost use Rattle.pack.specs.PlaceContracts.{SurveyIs};
 ghost use Rattle.pack.specs.Contracts.{endIn, follows, metBy, ListsAre, RestIs};
-use crate::reading::Section;
-use languages::Next;
 use letters::Order;
+use strings::Next;
 
 // Accepted (0), or refused (5) with the first byte of the section at fault.
 pub enum Checked {
@@ -20,6 +19,12 @@ pub enum Checked {
 pub enum Surveyed {
     Accepted { languages: usize, guesses: usize },
     Refused(usize),
+}
+
+// Where a section ends, or that it is at fault.
+pub(crate) enum Section {
+    End(usize),
+    Bad,
 }
 
 // Where the lists end, or the place of the first at fault.
@@ -57,7 +62,7 @@ fn names_section(pack: &[u8]) -> Section
     if pack.len() == 0 {
         return Section::Bad;
     }
-    let count = crate::reading::byte_at(pack, 0);
+    let count = strings::byte_at(pack, 0);
     if 32 < count {
         return Section::Bad;
     }
@@ -66,7 +71,7 @@ fn names_section(pack: &[u8]) -> Section
     let mut at: usize = 1;
     let mut met = false;
     while 0 < left {
-        match languages::string_at(pack, at) {
+        match strings::string_at(pack, at) {
             Next::Whole { start, end } => {
                 if follows_name(&pack[from..at], &pack[start..end]) {
                     met = meets_any(met, &pack[start..end]);
@@ -132,7 +137,7 @@ fn rest_section(
     if pack.len() <= at {
         return Checked::Refused(at);
     }
-    let count = crate::reading::byte_at(pack, at);
+    let count = strings::byte_at(pack, at);
     let wanted = 3 * languages + 2;
     if count as usize != wanted {
         return Checked::Refused(at);
@@ -156,7 +161,7 @@ pub fn survey(pack: &[u8], places: &mut [usize]) -> Surveyed
 {
     match names_section(pack) {
         Section::End(guesses) => {
-            let languages = crate::reading::byte_at(pack, 0) as usize;
+            let languages = strings::byte_at(pack, 0) as usize;
             match crate::guessing::guess_section(pack, guesses, languages) {
                 Section::End(counted) => {
                     match rest_section(pack, counted, languages, &pack[1..guesses], places) {

@@ -2,8 +2,8 @@
 use mathlib.Core.List.{List, [], _∷_}
 use Prim.Native.Nat.{ℕ, _/_, _%_}
 use lib.ListN.{length}
-use Rattle.name_parts.specs.Contracts.{Put}
-use Rattle.name_parts.proofs.Laws.{put-then}
+use Rattle.writing.specs.Contracts.{Put}
+use Rattle.writing.proofs.Laws.{put-then}
 use Rattle.pack_bytes.specs.Bytes.{countBytes, maskBytes}
 use Rattle.pack_bytes.specs.Contracts.{textPut}
 

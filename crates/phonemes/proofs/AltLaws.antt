@@ -19,9 +19,7 @@ use Rattle.phonemes.specs.declared.phonemes.Part.the-variants.{From, Pas
 use Rattle.phonemes.proofs.CutLaws.{cut-order, cut-fits, cut-more, cut-last}
 use Rattle.phonemes.proofs.ExprLaws.{extra-yes, extra-no, pieces-single, pieces-round}
 use Rattle.base.proofs.PickLaws.{pick-true, pick-false}
-
-clash : {A : Type 0} → _≡_ {A = ℕ} 0 1 → A
-clash e = let no-way : ⊥ = omega arith in absurd no-way
+use Rattle.base.proofs.Arms.{clash}
 
 -- ---- where the parts of a text stand in it
 

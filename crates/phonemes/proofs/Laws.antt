@@ -5,7 +5,6 @@ use mathlib.Core.Bool.{Bool, true, false}
 use mathlib.Core.List.{List, [], _∷_, _++_}
 use mathlib.Core.Logic.{⊎-elim}
 use Prim.Native.Nat.{ℕ, zero, suc, _+_, _-_, _^_, _≤_, _<_, zero-le}
-use native.Mathlib.Decide.{decLt}
 use native.Mathlib.Nat.{sub-zero}
 use native.Mathlib.Omega.{arith}
 use lib.Bits.{or-lt}
@@ -14,13 +13,14 @@ use lib.ListN.{length, getD, take, drop, length-take, length-drop, length-append
 use lib.Pow.{pow-pos}
 use lib.Seq.{take-nil, take-length, take-take, drop-drop, getD-append-add}
 use borrow.Author.Tests.{ltb-false}
-use Rattle.languages.specs.Names.{stringsOf, languageBit}
+use Rattle.languages.specs.Names.{languageBit}
+use Rattle.strings.specs.Reading.{stringsOf}
 use Rattle.languages.specs.declared.names.Listed.{Listed}
 use Rattle.languages.specs.declared.names.Listed.the-variants.{Bit, Unlisted}
 use Rattle.languages.specs.declared.sets.LanguageSet.{LanguageSet}
 use Rattle.languages.proofs.Laws.{any-below, mask-below, bit-below, bit-held}
-use Rattle.texts.specs.Parts.{tail, front, firstIs, lastIs, placeOf, prefixOf}
-use Rattle.texts.proofs.Laws.{front-is, place-most, first-some-by, last-some-by, prefix-short}
+use Rattle.texts.specs.Parts.{tail, front, firstIs, lastIs, placeOf}
+use Rattle.texts.proofs.Laws.{front-is, place-most, first-some-by, last-some-by, prefix-within}
 use Rattle.rule.specs.Matching.{ruleMatches}
 use Rattle.phonemes.specs.Expressions.{round, bar, opening, onFirst, cutAt, inside, extra, piecesIn, withBits, namesMask, pieceMask, textOf, maskSet, setOf, checkedOf}
 use Rattle.phonemes.specs.Contracts.{hasExtra, nthCut, pieceFrom, nthFrom, alternativeOf}
@@ -34,9 +34,7 @@ use Rattle.phonemes.proofs.ExprLaws.{text-long, extra-yes, pieces-singl
 use Rattle.phonemes.proofs.AltLaws.{laid-cut, beyond, part-at, alt-single, alt-single-past, alt-part, alt-past, alt-none, alt-extra}
 use Rattle.base.proofs.PickLaws.{pick-inv, pick-all, and-inv}
 use Rattle.languages.specs.Contracts.{BitsBelow}
-
-clash : {A : Type 0} → _≡_ {A = ℕ} 0 1 → A
-clash e = let no-way : ⊥ = omega arith in absurd no-way
+use Rattle.base.proofs.Arms.{clash}
 
 -- ---- an alternative's bytes are a part of the expression
 
@@ -256,17 +254,11 @@ pieces-few e = few-by e _ refl
 
 -- ---- a rule that matches: its pattern ends within the text
 
-prefix-long : (p s : List ℕ) → prefixOf p s ≡ true → length p ≤ length s
-prefix-long p s e = elim (decLt (length s) (length p)) [
-  | yes h ↦ let n = prefix-short p s h in clash (cc)
-  | no h ↦ omega arith
-]
-
 pub match-end : (p l r t : List ℕ) (at : ℕ) (x : Bool) → x ≡ ruleMatches p l r t at → x ≡ true → at + length p ≤ length t
 unfolding ruleMatches
 match-end p l r t at x e q =
     ⊎-elim (λ v. let g = v .1 in clash (cc))
-    (λ v. omega (arith, ltb-false (length t) at (v .0), prefix-long p (drop at t) (and-inv _ _ (v .1) .0), length-drop at t))
+    (λ v. omega (arith, ltb-false (length t) at (v .0), prefix-within p (drop at t) (and-inv _ _ (v .1) .0), length-drop at t))
     (pick-inv _ _ _ _ (sym e ∙ q))
 
 pub ruleset rule-laws = (is-alternative, alternative-order, alternative-fits, alternative-below, alternative-listed, pieces-past, alternative-past, alternative-there, pieces-few, match-end)

@@ -1,7 +1,7 @@
 -- No two answers have the same numbers: `expression-one` reads a promise, `expression-told` makes one. Assumes nothing.
 use mathlib.Core.Path.{_≡_, refl, ap}
 use Rattle.refusals.specs.Numbers.{numberOf}
-use Rattle.languages.proofs.NumberLaws.{clash}
+use Rattle.base.proofs.Arms.{clash}
 use Rattle.phonemes.specs.Numbers.{expressionNumbers}
 use Rattle.phonemes.specs.declared.answers.Expression.{Expression}
 use Rattle.phonemes.specs.declared.answers.Expression.the-variants.{Good, Malformed, Stranger}

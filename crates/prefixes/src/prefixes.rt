@@ -1,8 +1,8 @@
 // Prefixes of names (01, Spelling a name): small tables of bytes, walked in the stated order.
 ghost use mathlib.Core.Path.{_≡_};
 ghost use Rattle.prefixes.specs.Prefixes.{prefixFits, firstFit, among, prefixesOf, splitOf, isPrefix};
-ghost use Rattle.languages.specs.Names.{stringsOf};
-use languages::Next;
+ghost use Rattle.strings.specs.Reading.{stringsOf};
+use strings::Next;
 
 pub enum NameType {
     Ashkenazi,
@@ -43,7 +43,7 @@ fn first_fit(t: &[u8], s: &[u8]) -> Prefix
 {
     let mut at: usize = 0;
     loop {
-        match languages::string_at(t, at) {
+        match strings::string_at(t, at) {
             Next::Whole { start, end } => {
                 if fits_with_space(s, &t[start..end]) {
                     // The space behind the prefix is passed in place of the length byte before it.
@@ -65,7 +65,7 @@ fn is_among(t: &[u8], w: &[u8]) -> bool
 {
     let mut at: usize = 0;
     loop {
-        match languages::string_at(t, at) {
+        match strings::string_at(t, at) {
             Next::Whole { start, end } => {
                 if letters::same(&t[start..end], w) {
                     return true;

@@ -7,11 +7,11 @@ use Prim.Native.Nat.{ℕ}
 use denote.Ref.{now}
 use Rattle.base.proofs.One.{one}
 use Rattle.promises.specs.Settled.{Settled, SettledBy}
-use Rattle.name_parts.specs.Contracts.{Put}
+use Rattle.writing.specs.Contracts.{Put}
 use Rattle.bundles.proofs.Laws.{numbers-one}
 use Rattle.rule_lists.specs.Outcomes.{Loading, fine, notLoaded}
-use Rattle.rule_lists.specs.declared.writing.Written.{Written}
-use Rattle.rule_lists.specs.declared.writing.Written.the-variants.{Done, Refused}
+use Rattle.rule_lists.specs.declared.list_writing.Written.{Written}
+use Rattle.rule_lists.specs.declared.list_writing.Written.the-variants.{Done, Refused}
 use Rattle.pack.specs.declared.sections.Surveyed.{Surveyed}
 use Rattle.rule_index.specs.Matching.{Matcher}
 use Rattle.rule_index.specs.Contracts.{matcher, seenIn}
@@ -34,6 +34,8 @@ use Rattle.refusals.proofs as refusals
 use Rattle.letters.proofs as letters
 use Rattle.lower_case.proofs as lower_case
 use Rattle.texts.proofs as texts
+use Rattle.writing.proofs as writing
+use Rattle.strings.proofs as strings
 use Rattle.languages.proofs as languages
 use Rattle.name_parts.proofs as name_parts
 use Rattle.prefixes.proofs as prefixes
@@ -115,6 +117,37 @@ texts-starts-with κs a = (tt, λ x y v w p q. (one p q, refl))
 pub texts-ends-with : Settled texts.ends_with.ended texts.ends_with.Reads.Asked texts.ends_with.Reads.Learnt
 texts-ends-with κs a = (tt, λ x y v w p q. (one p q, refl))
 
+pub texts-without-caret : SettledBy texts.without_caret.ended (λ κs a x v. now x) texts.without_caret.Reads.Asked texts.without_caret.Reads.Learnt
+texts-without-caret κs a = (tt, λ x y v w. one)
+
+pub texts-without-dollar : SettledBy texts.without_dollar.ended (λ κs a x v. now x) texts.without_dollar.Reads.Asked texts.without_dollar.Reads.Learnt
+texts-without-dollar κs a = (tt, λ x y v w. one)
+
+pub texts-has-char : Settled texts.has_char.ended texts.has_char.Reads.Asked texts.has_char.Reads.Learnt
+texts-has-char κs a = (tt, λ x y v w p q. (one p q, refl))
+
+-- ---- writing
+
+pub writing-push : Settled writing.push.ended writing.push.Reads.Asked writing.push.Reads.Learnt
+writing-push κs a = (tt, λ x y v w p q. content (λ o. (o, (tt, (tt, tt)))) (put-one p q))
+
+pub writing-copy : Settled writing.copy.ended writing.copy.Reads.Asked writing.copy.Reads.Learnt
+writing-copy κs a = (tt, λ x y v w p q. content (λ o. (tt, (o, (tt, tt)))) (put-one p q))
+
+-- ---- strings
+
+pub strings-string-at : Settled strings.string_at.ended strings.string_at.Reads.Asked strings.string_at.Reads.Learnt
+strings-string-at κs a = (tt, λ x y v w p q. (one p q, refl))
+
+pub strings-byte-at : Settled strings.byte_at.ended strings.byte_at.Reads.Asked strings.byte_at.Reads.Learnt
+strings-byte-at κs a = (tt, λ x y v w p q. (one (p .is) (q .is), refl))
+
+pub strings-count-at : Settled strings.count_at.ended strings.count_at.Reads.Asked strings.count_at.Reads.Learnt
+strings-count-at κs a = (tt, λ x y v w p q. (one p q, refl))
+
+pub strings-mask-at : Settled strings.mask_at.ended strings.mask_at.Reads.Asked strings.mask_at.Reads.Learnt
+strings-mask-at κs a = (tt, λ x y v w p q. (one p q, refl))
+
 -- ---- languages
 
 pub languages-restrict-to : Settled languages.sets.LanguageSet.restrict_to.ended languages.sets.LanguageSet.restrict_to.Reads.Asked languages.sets.LanguageSet.restrict_to.Reads.Learnt
@@ -150,19 +183,10 @@ languages-is-empty-code κs a = (tt, λ x y v w p q. (one p q, refl))
 pub languages-is-language-name : Settled languages.is_language_name.ended languages.is_language_name.Reads.Asked languages.is_language_name.Reads.Learnt
 languages-is-language-name κs a = (tt, λ x y v w p q. (one p q, refl))
 
-pub languages-string-at : Settled languages.string_at.ended languages.string_at.Reads.Asked languages.string_at.Reads.Learnt
-languages-string-at κs a = (tt, λ x y v w p q. (one p q, refl))
-
 pub languages-find-language : Settled languages.find_language.ended languages.find_language.Reads.Asked languages.find_language.Reads.Learnt
 languages-find-language κs a = (tt, λ x y v w p q. (listed-one x y (one p q), refl))
 
 -- ---- name_parts
-
-pub «name_parts-push» : Settled name_parts.push.ended name_parts.push.Reads.Asked name_parts.push.Reads.Learnt
-«name_parts-push» κs a = (tt, λ x y v w p q. content (λ o. (o, (tt, (tt, tt)))) (put-one p q))
-
-pub «name_parts-copy» : Settled name_parts.copy.ended name_parts.copy.Reads.Asked name_parts.copy.Reads.Learnt
-«name_parts-copy» κs a = (tt, λ x y v w p q. content (λ o. (tt, (o, (tt, tt)))) (put-one p q))
 
 pub «name_parts-next-word» : SettledBy name_parts.next_word.ended (λ κs a x v. now x) name_parts.next_word.Reads.Asked name_parts.next_word.Reads.Learnt
 «name_parts-next-word» κs a = (tt, λ x y v w. one)
@@ -173,16 +197,6 @@ pub «name_parts-past-word» : Settled name_parts.past_word.ended name_parts.pas
 pub «name_parts-one-word» : Settled name_parts.one_word.ended name_parts.one_word.Reads.Asked name_parts.one_word.Reads.Learnt
 «name_parts-one-word» κs a = (tt, λ x y v w p q. (one p q, refl))
 
--- ---- prefixes
-
-pub prefixes-prefix-of : Settled prefixes.prefix_of.ended prefixes.prefix_of.Reads.Asked prefixes.prefix_of.Reads.Learnt
-prefixes-prefix-of κs a = (tt, λ x y v w p q. (one p q, refl))
-
-pub prefixes-is-prefix : Settled prefixes.is_prefix.ended prefixes.is_prefix.Reads.Asked prefixes.is_prefix.Reads.Learnt
-prefixes-is-prefix κs a = (tt, λ x y v w p q. (one p q, refl))
-
--- ---- name_parts
-
 pub «name_parts-part-hyphens» : Settled name_parts.part_hyphens.ended name_parts.part_hyphens.Reads.Asked name_parts.part_hyphens.Reads.Learnt
 «name_parts-part-hyphens» κs a = (tt, λ x y v w p q. (refl, ap (λ o. (o, tt)) (one p q)))
 
@@ -191,6 +205,14 @@ pub «name_parts-join-prefix» : Settled name_parts.join_prefix.ended name_parts
 
 pub «name_parts-join-words» : Settled name_parts.join_words.ended name_parts.join_words.Reads.Asked name_parts.join_words.Reads.Learnt
 «name_parts-join-words» κs a = (tt, λ x y v w p q. content (λ o. (tt, (tt, (o, tt)))) (put-one p q))
+
+-- ---- prefixes
+
+pub prefixes-prefix-of : Settled prefixes.prefix_of.ended prefixes.prefix_of.Reads.Asked prefixes.prefix_of.Reads.Learnt
+prefixes-prefix-of κs a = (tt, λ x y v w p q. (one p q, refl))
+
+pub prefixes-is-prefix : Settled prefixes.is_prefix.ended prefixes.is_prefix.Reads.Asked prefixes.is_prefix.Reads.Learnt
+prefixes-is-prefix κs a = (tt, λ x y v w p q. (one p q, refl))
 
 -- ---- regex_optim
 
@@ -248,12 +270,6 @@ pub rule-is-bare : Settled rule.is_bare.ended rule.is_bare.Reads.Asked rule.is_b
 rule-is-bare κs a = (tt, λ x y v w p q. (one p q, refl))
 
 -- ---- pack
-
-pub pack-count-at : Settled pack.count_at.ended pack.count_at.Reads.Asked pack.count_at.Reads.Learnt
-pack-count-at κs a = (tt, λ x y v w p q. (one p q, refl))
-
-pub pack-mask-at : Settled pack.mask_at.ended pack.mask_at.Reads.Asked pack.mask_at.Reads.Learnt
-pack-mask-at κs a = (tt, λ x y v w p q. (one p q, refl))
 
 pub pack-rule-at : Settled pack.rule_at.ended pack.rule_at.Reads.Asked pack.rule_at.Reads.Learnt
 pack-rule-at κs a = (tt, λ x y v w p q. (one p q, refl))

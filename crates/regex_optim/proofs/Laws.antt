@@ -2,8 +2,7 @@
 use mathlib.Core.Path.{_≡_, refl, sym, ap, ap₂, _∙_}
 use mathlib.Core.Bool.{Bool, true, false, not}
 use mathlib.Core.List.{List, [], _∷_, _++_}
-use Prim.Native.Nat.{ℕ, suc, _+_, _-_, _≤_, _<_, zero-le}
-use native.Mathlib.Nat.{sub-zero}
+use Prim.Native.Nat.{ℕ, suc, _-_, _≤_, _<_, zero-le}
 use native.Mathlib.Omega.{arith}
 use lib.Dec.{eqb, ltb, eqb·suc-zero}
 use lib.ListN.{length, take, drop}
@@ -14,55 +13,15 @@ use Rattle.letters.specs.Reading.{codesOf}
 use Rattle.letters.specs.Order.{sameText}
 use Rattle.letters.specs.declared.utf8.Step.{Step}
 use Rattle.letters.specs.declared.utf8.Step.the-variants.{Char, Ill, End}
-use Rattle.letters.proofs.Utf8Laws.{char-at, ill-in}
-use Rattle.letters.proofs.CodesLaws.{codes-char, codes-ill, codes-end}
-use Rattle.texts.specs.Parts.{tail, front, firstIs, lastIs, placeOf, has, prefixOf, suffixOf}
-use Rattle.texts.proofs.Laws.{tail-is, front-is, first-some-by, last-some-by}
-use Rattle.regex_optim.specs.Contexts.{caret, dollar, opening, closing, Form, outside, literalForm, boxForm, withoutCaret, withoutDollar, boxInner, boxed, formIn, formOf, leftForm, rightForm, kindOf, memberOf, codeAt, firstChar, codeOf, backChar, wholeChar, orElse, charFits, fits}
+use Rattle.texts.specs.Parts.{tail, front, firstIs, lastIs, placeOf, has, prefixOf, suffixOf, caret, dollar, opening, closing, withoutCaret, withoutDollar}
+use Rattle.texts.proofs.Laws.{front-is}
+use Rattle.regex_optim.specs.Contexts.{Form, outside, literalForm, boxForm, boxInner, boxed, formIn, formOf, leftForm, rightForm, kindOf, codeAt, firstChar, codeOf, backChar, wholeChar, orElse, charFits, fits}
 use Rattle.regex_optim.specs.Contracts.{boxChar, boxFits, literalFits, boxKind, literalKind}
 use Rattle.regex_optim.specs.declared.Letter.{Letter}
 use Rattle.regex_optim.specs.declared.Letter.the-variants.{Code, Absent}
 use Rattle.regex_optim.specs.declared.OptimizedRegex.{OptimizedRegex}
 use Rattle.regex_optim.specs.declared.OptimizedRegex.the-variants.{Outside}
 use Rattle.base.proofs.PickLaws.{pick-true, pick-false}
-
--- ---- the characters of a box, as far as place p
-
-pub record Seeking (k : ℕ) (l : List ℕ) (p : ℕ) : Type 0 where
-  pub is : memberOf k (codesOf l) ≡ memberOf k (codesOf (drop p l))
-
-pub seeking-start : (k : ℕ) (l : List ℕ) → Seeking k l 0
-seeking-start k l = record { is = refl }
-
-module _ {k : ℕ} {l : List ℕ} {p : ℕ} (w : Seeking k l p) (r : Step) (e : r ≡ decodeAt l p) where
-  pub seeking-next : (c n : ℕ) → r ≡ Char c n → (c ≡ k → ⊥) → Seeking k l (p + n)
-  unfolding memberOf
-  seeking-next c n q h = record { is = w .is ∙ ap (memberOf k) (codes-char l p c n (sym e ∙ q)) ∙ pick-false _ _ _ (ne-eqb c k h) }
-
-  pub seeking-found : (c n : ℕ) → r ≡ Char c n → c ≡ k → true ≡ memberOf k (codesOf l)
-  unfolding memberOf
-  seeking-found c n q h = sym (w .is ∙ ap (memberOf k) (codes-char l p c n (sym e ∙ q)) ∙ pick-true _ _ _ (eq-eqb c k h))
-
-  pub seeking-past : r ≡ Ill → Seeking k l (p + 1)
-  seeking-past q = record { is = w .is ∙ ap (memberOf k) (codes-ill l p (sym e ∙ q)) }
-
-  pub seeking-none : r ≡ End → false ≡ memberOf k (codesOf l)
-  unfolding memberOf
-  seeking-none q = sym (w .is ∙ ap (memberOf k) (codes-end l p (sym e ∙ q)))
-
-  pub seeking-end : (c n : ℕ) → r ≡ Char c n → p + n ≤ length l
-  seeking-end c n q = char-at l p c n (sym e ∙ q) .end
-
-  pub seeking-less : (c n : ℕ) → r ≡ Char c n → length l - (p + n) < length l - p
-  seeking-less c n q = let b = char-at l p c n (sym e ∙ q) in omega arith
-
-  pub seeking-in : r ≡ Ill → p < length l
-  seeking-in q = ill-in l p (sym e ∙ q)
-
-  pub seeking-less-ill : r ≡ Ill → length l - (p + 1) < length l - p
-  seeking-less-ill q = let b = ill-in l p (sym e ∙ q) in omega arith
-
-pub ruleset seeking-laws = (seeking-start, seeking-next, seeking-found, seeking-past, seeking-none, seeking-less, seeking-less-ill)
 
 -- ---- one character
 
@@ -119,23 +78,6 @@ else-absent a b r s e q f = f ∙ sym (ap (λ (y : Letter). orElse y b) (sym e �
 pub ruleset char-laws = (first-code, first-ill, first-end, back-short, back-code, back-other, back-ill, back-end, whole-by)
 
 -- ---- parts of a context
-
-module _ (c : List ℕ) (t : Bool) where
-  pub caret-off : t ≡ firstIs caret c → t ≡ true → take (length c - 1) (drop 1 c) ≡ withoutCaret c
-  unfolding withoutCaret
-  caret-off e q = tail-is c ∙ sym (pick-true _ _ _ (sym e ∙ q))
-
-  pub caret-none : t ≡ firstIs caret c → t ≡ false → c ≡ withoutCaret c
-  unfolding withoutCaret
-  caret-none e q = sym (pick-false _ _ _ (sym e ∙ q))
-
-  pub dollar-off : t ≡ lastIs dollar c → t ≡ true → take (length c - 1 - 0) c ≡ withoutDollar c
-  unfolding withoutDollar
-  dollar-off e q = ap (λ (n : ℕ). take n c) (sub-zero (length c - 1)) ∙ front-is c ∙ sym (pick-true _ _ _ (sym e ∙ q))
-
-  pub dollar-none : t ≡ lastIs dollar c → t ≡ false → c ≡ withoutDollar c
-  unfolding withoutDollar
-  dollar-none e q = sym (pick-false _ _ _ (sym e ∙ q))
 
 pub inner-none : (t : List ℕ) → length t < 2 → [] ≡ boxInner t
 unfolding boxInner tail front
@@ -309,11 +251,11 @@ unfolding boxFits
 box-fit i l x n a s e r p q w f = rw (← p, ← q, ← w) f
 
 module _ (hit : Bool) (l : List ℕ) (a : Letter) (k : ℕ) (t : Bool) where
-  pub char-member : a ≡ Code k → t ≡ memberOf k (codesOf l) → t ≡ true → hit ≡ charFits hit l a
+  pub char-member : a ≡ Code k → t ≡ has k (codesOf l) → t ≡ true → hit ≡ charFits hit l a
   unfolding charFits
   char-member e m q = sym (ap (charFits hit l) e ∙ pick-true _ _ _ (sym m ∙ q))
 
-  pub char-other : a ≡ Code k → t ≡ memberOf k (codesOf l) → t ≡ false → not hit ≡ charFits hit l a
+  pub char-other : a ≡ Code k → t ≡ has k (codesOf l) → t ≡ false → not hit ≡ charFits hit l a
   unfolding charFits
   char-other e m q = sym (ap (charFits hit l) e ∙ pick-false _ _ _ (sym m ∙ q))
 
@@ -321,6 +263,6 @@ pub char-absent : (hit : Bool) (l : List ℕ) (a : Letter) → a ≡ Absent → 
 unfolding charFits
 char-absent hit l a e = sym (ap (charFits hit l) e)
 
-pub ruleset part-laws = (first-some-by, last-some-by, caret-off, caret-none, dollar-off, dollar-none, inner-none, inner-some, has-by, boxed-not, boxed-open, boxed-by, else-code, else-absent)
+pub ruleset part-laws = (inner-none, inner-some, has-by, boxed-not, boxed-open, boxed-by, else-code, else-absent)
 
 pub ruleset form-laws = (kind-by-literal, kind-by-box, kind-by-none, fits-by-literal, fits-by-box, fits-by-none, left-kind, right-kind, left-fit, right-fit, box-fit, char-member, char-other, char-absent)

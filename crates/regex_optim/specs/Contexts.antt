@@ -10,24 +10,11 @@ use Rattle.letters.specs.Reading.{codesOf}
 use Rattle.letters.specs.Order.{sameText}
 use Rattle.letters.specs.declared.utf8.Step.{Step}
 use Rattle.letters.specs.declared.utf8.Step.the-variants.{Char, Ill, End}
-use Rattle.texts.specs.Parts.{tail, front, firstIs, lastIs, has, prefixOf, suffixOf}
+use Rattle.texts.specs.Parts.{tail, front, firstIs, lastIs, has, prefixOf, suffixOf, caret, dollar, opening, closing, withoutCaret, withoutDollar}
 use Rattle.regex_optim.specs.declared.Letter.{Letter}
 use Rattle.regex_optim.specs.declared.Letter.the-variants.{Code, Absent}
 use Rattle.regex_optim.specs.declared.OptimizedRegex.{OptimizedRegex}
 use Rattle.regex_optim.specs.declared.OptimizedRegex.the-variants.{AllStringsMatcher, IsEmpty, Equals, StartsWith, EndsWith, EqualsChar, StartsWithChar, EndsWithChar, Outside}
-
--- the signs, as bytes
-abbrev pub caret : ℕ
-caret = 94
-
-abbrev pub dollar : ℕ
-dollar = 36
-
-abbrev pub opening : ℕ
-opening = 91
-
-abbrev pub closing : ℕ
-closing = 93
 
 -- a form, with what it compares with; of a box, whether a character of its list fits (true) or one outside it does (false)
 pub data Form : Type 0 where
@@ -56,13 +43,6 @@ boxForm true true hit l = only hit l
 boxForm true false hit l = first hit l
 boxForm false true hit l = last hit l
 boxForm false false hit l = outside
-
--- "one leading `^` and one trailing `$` are then taken off"
-unfoldable pub withoutCaret : List ℕ → List ℕ
-withoutCaret t = pick (firstIs caret t) (tail t) t
-
-unfoldable pub withoutDollar : List ℕ → List ℕ
-withoutDollar t = pick (lastIs dollar t) (front t) t
 
 -- "If the rest starts with `[`, ends with `]` and has no other `[`, it is a list of literal characters, a first `^` negating"
 unfoldable pub boxInner : List ℕ → List ℕ
@@ -100,10 +80,6 @@ kindOf outside = Outside
 
 -- ---- fitting
 
-unfoldable pub memberOf : ℕ → List ℕ → Bool
-memberOf k [] = false
-memberOf k (x ∷ xs) = pick (eqb x k) true (memberOf k xs)
-
 -- the character that stands at the front of x, is x, and stands at its end: of one byte, two, three or four
 unfoldable pub codeAt : Step → Letter
 codeAt (Char k n) = Code k
@@ -133,7 +109,7 @@ lastChar x = orElse (backChar x 1) (orElse (backChar x 2) (orElse (backChar x 3)
 
 -- "a box always needs a character, and with both anchors exactly one"
 unfoldable pub charFits : Bool → List ℕ → Letter → Bool
-charFits hit l (Code k) = pick (memberOf k (codesOf l)) hit (not hit)
+charFits hit l (Code k) = pick (has k (codesOf l)) hit (not hit)
 charFits hit l Absent = false
 
 unfoldable pub fits : Form → List ℕ → Bool

@@ -5,8 +5,8 @@ use mathlib.Core.List.{List}
 use lib.Dec.{eqb}
 use Rattle.base.specs.Pick.{pick}
 use Rattle.letters.specs.Order.{sameText}
-use Rattle.texts.specs.Parts.{firstIs, prefixOf, suffixOf}
-use Rattle.regex_optim.specs.Contexts.{caret, firstChar, wholeChar, lastChar, charFits, withoutCaret}
+use Rattle.texts.specs.Parts.{firstIs, prefixOf, suffixOf, caret, withoutCaret}
+use Rattle.regex_optim.specs.Contexts.{firstChar, wholeChar, lastChar, charFits}
 use Rattle.regex_optim.specs.declared.Letter.{Letter}
 use Rattle.regex_optim.specs.declared.Letter.the-variants.{Absent}
 use Rattle.regex_optim.specs.declared.OptimizedRegex.{OptimizedRegex}

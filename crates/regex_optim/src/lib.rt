@@ -1,8 +1,8 @@
 // Contexts: the eight forms of regex_optim.rs, and whether a context fits the text before or after a place.
 ghost use mathlib.Core.Path.{_≡_};
 ghost use Rattle.letters.specs.Reading.{codesOf};
-ghost use Rattle.texts.specs.Parts.{has};
-ghost use Rattle.regex_optim.specs.Contexts.{opening, memberOf, backChar, lastChar, wholeChar, firstChar, withoutCaret, withoutDollar, boxInner, boxed, formIn, kindOf, leftForm, rightForm, charFits, fits};
+ghost use Rattle.texts.specs.Parts.{has, opening, withoutCaret, withoutDollar};
+ghost use Rattle.regex_optim.specs.Contexts.{backChar, lastChar, wholeChar, firstChar, boxInner, boxed, formIn, kindOf, leftForm, rightForm, charFits, fits};
 ghost use Rattle.regex_optim.specs.Numbers.{formNumbers};
 ghost use Rattle.regex_optim.specs.Contracts.{boxChar, boxKind, literalKind, literalFits, boxFits};
 use letters::Step;
@@ -24,29 +24,6 @@ pub enum OptimizedRegex {
 enum Letter {
     Code(u32),
     Absent,
-}
-
-// Whether the code point k is among the characters of l.
-fn is_member(l: &[u8], k: u32) -> bool
-    ensures { λ r. ⌜ r ≡ memberOf k (codesOf (now (l .entry))) ⌝ }
-{
-    let mut p: usize = 0;
-    loop {
-        match letters::decode(l, p) {
-            Step::Char { code, len } => {
-                if code == k {
-                    return true;
-                }
-                p += len;
-            }
-            Step::Ill => {
-                p += 1;
-            }
-            Step::End => {
-                return false;
-            }
-        }
-    }
 }
 
 // The first character of x.
@@ -108,31 +85,8 @@ fn char_fits(l: &[u8], yes: bool, c: Letter) -> bool
     ensures { λ r. ⌜ r ≡ charFits yes (now (l .entry)) c ⌝ }
 {
     match c {
-        Letter::Code(k) => { if is_member(l, k) { yes } else { !yes } }
+        Letter::Code(k) => { if texts::has_char(l, k) { yes } else { !yes } }
         Letter::Absent => false,
-    }
-}
-
-// c without one leading `^`.
-fn without_caret(c: &[u8]) -> &[u8]
-    ensures { λ r. ⌜ now r ≡ withoutCaret (now (c .entry)) ⌝ }
-{
-    if texts::first_is(c, b'^') {
-        &c[1..c.len()]
-    } else {
-        c
-    }
-}
-
-// c without one trailing `$`.
-fn without_dollar(c: &[u8]) -> &[u8]
-    ensures { λ r. ⌜ now r ≡ withoutDollar (now (c .entry)) ⌝ }
-{
-    if texts::last_is(c, b'$') {
-        let n = c.len();
-        &c[0..n - 1]
-    } else {
-        c
     }
 }
 
@@ -183,7 +137,7 @@ fn box_fits(inner: &[u8], s: bool, e: bool, x: &[u8]) -> bool
     ensures { λ r. ⌜ r ≡ boxFits (now (inner .entry)) s e (now (x .entry)) ⌝ }
 {
     let negated = texts::first_is(inner, b'^');
-    let l = without_caret(inner);
+    let l = texts::without_caret(inner);
     char_fits(l, !negated, box_char(s, e, x))
 }
 
@@ -281,7 +235,7 @@ pub fn left_form(context: &[u8]) -> OptimizedRegex
     ensures { λ r. ⌜ formNumbers r ≡ formNumbers (kindOf (leftForm (now (context .entry)))) ⌝ }
 {
     let anchored = texts::first_is(context, b'^');
-    form_in(without_caret(context), anchored, true)
+    form_in(texts::without_caret(context), anchored, true)
 }
 
 // The form of a right context.
@@ -289,7 +243,7 @@ pub fn right_form(context: &[u8]) -> OptimizedRegex
     ensures { λ r. ⌜ formNumbers r ≡ formNumbers (kindOf (rightForm (now (context .entry)))) ⌝ }
 {
     let anchored = texts::last_is(context, b'$');
-    form_in(without_dollar(context), true, anchored)
+    form_in(texts::without_dollar(context), true, anchored)
 }
 
 // Whether a left context fits the text before a place; one outside the forms never does.
@@ -297,7 +251,7 @@ pub fn left_fits(context: &[u8], before: &[u8]) -> bool
     ensures { λ r. ⌜ r ≡ fits (leftForm (now (context .entry))) (now (before .entry)) ⌝ }
 {
     let anchored = texts::first_is(context, b'^');
-    fits_in(without_caret(context), anchored, true, before)
+    fits_in(texts::without_caret(context), anchored, true, before)
 }
 
 // Whether a right context fits the text after a pattern; one outside the forms never does.
@@ -305,5 +259,5 @@ pub fn right_fits(context: &[u8], after: &[u8]) -> bool
     ensures { λ r. ⌜ r ≡ fits (rightForm (now (context .entry))) (now (after .entry)) ⌝ }
 {
     let anchored = texts::last_is(context, b'$');
-    fits_in(without_dollar(context), true, anchored, after)
+    fits_in(texts::without_dollar(context), true, anchored, after)
 }

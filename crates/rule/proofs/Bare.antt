@@ -1,6 +1,6 @@
 -- The quick tests: what they say of a text, and the loop that makes them. Assumes nothing.
 use mathlib.Core.Path.{_≡_, refl, sym, ap, _∙_}
-use mathlib.Core.Bool.{Bool, true, false, false≢true}
+use mathlib.Core.Bool.{Bool, true, false}
 use mathlib.Core.List.{List, [], _∷_}
 use Prim.Native.Nat.{ℕ, zero, suc, _+_, _≤_, _<_}
 use native.Mathlib.Numerals.{add-one}
@@ -15,11 +15,11 @@ use Rattle.letters.specs.Reading.{Symbol, symbol, strayByte}
 use Rattle.letters.specs.declared.utf8.Step.the-variants.{Char, Ill}
 use Rattle.letters.proofs.Utf8Laws.{decode-one, char-at, ill-in}
 use Rattle.letters.proofs.ReadingLaws.{Pieces, end, one, bad, pieces-of}
-use Rattle.texts.specs.Parts.{tail, front, placeOf, has}
+use Rattle.texts.specs.Parts.{tail, front, placeOf, has, opening}
 use Rattle.rule.specs.Matching.{plainCode, plainIn, ruleText}
-use Rattle.regex_optim.specs.Contexts.{opening}
-use Rattle.base.proofs.PickLaws.{pick-true, and-inv, and-first}
+use Rattle.base.proofs.PickLaws.{pick-true, and-inv, and-first, pick-past}
 use Rattle.rule.specs.Contracts.{visible, allVisible, bare}
+use Rattle.base.proofs.Arms.{clash}
 
 -- ---- the loop: what is left from i on decides
 
@@ -56,16 +56,11 @@ record Seen (but b : ℕ) : Type 0 where
   high : b ≤ 0x7E
   other : b ≡ but → ⊥
 
-past : (t b : Bool) → pick t false b ≡ true → (t ≡ false) × (b ≡ true)
-unfolding pick
-past true b e = absurd (false≢true e)
-past false b e = (refl, e)
-
 seen : (but b : ℕ) → visible but b ≡ true → Seen but b
 unfolding visible
 seen but b e =
-    let u = past (ltb b 0x23) _ e in
-    let v = past (eqb b but) _ (u .1) in
+    let u = pick-past (ltb b 0x23) _ e in
+    let v = pick-past (eqb b but) _ (u .1) in
     record { low = ltb-false b 0x23 (u .0); high = leb-true b 0x7E (v .1); other = eqb-false b but (v .0) }
 
 seen-at : (but : ℕ) (s : List ℕ) → allVisible but s ≡ true → (i : ℕ) → i < length s → Seen but (getD s i 0)
@@ -83,9 +78,6 @@ plain-seen but b w =
     let q : b ≡ 0x22 → ⊥ = λ e. omega (arith, w .low) in
     let d : b ≡ 0x7F → ⊥ = λ e. omega (arith, w .high) in
     rw (le-ltb b 0x20 l, ne-eqb b 0x22 q, ne-eqb b 0x7F d) refl
-
-clash : {A : Type 0} → _≡_ {A = ℕ} 0 1 → A
-clash e = let no-way : ⊥ = omega arith in absurd no-way
 
 module _ (but : ℕ) (s : List ℕ) (v : allVisible but s ≡ true) where
   one-at : (p : ℕ) → p < length s → Char (getD s p 0) 1 ≡ decodeAt s p

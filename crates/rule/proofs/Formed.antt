@@ -3,14 +3,11 @@ use mathlib.Core.Path.{_≡_, refl}
 use mathlib.Core.Bool.{Bool, true, false}
 use mathlib.Core.List.{List, [], _∷_}
 use Prim.Native.Nat.{ℕ}
-use native.Mathlib.Omega.{arith}
 use Rattle.base.specs.Pick.{pick}
 use Rattle.letters.specs.Reading.{Symbol, symbol, strayByte, symbolsOf, illIn, firstIll}
 use Rattle.letters.specs.declared.utf8.Found.the-variants.{Nothing}
 use Rattle.rule.specs.Matching.{plainCode, plainIn, ruleText}
-
-clash : {A : Type 0} → _≡_ {A = ℕ} 0 1 → A
-clash e = let no-way : ⊥ = omega arith in absurd no-way
+use Rattle.base.proofs.Arms.{clash}
 
 plain-rest : (t b : Bool) → pick t b false ≡ true → b ≡ true
 unfolding pick

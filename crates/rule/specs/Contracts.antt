@@ -4,7 +4,7 @@ use mathlib.Core.Bool.{Bool, false, true}
 use Rattle.base.specs.Pick.{pick, and}
 use lib.Dec.{ltb, eqb, leb}
 use mathlib.Core.List.{List, [], _∷_}
-use Rattle.regex_optim.specs.Contexts.{opening}
+use Rattle.texts.specs.Parts.{opening}
 
 -- quick tests: each byte is a character from `#` to `~` other than one; and, that one being `[`, a text with nothing to be read closer
 unfoldable pub visible : ℕ → ℕ → Bool

@@ -12,12 +12,13 @@ use Rattle.base.specs.Pick.{pick}
 use Rattle.base.proofs.PickLaws.{pick-true, pick-false, pick-all, and-yes, and-first, and-second}
 use Rattle.rule.specs.Matching.{ruleMatches}
 use Rattle.phonemes.proofs.Laws.{match-end}
-use Rattle.pack.specs.Reading.{cut, got}
+use Rattle.strings.specs.Reading.{cut, got}
 use Rattle.pack.specs.Packs.{Rule, readRule}
-use Rattle.pack.specs.PlaceContracts.{ruleStandsAt, behind}
+use Rattle.pack.specs.PlaceContracts.{ruleStandsAt}
+use Rattle.strings.specs.Contracts.{behind}
 use Rattle.pack.specs.declared.rules.RuleAt.{RuleAt}
 use Rattle.pack.specs.declared.rules.RuleAt.the-variants as rules
-use Rattle.pack.proofs.Readers.{place-drop}
+use Rattle.strings.proofs.Readers.{place-drop}
 use Rattle.pack.proofs.RuleLaws.{RuleIs, rule-is, rule-cut, pattern-order, pattern-fits, left-order, left-fits, right-order, right-fits}
 use Rattle.pack.proofs.Laws.{short-rule}
 use Rattle.rule_index.specs.Matching.{Match, none, by, firstMatch}

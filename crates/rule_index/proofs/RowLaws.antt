@@ -14,12 +14,13 @@ use Rattle.base.specs.Pick.{pick}
 use Rattle.base.proofs.PickLaws.{pick-true, pick-false, pick-all, and-first}
 use Rattle.texts.specs.Parts.{prefixOf}
 use Rattle.rule.specs.Matching.{ruleMatches}
-use Rattle.pack.specs.Reading.{Read, got}
-use Rattle.pack.specs.Packs.{Rule, readRule, stringsLength, placeIn}
-use Rattle.pack.specs.PlaceContracts.{ruleStandsAt, ruleCount, listAt, behind}
+use Rattle.strings.specs.Reading.{Read, got, placeIn}
+use Rattle.pack.specs.Packs.{Rule, readRule, stringsLength}
+use Rattle.pack.specs.PlaceContracts.{ruleStandsAt, ruleCount, listAt}
+use Rattle.strings.specs.Contracts.{behind}
 use Rattle.pack.specs.declared.rules.RuleAt.{RuleAt}
 use Rattle.pack.specs.declared.rules.RuleAt.the-variants as rules
-use Rattle.pack.proofs.Readers.{place-drop}
+use Rattle.strings.proofs.Readers.{place-drop}
 use Rattle.pack.proofs.RuleLaws.{RuleIs, rule-is}
 use Rattle.pack.proofs.Laws.{RulesAt, no-rule, one-rule, ListIs, held-pattern, held-good, held-rest, held-whole, good-rule, list-held, list-told}
 use Rattle.rule_index.specs.Matching.{Match, none, by, firstMatch}

@@ -19,7 +19,7 @@ use Rattle.pack.specs.PlaceContracts.{placesOf, surveyedOf, listAt, SurveyIs}
 use Rattle.pack.specs.Numbers.{surveyedNumbers}
 use Rattle.pack.specs.declared.sections.Surveyed.{Surveyed}
 use Rattle.pack.specs.declared.sections.Surveyed.the-variants as surveyed
-use Rattle.pack.proofs.Readers.{clash}
+use Rattle.base.proofs.Arms.{clash}
 use Rattle.pack.proofs.NumberLaws.{surveyed-one}
 use Rattle.pack.proofs.Laws.{RulesAt, no-rule, one-rule, good-rule, languages-few, lists-counted, places-counted, list-held, list-told, SurveyedPack, surveyed-pack}
 use Rattle.rule_index.specs.Matching.{none, Matcher, firstMatch}

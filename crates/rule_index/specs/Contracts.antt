@@ -6,8 +6,10 @@ use mathlib.Core.List.{List, [], _∷_}
 use lib.Dec.{eqb, ltb}
 use lib.ListN.{length, getD, set, take, drop}
 use Rattle.base.specs.Pick.{pick, and}
-use Rattle.pack.specs.Packs.{Rule, Pack, Verdict, accepted, refused, readRule, packOf, placeIn, listCount}
-use Rattle.pack.specs.PlaceContracts.{behind, surveyedOf, placesOf}
+use Rattle.pack.specs.Packs.{Rule, Pack, Verdict, accepted, refused, readRule, packOf, listCount}
+use Rattle.strings.specs.Reading.{placeIn}
+use Rattle.pack.specs.PlaceContracts.{surveyedOf, placesOf}
+use Rattle.strings.specs.Contracts.{behind}
 use Rattle.pack.specs.Numbers.{surveyedNumbers}
 use Rattle.pack.specs.declared.sections.Surveyed.{Surveyed}
 use Rattle.rule_index.specs.Matching.{Match, none, by, Matcher, firstMatch}

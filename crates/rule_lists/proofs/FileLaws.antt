@@ -11,7 +11,7 @@ use borrow.Author.Tests.{ltb-false, leb-true, le-leb}
 use Rattle.base.specs.Pick.{pick}
 use Rattle.refusals.specs.declared.Refusal.{Refusal}
 use Rattle.refusals.specs.declared.Refusal.the-variants.{FileMissing, PatternEmpty, TooMuch}
-use Rattle.name_parts.proofs.Laws.{clash}
+use Rattle.base.proofs.Arms.{clash}
 use Rattle.pack.specs.Packs.{Rule, orderedByCode}
 use Rattle.pack_bytes.specs.Bytes.{textBytes, countBytes, ruleBytes, listBytes}
 use Rattle.pack_bytes.specs.Contracts as bytes
@@ -37,7 +37,7 @@ use Rattle.rule_lists.specs.WritingContracts.{rulePut, SomeKept, RowsPut
 use Rattle.rule_lists.specs.Lists.{listIn, listNamed, firstCodeOf, filesFor, countedRules}
 use Rattle.rule_lists.specs.declared.walk.Collected.{Collected}
 use Rattle.rule_lists.specs.declared.walk.Collected.the-variants as collected
-use Rattle.rule_lists.specs.declared.writing.Written.the-variants.{Done, Refused}
+use Rattle.rule_lists.specs.declared.list_writing.Written.the-variants.{Done, Refused}
 use Rattle.rule_lists.proofs.TableLaws.{kept-rows, kept-low, keys-rows}
 use Rattle.rule_lists.proofs.WalkLaws.{GoodRead, each-read, each-finished, within-all}
 use Rattle.base.proofs.PickLaws.{pick-inv, and-yes}

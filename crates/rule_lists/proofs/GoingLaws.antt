@@ -42,9 +42,7 @@ use Rattle.rule_lists.specs.declared.walk.Entered.the-variants.{Go, Not}
 use Rattle.rule_lists.specs.Lists.{contentIn, filesFor}
 use Rattle.bundles.specs.Contracts.{filesOf}
 use Rattle.rules_parser.specs.Contracts.{itemsAt}
-
-pub clash : {A : Type 0} → _≡_ {A = ℕ} 0 1 → A
-clash e = absurd (omega arith)
+use Rattle.base.proofs.Arms.{clash}
 
 -- ---- what a row tells of the lines that are left
 

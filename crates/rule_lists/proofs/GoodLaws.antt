@@ -7,7 +7,7 @@ use native.Mathlib.Omega.{arith}
 use lib.Dec.{ltb}
 use borrow.Author.Tests.{lt-ltb, eq-eqb}
 use Rattle.refusals.specs.declared.Refusal.the-variants.{PatternEmpty}
-use Rattle.name_parts.proofs.Laws.{clash}
+use Rattle.base.proofs.Arms.{clash}
 use Rattle.regex_optim.specs.declared.OptimizedRegex.{OptimizedRegex}
 use Rattle.regex_optim.specs.declared.OptimizedRegex.the-variants.{AllStringsMatcher, IsEmpty, Equals, StartsWith, EndsWith, EqualsChar, StartsWithChar, EndsWithChar, Outside}
 use Rattle.phonemes.specs.declared.answers.Expression.{Expression}

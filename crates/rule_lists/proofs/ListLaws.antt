@@ -5,25 +5,25 @@ use Prim.Native.Nat.{ℕ, suc, _+_, _-_, _≤_, _<_}
 use native.Mathlib.Omega.{arith}
 use lib.ListN.{length, getD, take, drop, length-take, length-append}
 use Rattle.refusals.specs.declared.Refusal.{Refusal}
-use Rattle.name_parts.specs.Contracts.{Put}
-use Rattle.name_parts.proofs.Laws.{clash, put-then, put-long, put-fits}
-use Rattle.languages.specs.Names.{strings, stringsOf}
-use Rattle.languages.specs.declared.names.Next.{Next}
-use Rattle.languages.specs.declared.names.Next.the-variants as next
-use Rattle.languages.proofs.Laws.{string-whole, string-cut, strings-all}
+use Rattle.writing.specs.Contracts.{Put}
+use Rattle.base.proofs.Arms.{clash}
+use Rattle.writing.proofs.Laws.{put-then, put-long, put-fits}
+use Rattle.strings.specs.Reading.{strings, stringsOf}
+use Rattle.strings.specs.declared.Next.{Next}
+use Rattle.strings.specs.declared.Next.the-variants as next
+use Rattle.strings.proofs.Laws.{string-whole, strings-all, none-left, one-left, part-order, part-fits, walk-less}
 use Rattle.prefixes.specs.declared.prefixes.NameType.{NameType}
 use Rattle.prefixes.specs.declared.prefixes.NameType.the-variants.{Ashkenazi, Generic, Sephardic}
-use Rattle.prefixes.proofs.PrefixLaws.{none-left, one-left, part-order, part-fits, walk-less}
 use Rattle.pack.specs.Packs.{Rule}
 use Rattle.pack_bytes.specs.Bytes.{listBytes}
 use Rattle.pack_bytes.proofs.Laws.{bytes-append}
 use Rattle.bundles.specs.Bundles.{File}
 use Rattle.rule_lists.specs.Outcomes.{Loading, fine, notLoaded, andLoad}
 use Rattle.rule_lists.specs.Lists.{listNamed, listsOf, typePrefix, rulesPart, approxPart, exactPart, commonPart, twoOf, threeOf, listFiles}
-use Rattle.rule_lists.specs.declared.writing.Written.{Written}
-use Rattle.rule_lists.specs.declared.writing.Written.the-variants.{Done, Refused}
+use Rattle.rule_lists.specs.declared.list_writing.Written.{Written}
+use Rattle.rule_lists.specs.declared.list_writing.Written.the-variants.{Done, Refused}
 use Rattle.held.specs.Met.{bytesOfAll}
-use Rattle.languages.specs.Contracts.{stringAt}
+use Rattle.strings.specs.Contracts.{stringAt}
 use Rattle.rule_lists.specs.Contracts.{WrittenIs}
 
 -- ---- what an answer tells
@@ -191,7 +191,7 @@ module _ (names : List ℕ) (fs : List File) where
 
     pub listing-done : r ≡ next.Cut → (o₁ : List ℕ) (s : Written) → Lists (twoOf pre commonPart) o o₁ at s → Lists (listFiles pre (stringsOf names)) o₀ o₁ at₀ s
     unfolding listFiles
-    listing-done q o₁ s v = w .is o₁ s (rw (none-left names from (w .fuel) (string-cut names from r p q)) v)
+    listing-done q o₁ s v = w .is o₁ s (rw (none-left names from r p q (w .fuel)) v)
 
   -- ---- the prefix of a type
 

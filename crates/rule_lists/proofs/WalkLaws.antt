@@ -31,7 +31,8 @@ use Rattle.rule_lists.specs.Lines.{ruleFault, linesOf}
 use Rattle.rule_lists.specs.TableContracts.{RowReads, KeptIs}
 use Rattle.rule_lists.specs.Contracts.{Known, known, ruled, tally, stateOf, Room, StateHolds, Ready, Told, readFrom, WalkIs, keptAs, CollectIs, rowAt}
 use Rattle.rule_lists.proofs.TableLaws.{noted-none, kept-none}
-use Rattle.rule_lists.proofs.GoingLaws.{clash, linesAt, Here, here}
+use Rattle.rule_lists.proofs.GoingLaws.{linesAt, Here, here}
+use Rattle.base.proofs.Arms.{clash}
 use Rattle.rule_lists.specs.declared.lines.Row.{Row}
 use Rattle.rule_lists.specs.declared.lines.Row.the-variants as row
 use Rattle.rule_lists.specs.declared.walk.Task.{Task}

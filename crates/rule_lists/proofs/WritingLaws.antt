@@ -7,8 +7,8 @@ use native.Mathlib.Numerals.{add-one}
 use native.Mathlib.Omega.{arith}
 use lib.ListN.{length, getD, take}
 use lib.Seq.{getD-take, take-suc}
-use Rattle.name_parts.specs.Contracts.{Put, cap}
-use Rattle.name_parts.proofs.Laws.{slice-room, put-none, put-then, put-long, put-place}
+use Rattle.writing.specs.Contracts.{Put, cap}
+use Rattle.writing.proofs.Laws.{slice-room, put-none, put-then, put-long, put-place}
 use Rattle.pack.specs.Packs.{Rule}
 use Rattle.pack_bytes.specs.Bytes.{countBytes}
 use Rattle.held.specs.Contracts.{atPlace, keyBytes}

@@ -39,9 +39,9 @@ use Rattle.rules_parser.specs.Fields.{partOf}
 use Rattle.rules_parser.specs.declared.files.Item.{Item}
 use Rattle.rules_parser.specs.Files.{itemAt}
 use Rattle.rules_parser.specs.declared.lines.FileKind.the-variants.{Rules}
-use Rattle.rule_lists.specs.declared.writing.Written.{Written}
-use Rattle.rule_lists.specs.declared.writing.Written.the-variants.{Done, Refused}
-use Rattle.name_parts.specs.Contracts.{Put}
+use Rattle.rule_lists.specs.declared.list_writing.Written.{Written}
+use Rattle.rule_lists.specs.declared.list_writing.Written.the-variants.{Done, Refused}
+use Rattle.writing.specs.Contracts.{Put}
 
 -- the promise of a function that writes: o and o′ are the buffer before and after, `at` the place, r the answer. A refusal says nothing
 -- of the buffer: a caller writes into one of its own first

@@ -2,19 +2,19 @@
 ghost use mathlib.Core.List.{_++_};
 ghost use Prim.Native.Nat.{_+_, _≤_};
 ghost use lib.ListN.{length};
-ghost use Rattle.name_parts.specs.Contracts.{Put};
-ghost use Rattle.languages.specs.Names.{stringsOf};
+ghost use Rattle.writing.specs.Contracts.{Put};
+ghost use Rattle.strings.specs.Reading.{stringsOf};
 ghost use Rattle.pack_bytes.specs.Bytes.{listBytes};
 ghost use Rattle.rule_lists.specs.Lists.{listNamed, listsOf, twoOf, threeOf, listFiles, commonPart};
 ghost use Rattle.rule_lists.specs.Contracts.{Room, WrittenIs};
 ghost use Rattle.held.specs.Met.{bytesOfAll};
 ghost use Rattle.bundles.specs.Contracts.{filesOf};
+use crate::list_writing::Written;
 use crate::walk::Collected;
-use crate::writing::Written;
 use bundles::FileAt;
-use languages::Next;
 use prefixes::NameType;
 use refusals::Refusal;
+use strings::Next;
 
 // Writes the list of a listed file.
 fn write_list(
@@ -35,7 +35,7 @@ fn write_list(
                 Collected::Rules { n } => {
                     crate::tables::sort(rows, n, lasts);
                     Written::Done {
-                        at: crate::writing::put_rows(bundle, rows, lasts, n, out, at),
+                        at: crate::list_writing::put_rows(bundle, rows, lasts, n, out, at),
                     }
                 }
                 Collected::Refused { why, line, file } => Written::Refused { why, line, file },
@@ -53,9 +53,9 @@ fn write_list(
 fn put_name(prefix: &[u8], kind: &[u8], language: &[u8], out: &mut [u8]) -> usize
     ensures { λ r. ⌜ Put (now (out .entry)) (now (out .exit)) 0 r (now (prefix .entry) ++ (now (kind .entry) ++ now (language .entry))) ⌝ }
 {
-    let a = name_parts::copy(prefix, out, 0);
-    let b = name_parts::copy(kind, out, a);
-    name_parts::copy(language, out, b)
+    let a = writing::copy(prefix, out, 0);
+    let b = writing::copy(kind, out, a);
+    writing::copy(language, out, b)
 }
 
 // Writes the list of the file whose name is of these three parts.
@@ -189,7 +189,7 @@ fn write_all(
     let mut from: usize = 0;
     let mut place = at;
     loop {
-        match languages::string_at(names, from) {
+        match strings::string_at(names, from) {
             Next::Whole { start, end } => {
                 match write_three(
                     bundle,

@@ -30,6 +30,7 @@ use Rattle.rules_parser.specs.declared.lines.Told.the-variants.{Rule, In
 use Rattle.rules_parser.specs.declared.lines.Line.{Line}
 use Rattle.rules_parser.specs.declared.lines.Line.the-variants.{Blank, Comment, Opens, Tells, Bad}
 use Rattle.base.proofs.PickLaws.{pick-true, pick-false, and-yes, and-inv}
+use Rattle.letters.proofs.OrderLaws.{same-is}
 
 -- ---- sound: s is the file f up to the end of the line l
 
@@ -49,16 +50,6 @@ prefix-told (x ∷ t) (y ∷ l) e =
     let w = and-inv _ _ e in
     let h : y ≡ x = eqb-true _ _ (w .0) in
     rw h (ap (λ (r : List ℕ). x ∷ r) (prefix-told t l (w .1)))
-
-same-told : (a b : List ℕ) → sameText a b ≡ true → a ≡ b
-unfolding sameText
-same-told [] [] e = refl
-same-told [] (y ∷ b) e = absurd (false≢true e)
-same-told (x ∷ a) [] e = absurd (false≢true e)
-same-told (x ∷ a) (y ∷ b) e =
-    let w = and-inv _ _ e in
-    let h : x ≡ y = eqb-true _ _ (w .0) in
-    rw h (ap (λ (r : List ℕ). y ∷ r) (same-told a b (w .1)))
 
 -- a field, or blanks and a field, in front of what follows
 met-then : {k : FieldKind} {s : List ℕ} {p : ℕ} {t : Text} {q : ℕ} {A B : Shape} → (m : Met k s p t q) → A (m .written) → B (drop q s) → (A ⨾ B) (drop p s)
@@ -135,7 +126,7 @@ module _ (s z : List ℕ) (p q : ℕ) (x : List ℕ) (e : drop p s ≡ x ++ drop
         pick-where (M Guesses) _ _ _
         (λ i.
         let i₁ = and-inv _ _ i in
-        let j : Word (verdict v) (m₃ .field .written) = rw (same-told (partOf s t₃) (verdict v) g) at (m₃ .field .shape) in
+        let j : Word (verdict v) (m₃ .field .written) = rw (same-is (partOf s t₃) (verdict v) g) at (m₃ .field .shape) in
         rw (m₁ .same z, m₂ .field .same z)
         (is-guess (
           x,

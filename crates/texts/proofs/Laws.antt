@@ -3,6 +3,8 @@ use mathlib.Core.Path.{_≡_, refl, sym, ap, _∙_}
 use mathlib.Core.Bool.{Bool, true, false}
 use mathlib.Core.List.{List, [], _∷_}
 use Prim.Native.Nat.{ℕ, suc, _+_, _-_, _≤_, _<_, zero-le}
+use native.Mathlib.Decide.{decLe}
+use native.Mathlib.Nat.{sub-zero}
 use native.Mathlib.Numerals.{add-one}
 use native.Mathlib.Omega.{arith}
 use lib.Dec.{eqb}
@@ -10,7 +12,8 @@ use lib.ListN.{length, getD, take, drop, drop-of-length-le, length-drop}
 use lib.Seq.{drop-cons, take-all, take-length}
 use borrow.Author.Tests.{lt-ltb, le-ltb, eq-eqb, ne-eqb}
 use Rattle.base.specs.Pick.{pick, and}
-use Rattle.texts.specs.Parts.{tail, front, firstIs, lastIs, placeOf, prefixOf, suffixOf}
+use Rattle.texts.specs.Parts.{tail, front, firstIs, lastIs, placeOf, prefixOf, suffixOf, caret, dollar, withoutCaret, withoutDollar}
+use Rattle.base.proofs.Arms.{clash}
 use Rattle.base.proofs.PickLaws.{pick-true, pick-false, and-no}
 
 -- ---- the first and the last byte
@@ -41,12 +44,12 @@ last-none (x ∷ y ∷ l) b h = absurd (omega arith)
 
 first-long : (b : ℕ) (c : List ℕ) → firstIs b c ≡ true → 0 < length c
 unfolding firstIs
-first-long b [] e = let z : _≡_ {A = ℕ} 0 1 = cc in absurd (omega arith)
+first-long b [] e = clash (cc)
 first-long b (x ∷ c) e = omega arith
 
 last-long : (b : ℕ) (c : List ℕ) → lastIs b c ≡ true → 0 < length c
 unfolding lastIs
-last-long b [] e = let z : _≡_ {A = ℕ} 0 1 = cc in absurd (omega arith)
+last-long b [] e = clash (cc)
 last-long b (x ∷ []) e = omega arith
 last-long b (x ∷ y ∷ l) e = omega arith
 
@@ -68,6 +71,27 @@ module _ (b : ℕ) (c : List ℕ) (t : Bool) where
 
   pub last-some-by : t ≡ lastIs b c → t ≡ true → 1 ≤ length c
   last-some-by e q = last-long b c (sym e ∙ q)
+
+-- ---- without the anchors
+
+module _ (c : List ℕ) (t : Bool) where
+  pub caret-off : t ≡ firstIs caret c → t ≡ true → take (length c - 1) (drop 1 c) ≡ withoutCaret c
+  unfolding withoutCaret
+  caret-off e q = tail-is c ∙ sym (pick-true _ _ _ (sym e ∙ q))
+
+  pub caret-none : t ≡ firstIs caret c → t ≡ false → c ≡ withoutCaret c
+  unfolding withoutCaret
+  caret-none e q = sym (pick-false _ _ _ (sym e ∙ q))
+
+  pub dollar-off : t ≡ lastIs dollar c → t ≡ true → take (length c - 1 - 0) c ≡ withoutDollar c
+  unfolding withoutDollar
+  dollar-off e q = ap (λ (n : ℕ). take n c) (sub-zero (length c - 1)) ∙ front-is c ∙ sym (pick-true _ _ _ (sym e ∙ q))
+
+  pub dollar-none : t ≡ lastIs dollar c → t ≡ false → c ≡ withoutDollar c
+  unfolding withoutDollar
+  dollar-none e q = sym (pick-false _ _ _ (sym e ∙ q))
+
+pub ruleset anchor-laws = (first-some-by, last-some-by, caret-off, caret-none, dollar-off, dollar-none)
 
 -- ---- where a byte stands
 
@@ -114,6 +138,12 @@ unfolding prefixOf
 prefix-short [] s h = absurd (omega arith)
 prefix-short (x ∷ t) [] h = refl
 prefix-short (x ∷ t) (y ∷ s) h = and-no (eqb y x) (prefixOf t s) (prefix-short t s (omega arith))
+
+pub prefix-within : (t s : List ℕ) → prefixOf t s ≡ true → length t ≤ length s
+prefix-within t s e = elim (decLe (length t) (length s)) [
+  | yes k ↦ k
+  | no k ↦ let n = prefix-short t s (omega arith) in clash (cc)
+]
 
 pub record Matching (t s : List ℕ) (i : ℕ) : Type 0 where
   pub fits : length t ≤ length s

@@ -1,4 +1,4 @@
--- What a text begins and ends with, and where a byte stands in it.
+-- What a text begins and ends with, where a byte stands in it, and the signs of contexts and guessing patterns.
 use Prim.Native.Nat.{ℕ, zero, suc, _-_}
 use mathlib.Core.Bool.{Bool, true, false}
 use mathlib.Core.List.{List, [], _∷_}
@@ -44,3 +44,24 @@ prefixOf (x ∷ t) (y ∷ s) = and (eqb y x) (prefixOf t s)
 -- s ends with t
 unfoldable pub suffixOf : List ℕ → List ℕ → Bool
 suffixOf t s = pick (ltb (length s) (length t)) false (prefixOf t (drop (length s - length t) s))
+
+-- ---- the signs of contexts and guessing patterns (01, Contexts, Guessing lines)
+
+abbrev pub caret : ℕ
+caret = 94
+
+abbrev pub dollar : ℕ
+dollar = 36
+
+abbrev pub opening : ℕ
+opening = 91
+
+abbrev pub closing : ℕ
+closing = 93
+
+-- "one leading `^` and one trailing `$` are then taken off"
+unfoldable pub withoutCaret : List ℕ → List ℕ
+withoutCaret t = pick (firstIs caret t) (tail t) t
+
+unfoldable pub withoutDollar : List ℕ → List ℕ
+withoutDollar t = pick (lastIs dollar t) (front t) t

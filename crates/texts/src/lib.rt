@@ -1,6 +1,8 @@
-// Parts of texts: what a text begins and ends with, and where a byte stands in it.
+// Parts of texts: what a text begins and ends with, where a byte or a character stands in it, and a text without its anchors.
 ghost use mathlib.Core.Path.{_≡_};
-ghost use Rattle.texts.specs.Parts.{firstIs, lastIs, placeOf, prefixOf, suffixOf};
+ghost use Rattle.letters.specs.Reading.{codesOf};
+ghost use Rattle.texts.specs.Parts.{firstIs, lastIs, placeOf, has, prefixOf, suffixOf, withoutCaret, withoutDollar};
+use letters::Step;
 
 // Whether the first byte of s is b.
 pub fn first_is(s: &[u8], b: u8) -> bool
@@ -58,5 +60,47 @@ pub fn ends_with(s: &[u8], t: &[u8]) -> bool
         false
     } else {
         starts_with(&s[n - m..n], t)
+    }
+}
+
+// s without one leading `^`.
+pub fn without_caret(s: &[u8]) -> &[u8]
+    ensures { λ r. ⌜ now r ≡ withoutCaret (now (s .entry)) ⌝ }
+{
+    if first_is(s, b'^') { &s[1..s.len()] } else { s }
+}
+
+// s without one trailing `$`.
+pub fn without_dollar(s: &[u8]) -> &[u8]
+    ensures { λ r. ⌜ now r ≡ withoutDollar (now (s .entry)) ⌝ }
+{
+    if last_is(s, b'$') {
+        let n = s.len();
+        &s[0..n - 1]
+    } else {
+        s
+    }
+}
+
+// Whether the character k is among those of l.
+pub fn has_char(l: &[u8], k: u32) -> bool
+    ensures { λ r. ⌜ r ≡ has k (codesOf (now (l .entry))) ⌝ }
+{
+    let mut p: usize = 0;
+    loop {
+        match letters::decode(l, p) {
+            Step::Char { code, len } => {
+                if code == k {
+                    return true;
+                }
+                p += len;
+            }
+            Step::Ill => {
+                p += 1;
+            }
+            Step::End => {
+                return false;
+            }
+        }
     }
 }

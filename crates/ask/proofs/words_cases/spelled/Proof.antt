@@ -1,12 +1,7 @@
-use Prim.Native.Nat.{ℕ}
-use mathlib.Core.Path.{_≡_, sym}
-use lib.ListN.{length, replicate, length-replicate}
 use borrow.Author.Needs.{needs}
+use Rattle.base.proofs.Stores.{zeros}
 use Rattle.ask.proofs.words_cases.spelled.Statement.{statement}
 use Rattle.ask.proofs.words_cases.spelled.Tie as tie
-
-zeros : (n : ℕ) → n ≡ length {A = ℕ} (replicate n 0)
-zeros n = sym (length-replicate n 0)
 
 slice-aggregate-word : tie.Need-slice-aggregate-word
 slice-aggregate-word c = zeros 131072

@@ -1,7 +1,7 @@
 use mathlib.Core.Path.{refl, _∙_}
 use lib.ListN.{length}
 use borrow.Author.Needs.{needs}
-use Rattle.name_parts.proofs.Laws.{put-place}
+use Rattle.writing.proofs.Laws.{put-place}
 use Rattle.engine.specs.Spelling.{afreshBy}
 use Rattle.engine.specs.Contracts.{stepsAt}
 use Rattle.engine.proofs.EncodeLaws.{ready-afresh, afresh-told, skip-within, parted-told, whole-plain, whole-words, several, front-in, front-is}
@@ -25,7 +25,7 @@ use Rattle.engine.proofs.encode.spell_plain.Reads as spell-plain-reads
 use Rattle.name_parts.proofs.join_prefix.Reads as join-prefix-reads
 use Rattle.name_parts.proofs.next_word.Reads as next-word-reads
 use Rattle.name_parts.proofs.past_word.Reads as past-word-reads
-use Rattle.name_parts.proofs.push.Reads as push-reads
+use Rattle.writing.proofs.push.Reads as push-reads
 use Rattle.engine.proofs.encode.+spell_name+spell_words.{statement}
 use Rattle.engine.proofs.encode.+spell_name+spell_words.Tie.{close}
 

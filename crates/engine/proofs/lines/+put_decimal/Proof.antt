@@ -6,7 +6,7 @@ use borrow.Fn.PlainCycle.{Measures, is, falls, and}
 use Rattle.engine.proofs.lines.put_decimal.Reads as put-decimal
 use Rattle.engine.proofs.lines.put_decimal.Kinds as put-decimal-kinds
 use Rattle.engine.proofs.lines.+put_decimal.Lts-put_decimal as put-decimal-lts
-use Rattle.name_parts.proofs.push.Reads as push-reads
+use Rattle.writing.proofs.push.Reads as push-reads
 use Rattle.engine.proofs.lines.+put_decimal.{statement}
 use Rattle.engine.proofs.lines.+put_decimal.Tie.{close}
 

@@ -1,6 +1,6 @@
 use borrow.Author.Needs.{needs}
 use Prim.Native.Nat.{_-_}
-use Rattle.phoneme_builder.proofs.ShiftLaws.{Shift, shift-laws}
+use Rattle.base.proofs.Opening.{Shift, shift-laws}
 use Rattle.phoneme_builder.proofs.set.insert_at.Statement.{statement}
 use Rattle.phoneme_builder.proofs.set.insert_at.Tie as tie
 

@@ -1,5 +1,5 @@
 use Rattle.base.specs.Pick.{pick}
-use Rattle.languages.specs.Names.{strings, stringsOf}
+use Rattle.strings.specs.Reading.{strings, stringsOf}
 use borrow.Author.Needs.{needs}
 use Rattle.prefixes.proofs.PrefixLaws.{prefix-laws}
 use Rattle.prefixes.proofs.prefixes.prefix_of.Statement.{statement}

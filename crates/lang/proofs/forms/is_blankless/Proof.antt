@@ -1,0 +1,7 @@
+use borrow.Author.Needs.{needs}
+use Rattle.lang.proofs.FormLaws.{blank-laws}
+use Rattle.lang.proofs.forms.is_blankless.Statement.{statement}
+use Rattle.lang.proofs.forms.is_blankless.Tie as tie
+
+pub is-blankless-spec : {M : Type 1} → statement M
+is-blankless-spec = tie.close (tie.spec (λ c κs. search needs) (λ c κs. search needs) (λ c. search (blank-laws, needs)) (λ c. search (blank-laws, needs)))

@@ -1,0 +1,22 @@
+use native.Mathlib.Omega.{arith}
+use borrow.Author.Needs.{needs}
+use Rattle.lang.proofs.PieceLaws.{length-fits, front-laws}
+use Rattle.lang.proofs.pieces.piece_len.Statement.{statement}
+use Rattle.lang.proofs.pieces.piece_len.Tie as tie
+
+add-result : tie.Need-add-result
+add-result c = omega (arith, length-fits _ _ (c .before .before .before .first-is .ensures) _ (c .before .before .if1 .taken) (c .box-len .ensures))
+
+pub piece-len-spec : {M : Type 1} → statement M
+piece-len-spec =
+    tie.close
+    (tie.spec
+    (λ c κs. search (front-laws, needs))
+    (λ c. search (front-laws, needs))
+    (λ c. search (front-laws, needs))
+    (λ c. search (front-laws, needs))
+    (λ c κs. search (front-laws, needs))
+    add-result
+    (λ c κs. search (front-laws, needs))
+    (λ c. search (front-laws, needs))
+    (λ c. search (front-laws, needs)))
