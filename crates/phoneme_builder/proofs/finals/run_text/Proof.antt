@@ -8,7 +8,7 @@ begin-requires : tie.Need-begin-requires
 begin-requires c κs = (search needs, search (code-in, needs))
 
 returns : tie.Need-returns
-returns c = text-ran (@pre) _ (@begin .ensures) _ _ _ _ _ (@copy-text .ensures) (@langs-at .ensures) _ (@run .ensures)
+returns c = text-ran (c .before .before .before .before .before .before .before .before .before .before .before .before .before .before .before .before .pre) _ (c .before .before .before .before .before .before .begin .ensures) _ _ _ _ _ (c .before .before .before .before .before .before .before .before .before .before .before .copy-text .ensures) (c .before .before .before .before .before .before .before .before .before .langs-at .ensures) _ (c .run .ensures)
 
 pub run-text-spec : {M : Type 1} → statement M
 run-text-spec =

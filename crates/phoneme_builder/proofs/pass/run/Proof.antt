@@ -3,7 +3,7 @@ use Prim.Native.Nat.{_-_}
 use lib.ListN.{length}
 use Rattle.phoneme_builder.specs.BufferContracts.{arena, entriesAt}
 use Rattle.phoneme_builder.specs.Contracts.{namesOf, rulesOf, runOf}
-use Rattle.phoneme_builder.proofs.PassLaws.{Running, running-laws, running-into}
+use Rattle.phoneme_builder.proofs.PassLaws.{Running, running-laws, running-into, step-within, skip-within}
 use Rattle.phoneme_builder.proofs.pass.run.Statement.{statement}
 use Rattle.phoneme_builder.proofs.pass.run.Tie as tie
 use Rattle.phoneme_builder.proofs.pass.run.Reads as reads
@@ -29,7 +29,7 @@ enum-known-texts : tie.Need-enum-known-texts Inv-loop μ-loop
 enum-known-texts c = search needs
 
 past-requires : tie.Need-past-requires Inv-loop μ-loop
-past-requires c κs = search (running-laws, needs)
+past-requires c κs = step-within (c .before .before .before .before .before .before .before .before .loop .inv) (c .before .before .before .before .before .before .before .loop-test .taken) _ _ (c .before .before .before .turn .ensures) _ _ _ (c .before .texts .given .1)
 
 either-requires : tie.Need-either-requires Inv-loop μ-loop
 either-requires c κs = search needs
@@ -38,13 +38,13 @@ loop-less : tie.Need-loop-less Inv-loop μ-loop
 loop-less c = search (running-laws, needs)
 
 loop-again : tie.Need-loop-again Inv-loop μ-loop
-loop-again c = running-into (@loop .inv) (@loop-test .taken) _ _ (@turn .ensures) _ _ _ _ (@texts .given .1) (@either .ensures) _ (@past .ensures)
+loop-again c = running-into (c .before .before .before .before .before .before .before .before .before .before .loop .inv) (c .before .before .before .before .before .before .before .before .before .loop-test .taken) _ _ (c .before .before .before .before .before .turn .ensures) _ _ _ _ (c .before .before .before .texts .given .1) (c .either .ensures) _ (c .before .past .ensures)
 
 enum-known-step : tie.Need-enum-known-step Inv-loop μ-loop
 enum-known-step c = search needs
 
 past-requires-2 : tie.Need-past-requires-2 Inv-loop μ-loop
-past-requires-2 c κs = search (running-laws, needs)
+past-requires-2 c κs = skip-within (c .before .before .before .before .before .before .before .before .loop .inv) (c .before .before .before .before .before .before .before .loop-test .taken) _ _ (c .before .before .before .turn .ensures) _ (c .before .step .given .1)
 
 loop-less-2 : tie.Need-loop-less-2 Inv-loop μ-loop
 loop-less-2 c = search (running-laws, needs)
