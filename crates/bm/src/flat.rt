@@ -37,7 +37,8 @@ fn number(s: Spelled, tail: &mut [u64]) -> u32
 // The pack of a bundle: the code; `tail` takes bytes written or place, and the file's number.
 #[no_mangle]
 pub extern "C" fn bm_load(name_type: u32, bundle: &[u8], out: &mut [u8], tail: &mut [u64]) -> u32
-    ensures { λ r. ⌜ LoadFlat (written (loadOf «name_type» (now (bundle .entry)))) (now (out .entry)) (now (out .exit)) (now (tail .entry)) (now (tail .exit)) r ⌝ }
+    ensures { λ r. ⌜ LoadFlat (written (loadOf «name_type» (now (bundle .entry))))
+        (now (out .entry)) (now (out .exit)) (now (tail .entry)) (now (tail .exit)) r ⌝ }
 {
     if tail.len() < 2 {
         return 255;
@@ -88,7 +89,8 @@ pub extern "C" fn bm_spell(
     out: &mut [u8],
     tail: &mut [u64],
 ) -> u32
-    ensures { λ r. ⌜ SpellFlat (callOf (settingsOf «name_type» «rule_type» concat limit) Guessed (now (pack .entry)) (now (name .entry))) (now (out .entry)) (now (out .exit)) (now (tail .entry)) (now (tail .exit)) r ⌝ }
+    ensures { λ r. ⌜ SpellFlat (callOf (settingsOf «name_type» «rule_type» concat limit) Guessed (now (pack .entry)) (now (name .entry)))
+        (now (out .entry)) (now (out .exit)) (now (tail .entry)) (now (tail .exit)) r ⌝ }
 {
     if tail.len() < 2 {
         return 255;
@@ -117,7 +119,8 @@ pub extern "C" fn bm_spell_given(
     out: &mut [u8],
     tail: &mut [u64],
 ) -> u32
-    ensures { λ r. ⌜ SpellFlat (callOf (settingsOf «name_type» «rule_type» concat limit) (Given kind bits) (now (pack .entry)) (now (name .entry))) (now (out .entry)) (now (out .exit)) (now (tail .entry)) (now (tail .exit)) r ⌝ }
+    ensures { λ r. ⌜ SpellFlat (callOf (settingsOf «name_type» «rule_type» concat limit) (Given kind bits) (now (pack .entry)) (now (name .entry)))
+        (now (out .entry)) (now (out .exit)) (now (tail .entry)) (now (tail .exit)) r ⌝ }
 {
     if tail.len() < 2 {
         return 255;
@@ -159,7 +162,8 @@ pub extern "C" fn bm_spell_lines(
     out: &mut [u8],
     tail: &mut [u64],
 ) -> u32
-    ensures { λ r. ⌜ LinesFlat (callOf (settingsOf «name_type» «rule_type» concat limit) (startOf given kind bits) (now (pack .entry))) (now (block .entry)) (now (out .entry)) (now (out .exit)) (now (tail .entry)) (now (tail .exit)) r ⌝ }
+    ensures { λ r. ⌜ LinesFlat (callOf (settingsOf «name_type» «rule_type» concat limit) (startOf given kind bits) (now (pack .entry))) (now (block .entry))
+        (now (out .entry)) (now (out .exit)) (now (tail .entry)) (now (tail .exit)) r ⌝ }
 {
     if tail.len() < 2 {
         return 255;

@@ -16,7 +16,7 @@ use Rattle.pack.specs.Packs.{Rule, Pack, packOf, accepted, all, ruleGood, listG
 use Rattle.pack.proofs.Laws.{GoodRule, good-rule, ListsAt, no-list, one-list, is-pack}
 use Rattle.choices.specs.Texts.{Text}
 use Rattle.base.proofs.Arms.{clash}
-use Rattle.phoneme_builder.specs.Passes.{Match, by, firstMatch}
+use Rattle.rule_index.specs.Matching.{Match, by, firstMatch}
 use Rattle.engine.specs.Calls.{listNumbered}
 use Rattle.code_points.proofs.Bytes.{formed-of}
 use Rattle.code_points.proofs.Cuts.{prefix-split, pieces-formed}

@@ -18,7 +18,8 @@ use Rattle.choices.specs.Apply.{Entry, textsOf, NextSet, overlong, nextSet, app
 use Rattle.choices.specs.Choices.{Increasing, First}
 use Rattle.phoneme_builder.specs.Sets.{Spelling, refusal}
 use Rattle.phoneme_builder.specs.Sets as sets
-use Rattle.phoneme_builder.specs.Passes.{offered, Match, none as nothing, by, Matcher, Turn, rule, letter, stepLength, turnOn, turnsFrom, turnsOf, Ran, tooLong, ran, flagged, applied, afterLetter, unmatched, run, raised, onRan, finalText, finalFrom, finalPass, then, mainOf, wordOf}
+use Rattle.rule_index.specs.Matching.{Match, none as nothing, by, Matcher}
+use Rattle.phoneme_builder.specs.Passes.{offered, Turn, rule, letter, stepLength, turnOn, turnsFrom, turnsOf, Ran, tooLong, ran, flagged, applied, afterLetter, unmatched, run, raised, onRan, finalText, finalFrom, finalPass, then, mainOf, wordOf}
 use Rattle.code_points.proofs.Bytes.{after, Formed, formed-rest, char-formed, char-rest, ill-not}
 use Rattle.code_points.proofs.Cuts.{Every, none, more, text-formed}
 use Rattle.code_points.proofs.Sets.{Proper, ProperSet, FormedAlternative, apply-proper, appended-proper, ProperSpelling, united-proper, empty-proper}

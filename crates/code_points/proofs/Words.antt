@@ -12,7 +12,8 @@ use Rattle.choices.specs.Texts.{Text}
 use Rattle.choices.specs.Apply.{Entry, textsOf, start}
 use Rattle.phoneme_builder.specs.Sets.{Spelling}
 use Rattle.phoneme_builder.specs.Sets as sets
-use Rattle.phoneme_builder.specs.Passes.{firstMatch, turnsOf, Ran, ran, run, finalPass, wordOf}
+use Rattle.rule_index.specs.Matching.{firstMatch}
+use Rattle.phoneme_builder.specs.Passes.{turnsOf, Ran, ran, run, finalPass, wordOf}
 use Rattle.engine.specs.Calls.{listNumbered}
 use Rattle.code_points.specs.CodePoints.{AllWellFormed, InCodeOrder}
 use Rattle.code_points.proofs.Bytes.{formed-of}

@@ -14,7 +14,8 @@ use Rattle.choices.specs.Apply.{Alternative, Entry, NextSet, overlong, nextSet,
 use Rattle.base.proofs.Arms.{clash}
 use Rattle.choices.proofs.ApplyLaws.{Applied}
 use Rattle.phoneme_builder.specs.Sets.{Spelling, refusal, texts, holdsText, remerged, united}
-use Rattle.phoneme_builder.specs.Passes.{Matcher, Turn, rule, letter, turnsOf, Ran, tooLong, ran, flagged, applied, afterLetter, unmatched, run, raised, onRan, finalText, finalFrom, finalPass, then, mainOf, wordOf}
+use Rattle.rule_index.specs.Matching.{Matcher}
+use Rattle.phoneme_builder.specs.Passes.{Turn, rule, letter, turnsOf, Ran, tooLong, ran, flagged, applied, afterLetter, unmatched, run, raised, onRan, finalText, finalFrom, finalPass, then, mainOf, wordOf}
 use Rattle.demands.specs.Applies.{UpWhen, ApplyOf, Reached, FinalReached, WordReached, in-main, in-common, in-language}
 
 -- ---- flags

@@ -15,7 +15,8 @@ use Rattle.choices.specs.Choices.{_∈_, Choice, end, choose, spelt, leaves, Ho
 use Rattle.base.proofs.Arms.{clash}
 use Rattle.choices.proofs.SetLaws.{times-one}
 use Rattle.choices.proofs.ApplyLaws.{Applied, From, from, holds-eq, apply-from, apply-has, apply-increasing}
-use Rattle.phoneme_builder.specs.Passes.{Matcher, Turn, rule, letter, turnsOf, ran, applied, afterLetter, unmatched, run}
+use Rattle.rule_index.specs.Matching.{Matcher}
+use Rattle.phoneme_builder.specs.Passes.{Turn, rule, letter, turnsOf, ran, applied, afterLetter, unmatched, run}
 use Rattle.demands.specs.Applies.{ApplyOf, Reached}
 use Rattle.demands.specs.Demands.{rulePlaces, StayedFewer, AlikeAgree, Demand3OfWord}
 use Rattle.demands.proofs.Applies.{flagged-inv, first-apply, behind-rule, behind-letter, run-flag}

@@ -23,7 +23,8 @@ use Rattle.choices.specs.Apply.{Alternative, Places, Entry, insert, under, cand
 use Rattle.choices.specs.Choices.{here, there, Choice, end, choose, spelt, leaves, times}
 use Rattle.base.proofs.Arms.{clash}
 use Rattle.choices.proofs.Tests.{sameSet, fits as agrees, agreeing, allAgree, alike-by-test}
-use Rattle.phoneme_builder.specs.Passes.{Turn, offered, firstMatch, stepLength, turnOn, turnsFrom, turnsOf, Ran, ran, flagged, applied, afterLetter, unmatched, run}
+use Rattle.rule_index.specs.Matching.{firstMatch}
+use Rattle.phoneme_builder.specs.Passes.{Turn, offered, stepLength, turnOn, turnsFrom, turnsOf, Ran, ran, flagged, applied, afterLetter, unmatched, run}
 use Rattle.demands.specs.Demands.{rulePlaces, StayedFewer, AlikeAgree, Demand3OfWord}
 use Rattle.demands.proofs.Demand3.{demand-3-of-a-word}
 

@@ -9,7 +9,8 @@ use Rattle.languages.specs.declared.sets.LanguageSet.{LanguageSet}
 use Rattle.choices.specs.Texts.{Text}
 use Rattle.choices.specs.Apply.{Alternative, Entry, nextSet, apply, start}
 use Rattle.phoneme_builder.specs.Sets.{texts}
-use Rattle.phoneme_builder.specs.Passes.{Matcher, Turn, rule, turnsOf, ran, run, finalPass}
+use Rattle.rule_index.specs.Matching.{Matcher}
+use Rattle.phoneme_builder.specs.Passes.{Turn, rule, turnsOf, ran, run, finalPass}
 
 -- a flag that is up exactly when P holds
 pub record UpWhen (flag : Bool) (P : Type 0) : Type 0 where

@@ -31,7 +31,8 @@ use Rattle.refusals.specs.declared.Refusal.the-variants.{PackBroken, NoSuchLang
 use Rattle.choices.specs.Texts.{Text}
 use Rattle.engine.specs.Spelling.{Spelt, unspelt, speltAs, onePart, partedAs, spelledName}
 use Rattle.engine.specs.Calls.{settingsKnown, kindKnown, haveLanguages, stepsBy, stepsOf, spelledBy, CallOutcome, refusedBy, outcomeOf, onPack, checkedThen, callOf, numbersIn, spelledNumbers, filledBy, SpellIs}
-use Rattle.engine.specs.Contracts.{packIn, Blank, AtDesk, DeskIs, CallReady, Scratch, callFor, FoundIs, stepsAt, startAt, isSpelt, ToldBy, NameTold, wholeBy, ToldWhole, answeredBy, wholeAnd, KeptAll, none, over, copied, HeldApartIs, toldOf}
+use Rattle.rule_index.specs.Contracts.{packIn}
+use Rattle.engine.specs.Contracts.{AtDesk, DeskIs, CallReady, Scratch, callFor, FoundIs, stepsAt, startAt, isSpelt, ToldBy, NameTold, wholeBy, ToldWhole, answeredBy, wholeAnd, KeptAll, none, over, copied, HeldApartIs, toldOf}
 use Rattle.engine.specs.declared.call.Call.{Call}
 use Rattle.engine.specs.declared.encode.Ends.{Ends}
 use Rattle.engine.specs.declared.spelling.Spelled.{Spelled}
@@ -216,7 +217,7 @@ known-kind : (c : Settings) (start : Start) → settingsKnown c start ≡ true �
 unfolding settingsKnown
 known-kind c start e = and-inv _ _ (and-inv _ _ (and-inv _ _ (and-inv _ _ e .1) .1) .1) .1
 
-module _ (s places : List ℕ) (c : Settings) (start : Start) (languages guesses other : ℕ) (low : Text) (desk : AtDesk s places languages guesses other)
+module _ (s : List ℕ) (table : List (List ℕ)) (c : Settings) (start : Start) (languages guesses other : ℕ) (low : Text) (desk : AtDesk s table languages guesses other)
     (call : Call) (e : call ≡ callFor c start languages guesses other (guessedAt s guesses languages low)) where
   few-here : languages ≤ 32
   few-here = omega (arith, desk .languages-are, languages-few s (packIn s) guesses (desk .is) (desk .guesses-are))
@@ -224,7 +225,7 @@ module _ (s places : List ℕ) (c : Settings) (start : Start) (languages guesses
   guess-here : guessedAt s guesses languages low ≡ guessed (length (packIn s .names)) (packIn s .guesses) low
   guess-here = ap (λ (n : ℕ). guessedAt s guesses n low) (desk .languages-are) ∙ guess-told s (packIn s) guesses (desk .is) (desk .guesses-are) low
 
-  call-ready : settingsKnown c start ≡ true → haveLanguages languages start ≡ true → CallReady s places call
+  call-ready : settingsKnown c start ≡ true → haveLanguages languages start ≡ true → CallReady s table call
   unfolding callFor
   call-ready known have =
       let limits = known-limits c start known in
@@ -245,13 +246,13 @@ refused-told : {why : Refusal} {p : ℕ} {x : CallOutcome} (o : List ℕ) → x 
 unfolding spelledNumbers numbersIn filledBy
 refused-told o e = rw e (record { result = refl; buffer = refl })
 
-pub desk-at : (s places : List ℕ) (d : Desk) (l g a : ℕ) → DeskIs s places d → d ≡ Open l g a → AtDesk s places l g a
+pub desk-at : (s : List ℕ) (table : List (List ℕ)) (d : Desk) (l g a : ℕ) → DeskIs s table d → d ≡ Open l g a → AtDesk s table l g a
 unfolding DeskIs
-desk-at s places d l g a w e = rw e at w
+desk-at s table d l g a w e = rw e at w
 
-desk-no : (s places : List ℕ) (d : Desk) (p : ℕ) → DeskIs s places d → d ≡ Shut p → packOf s ≡ refused p
+desk-no : (s : List ℕ) (table : List (List ℕ)) (d : Desk) (p : ℕ) → DeskIs s table d → d ≡ Shut p → packOf s ≡ refused p
 unfolding DeskIs
-desk-no s places d p w e = rw e at w
+desk-no s table d p w e = rw e at w
 
 module _ (c : Settings) (start : Start) (name : Text) (r : Named) (found : FoundIs (checkedThen c start name) r) (e : r ≡ Fine) where
   pub name-short : length name ≤ 96
@@ -260,16 +261,16 @@ module _ (c : Settings) (start : Start) (name : Text) (r : Named) (found : Found
   pub part-short : (o : List ℕ) → length (take (length name - 0) (drop 0 o)) ≤ 96
   part-short o = omega (arith, length-take (length name - 0) o, name-short)
 
-module _ (c : Settings) (start : Start) (s places : List ℕ) (name : Text) (r : Named) (found : FoundIs (checkedThen c start name) r) where
+module _ (c : Settings) (start : Start) (s : List ℕ) (table : List (List ℕ)) (name : Text) (r : Named) (found : FoundIs (checkedThen c start name) r) where
   pub at-wrong : (o : List ℕ) (why : Refusal) (p : ℕ) → r ≡ Wrong why p → SpellIs (callOf c start s name) o (Refused why p) o
   at-wrong o why p e = refused-told o (wrong-name c start s name r why p found e)
 
   module _ (e : r ≡ Fine) where
-    pub at-shut : (o : List ℕ) (d : Desk) (p : ℕ) → DeskIs s places d → d ≡ Shut p → SpellIs (callOf c start s name) o (Refused PackBroken p) o
+    pub at-shut : (o : List ℕ) (d : Desk) (p : ℕ) → DeskIs s table d → d ≡ Shut p → SpellIs (callOf c start s name) o (Refused PackBroken p) o
     unfolding onPack
-    at-shut o d p w q = refused-told o (fine-call c start s name r found e ∙ ap (onPack c start s name) (desk-no s places d p w q))
+    at-shut o d p w q = refused-told o (fine-call c start s name r found e ∙ ap (onPack c start s name) (desk-no s table d p w q))
 
-    module _ (languages guesses other : ℕ) (desk : AtDesk s places languages guesses other) where
+    module _ (languages guesses other : ℕ) (desk : AtDesk s table languages guesses other) where
       pub few-at : languages ≤ 32
       few-at = omega (arith, desk .languages-are, languages-few s (packIn s) guesses (desk .is) (desk .guesses-are))
 
@@ -286,8 +287,8 @@ module _ (c : Settings) (start : Start) (s places : List ℕ) (name : Text) (r :
 
         -- spelled by the call of the lower-cased name, which stands in a buffer
         module _ (y : t ≡ true) (low : Text) (el : low ≡ lowerText name) (call : Call) (ec : call ≡ callFor c start languages guesses other (guessedAt s guesses languages low)) where
-          pub at-ready : CallReady s places call
-          at-ready = call-ready s places c start languages guesses other low desk call ec (fine-name c start name r found e .0) (sym et ∙ y)
+          pub at-ready : CallReady s table call
+          at-ready = call-ready s table c start languages guesses other low desk call ec (fine-name c start name r found e .0) (sym et ∙ y)
 
           pub at-open : (text : Text) → text ≡ spaced (lowerText name) → {a : Ends} {ans : Spelled} {o o′ : List ℕ} → length o * 1 < cap
               → ToldWhole (spelledName (stepsAt s call) (startAt s call text) text) o o′ 0 a → ans ≡ answeredBy a (length o′) → SpellIs (callOf c start s name) o ans o′
@@ -295,7 +296,7 @@ module _ (c : Settings) (start : Start) (s places : List ℕ) (name : Text) (r :
               let here : text ≡ spaced low = ex ∙ ap spaced (sym el) in
               let is : callOf c start s name ≡ outcomeOf (spelledName (stepsAt s call) (startAt s call text) text) =
               on-pack ∙ pick-true _ _ _ y ∙ ap (λ (x : Text). outcomeOf (spelledBy (stepsOf s (packIn s) c) start x)) (sym el)
-              ∙ ap outcomeOf (sym (spelled-is s places c start languages guesses other low desk call ec))
+              ∙ ap outcomeOf (sym (spelled-is s table c start languages guesses other low desk call ec))
               ∙ ap (λ (x : Text). outcomeOf (spelledName (stepsAt s call) (startAt s call x) x)) (sym here) in
               rw is (answer-told (spelledName (stepsAt s call) (startAt s call text) text) h q ea)
 
@@ -305,10 +306,3 @@ spell-one a b = (numbers-one _ _ (one (a .result) (b .result)), one (a .buffer) 
 
 pub scratch-new : (a b : ℕ) → a ≡ 131072 → b ≡ 1024 → Scratch (length (replicate {A = ℕ} a 0)) (length (replicate {A = ℕ} b 0))
 scratch-new a b ea eb = record { store-is = length-replicate {A = ℕ} a 0 ∙ ea; marks-is = length-replicate {A = ℕ} b 0 ∙ eb }
-
-pub blank-new : (n : ℕ) → n ≡ 12642 → Blank (replicate n 0)
-blank-new n e = record { long = length-replicate n 0 ∙ e; clear = λ j. zero-by j _ refl }
-  where
-    zero-by : (j : ℕ) (b : Bool) → ltb j n ≡ b → _≡_ {A = ℕ} (getD (replicate n 0) j 0) 0
-    zero-by j true h = getD-replicate n j 0 0 (ltb-true _ _ h)
-    zero-by j false h = let k : n ≤ j = ltb-false _ _ h in List·getD-eq-default (replicate n 0) 0 (omega (arith, length-replicate {A = ℕ} n 0))

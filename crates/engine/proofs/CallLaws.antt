@@ -26,19 +26,21 @@ use Rattle.languages.specs.declared.names.Listed.{Listed}
 use Rattle.languages.specs.declared.names.Listed.the-variants.{Bit, Unlisted}
 use Rattle.languages.specs.declared.sets.LanguageSet.{LanguageSet}
 use Rattle.languages.specs.declared.sets.LanguageSet.the-variants.{Any, NoLanguages, SomeLanguages}
-use Rattle.pack.specs.Packs.{Pack, Verdict, accepted, refused, any, holds, namesGood, listCount, packOf, stringsLength}
+use Rattle.pack.specs.Packs.{Pack, Verdict, accepted, refused, any, holds, namesGood, packOf, stringsLength}
 use Rattle.pack.proofs.NumberLaws.{surveyed-one}
-use Rattle.pack.specs.PlaceContracts.{placesOf, surveyedOf, SurveyIs}
+use Rattle.pack.specs.PlaceContracts.{surveyedOf}
+use Rattle.rule_index.specs.Contracts.{packIn, IndexIs}
+use Rattle.rule_index.proofs.TableLaws.{pack-in}
 use Rattle.pack.specs.declared.sections.Surveyed.{Surveyed}
 use Rattle.pack.specs.declared.sections.Surveyed.the-variants as surveyed
-use Rattle.pack.proofs.Laws.{is-pack, languages-few, guesses-within, names-strings, places-counted, SurveyedPack, surveyed-pack}
+use Rattle.pack.proofs.Laws.{is-pack, languages-few, guesses-within, names-strings, SurveyedPack, surveyed-pack}
 use Rattle.prefixes.specs.declared.prefixes.NameType.{NameType}
 use Rattle.choices.specs.Texts.{Text}
 use Rattle.base.proofs.Arms.{clash}
 use Rattle.refusals.specs.declared.Refusal.{Refusal}
 use Rattle.refusals.specs.declared.Refusal.the-variants.{NotUtf8, OutsideRange, NameTooLong, SettingUnknown}
 use Rattle.engine.specs.Calls.{kindKnown, settingsKnown, haveLanguages, typeOf, startSet, CallOutcome, refusedBy, key, unless, onPack, lettersThen, checkedThen, callOf}
-use Rattle.engine.specs.Contracts.{packBy, packIn, ByTable, Blank, ListsPlaced, DeskIs, callFor, foundBy, FoundIs}
+use Rattle.engine.specs.Contracts.{DeskIs, callFor, foundBy, FoundIs}
 use Rattle.engine.specs.declared.call.Settings.{Settings}
 use Rattle.engine.specs.declared.call.Start.{Start}
 use Rattle.engine.specs.declared.call.Start.the-variants.{Guessed, Given}
@@ -137,30 +139,14 @@ any-held s p e =
     let good = and-inv _ _ (and-inv _ _ (and-inv _ _ (w .front .passes) .1) .1) .1 in
     held-place any (p .names) (ap (holds any) (sym (w .names)) ∙ good)
 
-pack-in : (s : List ℕ) (p : Pack) → packOf s ≡ accepted p → packIn s ≡ p
-unfolding packIn packBy
-pack-in s p e = ap packBy e
-
-module _ (t vs : List ℕ) (h : length vs ≤ length t) (k : ℕ) where
-  front-is : getD (sets t 0 vs) k 0 ≡ getD (vs ++ drop (0 + length vs) t) k 0
-  front-is = ap (λ (x : List ℕ). getD x k 0) (sets-eq vs t 0 (omega arith))
-
-  front-held : k < length vs → getD (sets t 0 vs) k 0 ≡ getD vs k 0
-  front-held l = front-is ∙ List·getD-append vs _ 0 k l
-
-  front-past : length vs ≤ k → ((j : ℕ) → getD t j 0 ≡ 0) → getD (sets t 0 vs) k 0 ≡ 0
-  front-past l z =
-      let e : k ≡ length vs + (k - length vs) = omega arith in
-      front-is ∙ ap (λ (j : ℕ). getD (vs ++ drop (0 + length vs) t) j 0) e ∙ getD-append-add vs _ (k - length vs) 0 ∙ getD-drop (0 + length vs) t (k - length vs) 0 ∙ z _
-
-shut-by : (s t : List ℕ) (place : ℕ) (v : Verdict) → packOf s ≡ v → surveyedOf v ≡ surveyed.Refused place → DeskIs s t (Shut place)
+shut-by : (s : List ℕ) (t : List (List ℕ)) (place : ℕ) (v : Verdict) → packOf s ≡ v → surveyedOf v ≡ surveyed.Refused place → DeskIs s t (Shut place)
 unfolding surveyedOf DeskIs
 shut-by s t place (accepted p) e q = clash (cc)
 shut-by s t place (refused k) e q = let is : k ≡ place = cc in e ∙ ap refused is
 
-module _ (s t t′ : List ℕ) (r : Surveyed) (w : SurveyIs s t r t′) where
-  pub desk-shut : (place : ℕ) → r ≡ surveyed.Refused place → DeskIs s t′ (Shut place)
-  desk-shut place q = shut-by s t′ place _ refl (sym (surveyed-one _ _ (w .result)) ∙ q)
+module _ (s : List ℕ) (t : List (List ℕ)) (r : Surveyed) (w : IndexIs s r t) where
+  pub desk-shut : (place : ℕ) → r ≡ surveyed.Refused place → DeskIs s t (Shut place)
+  desk-shut place q = shut-by s t place _ refl (sym (surveyed-one _ _ (w .result)) ∙ q)
 
   module _ (n g : ℕ) (q : r ≡ surveyed.Accepted n g) where
     found : SurveyedPack s n g
@@ -188,34 +174,9 @@ module _ (s t t′ : List ℕ) (r : Surveyed) (w : SurveyIs s t r t′) where
     languages : n ≡ length (packIn s .names)
     languages = found .languages ∙ ap (λ (x : Pack). length (x .names)) same
 
-    places-many : length (placesOf s) ≡ 3 * n + 2
-    unfolding listCount
-    places-many = places-counted s (found .pack) g (found .is) (found .guesses) ∙ ap listCount (sym (found .languages))
-
-    pub lists-many : 3 * n + 2 ≡ listCount (length (packIn s .names))
-    unfolding listCount
-    lists-many = ap listCount languages
-
-    pub thrice-fits : Fits w64 (3 * n)
-    thrice-fits = record { fits = omega (arith, few) }
-
-    pub lists-fit : Fits w64 (3 * n + 2)
-    lists-fit = record { fits = omega (arith, few) }
-
-    -- the table with the lists' places, and nothing else
-    pub desk-placed : Blank t → ListsPlaced s t′ 0
-    desk-placed h =
-        let room : length (placesOf s) ≤ length t = omega (arith, h .long, places-many, few) in
-        record {
-          is = found .is ∙ ap accepted same;
-          long = ap length (w .buffer) ∙ length-sets t 0 (placesOf s) ∙ h .long;
-          places = λ k l. ap (λ (x : List ℕ). getD x k 0) (w .buffer) ∙ front-held t (placesOf s) room k (omega (arith, places-many, lists-many));
-          clear = λ k l. ap (λ (x : List ℕ). getD x k 0) (w .buffer) ∙ front-past t (placesOf s) room k (omega (arith, places-many, few)) (h .clear);
-        }
-
-    pub desk-open : (other : ℕ) (t₂ : List ℕ) → ByTable s t₂ (3 * n + 2) → other ≡ namePlace any (stringsOf (take (g - 1) (drop 1 s))) → DeskIs s t₂ (Open n g other)
-    unfolding DeskIs listCount
-    desk-open other t₂ v o =
+    pub desk-open : (other : ℕ) → other ≡ namePlace any (stringsOf (take (g - 1) (drop 1 s))) → DeskIs s t (Open n g other)
+    unfolding DeskIs
+    desk-open other o =
         let is-any : other ≡ namePlace any (found .pack .names) = o ∙ ap (namePlace any) strings in
         record {
           is = found .is ∙ ap accepted same;
@@ -223,10 +184,10 @@ module _ (s t t′ : List ℕ) (r : Surveyed) (w : SurveyIs s t r t′) where
           guesses-are = found .guesses ∙ ap (λ (x : Pack). 1 + stringsLength (x .names)) same;
           any-is = is-any ∙ ap (λ (x : Pack). namePlace any (x .names)) same;
           any-below = omega (arith, is-any, found .languages, any-held s (found .pack) (found .is));
-          table = v;
+          finds = w .found;
         }
 
-pub ruleset desk-laws = (desk-shut, names-start, names-end, any-there, lists-many, thrice-fits, lists-fit, desk-placed, desk-open)
+pub ruleset desk-laws = (desk-shut, names-start, names-end, any-there, desk-open)
 
 -- ---- a call of known settings
 

@@ -35,13 +35,14 @@ use Rattle.refusals.specs.declared.Refusal.the-variants.{TextTooLong, TooManyTe
 use Rattle.refusals.proofs.NumberLaws.{number-one}
 use Rattle.phoneme_builder.specs.Sets.{Spelling, refusal, texts}
 use Rattle.phoneme_builder.specs.Passes.{wordOf, joined}
-use Rattle.phoneme_builder.specs.TableContracts.{matcher, areLists}
+use Rattle.phoneme_builder.specs.TableContracts.{areLists}
+use Rattle.rule_index.specs.Contracts.{packIn, matcher}
 use Rattle.phoneme_builder.specs.Contracts.{WordIs, placed, placedAs, areBuffers, spellingsIn, answerOf, answered}
 use Rattle.phoneme_builder.specs.declared.words.Worded.{Worded}
 use Rattle.phoneme_builder.specs.declared.words.Worded.the-variants.{Done, TooLong, TooMany, Unfit}
 use Rattle.engine.specs.Spelling.{unspelt, speltAs, or, onePart, eachWord, partedAs, spelledName, afreshBy}
-use Rattle.engine.specs.Calls.{languageBy, languageOf, speltBy, wordBy, stepsBy}
-use Rattle.engine.specs.Contracts.{packIn, CallReady, Scratch, afreshOf, stepsAt, startAt, listNumbers, isSpelt, ToldBy, NameTold, wholeBy, ToldWhole, EndedIs, bothOf, HyphenAt}
+use Rattle.engine.specs.Calls.{languageBy, languageOf, listNumbered, speltBy, wordBy, stepsBy}
+use Rattle.engine.specs.Contracts.{CallReady, Scratch, afreshOf, stepsAt, startAt, listNumbers, isSpelt, ToldBy, NameTold, wholeBy, ToldWhole, EndedIs, bothOf, HyphenAt}
 use Rattle.engine.proofs.SpellingLaws.{not-or, parted-split, name-parted, name-plain, name-words}
 use Rattle.engine.proofs.ToldLaws.{bad-told, both-told}
 use Rattle.engine.specs.declared.call.Call.{Call}
@@ -102,7 +103,7 @@ unfolding languageBy
 language-by n g (Language l) other e h k o = single-below n g l _ h k e refl
 language-by n g NotSingle other e h k o = o
 
-module _ (s places : List ℕ) (call : Call) (w : CallReady s places call) where
+module _ (s : List ℕ) (table : List (List ℕ)) (call : Call) (w : CallReady s table call) where
   few : call .languages ≤ 32
   few = omega (arith, w .desk .languages-are, languages-few s (packIn s) (call .guesses) (w .desk .is) (w .desk .guesses-are))
 
@@ -128,7 +129,7 @@ module _ (s places : List ℕ) (call : Call) (w : CallReady s places call) where
       rw e (pick-all (BitsBelow (call .languages)) (call .fresh) _ _ guess (w .below))
 
   -- the same call for a name spelled afresh
-  pub ready-afresh : (again : Call) → again ≡ afreshOf call → CallReady s places again
+  pub ready-afresh : (again : Call) → again ≡ afreshOf call → CallReady s table again
   unfolding afreshOf
   ready-afresh again e = rw e (record { desk = w .desk; few = w .few; known = w .known; below = w .below })
 
@@ -154,17 +155,16 @@ module _ (s places : List ℕ) (call : Call) (w : CallReady s places call) where
 
     module _ (word : Text) where
       abbrev spelled-word : Lists → Spelling
-      spelled-word x = wordOf (call .limit) (take (call .guesses - 1) (drop 1 s)) (matcher s places (x .main)) (matcher s places (x .common)) (matcher s places (x .own)) set word
+      spelled-word x = wordOf (call .limit) (take (call .guesses - 1) (drop 1 s)) (matcher s table (x .main)) (matcher s table (x .common)) (matcher s table (x .own)) set word
 
       abbrev fitting : Lists → ℕ → ℕ → Bool
-      fitting x a b = and (leb (call .limit) 256) (and (areBuffers a b 256) (areLists (length places) (x .main) (x .common) (x .own)))
+      fitting x a b = and (leb (call .limit) 256) (and (areBuffers a b 256) (areLists (x .main) (x .common) (x .own)))
 
       word-is : stepsAt s call .word set word ≡ speltBy (spelled-word (listNumbers call l))
-      unfolding stepsAt stepsBy wordBy listNumbers
+      unfolding stepsAt stepsBy wordBy listNumbers listNumbered
       word-is =
           let names : call .guesses - 1 ≡ stringsLength (packIn s .names) = omega (arith, w .desk .guesses-are) in
-          let found = w .desk .table .found in
-          rw (language-is, names, found (3 * l) main-in, found _ common-in, found _ own-in, w .desk .languages-are)
+          rw (language-is, names, w .desk .finds (3 * l), w .desk .finds (3 * (call .languages) + call .rules), w .desk .finds (3 * l + 1 + call .rules), w .desk .languages-are)
 
       fits : (a b : ℕ) → Scratch a b → fitting (listNumbers call l) a b ≡ true
       unfolding areBuffers areLists listNumbers
@@ -172,12 +172,11 @@ module _ (s places : List ℕ) (call : Call) (w : CallReady s places call) where
           and-yes _ _ (le-leb _ _ (w .few))
           (and-yes _ _
           (and-yes _ _ (eq-eqb _ _ (x .store-is)) (and-yes _ _ (eq-eqb _ _ (x .marks-is)) refl))
-          (and-yes _ _ (eq-eqb _ _ (w .desk .table .long))
-          (and-yes _ _ (lt-ltb _ _ (few-lists main-in)) (and-yes _ _ (lt-ltb _ _ (few-lists common-in)) (lt-ltb _ _ (few-lists own-in))))))
+          (and-yes _ _ (lt-ltb _ _ (few-lists main-in)) (and-yes _ _ (lt-ltb _ _ (few-lists common-in)) (lt-ltb _ _ (few-lists own-in)))))
 
       pub one-told : {o o′ : List ℕ} {at : ℕ} {r : Ends} {answer : Worded} (lists : Lists) (a b : ℕ) → lists ≡ listNumbers call l → Scratch a b → length o * 1 < cap
-          → WordIs (and (leb (call .limit) 256) (and (areBuffers a b 256) (areLists (length places) (lists .main) (lists .common) (lists .own))))
-          (wordOf (call .limit) (take (call .guesses - 1) (drop 1 s)) (matcher s places (lists .main)) (matcher s places (lists .common)) (matcher s places (lists .own)) set word)
+          → WordIs (and (leb (call .limit) 256) (and (areBuffers a b 256) (areLists (lists .main) (lists .common) (lists .own))))
+          (wordOf (call .limit) (take (call .guesses - 1) (drop 1 s)) (matcher s table (lists .main)) (matcher s table (lists .common)) (matcher s table (lists .own)) set word)
           o o′ at answer
           → EndedIs answer at r → ToldWhole (stepsAt s call .word set word) o o′ at r
       one-told {o = o} lists a b e x room q ended =

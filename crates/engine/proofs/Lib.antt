@@ -1,10 +1,13 @@
 pub mod NumberLaws
 pub mod SpellingLaws
 pub mod ToldLaws
-pub mod IndexLaws
 pub mod EncodeLaws
 pub mod NameLaws
 pub mod CallLaws
+pub mod LineLaws
+pub mod LentLaws
+pub mod BelowLaws
+pub mod NameLineLaws
 pub mod LinesLaws
 pub mod AnswerLaws
 pub mod ProgressLaws

@@ -34,7 +34,10 @@ use Rattle.engine.specs.declared.call.Settings.{Settings}
 use Rattle.engine.specs.declared.call.Start.{Start}
 use Rattle.engine.specs.declared.lines.Lines.{Lines}
 use Rattle.engine.specs.declared.lines.Lines.the-variants.{NoRoom}
-use Rattle.engine.proofs.LinesLaws.{lines-more, take-fits, answer-long, Below, call-below, line-answer, line-long, line-other, needed-answer, needed-refusal}
+use Rattle.engine.proofs.LinesLaws.{lines-more, take-fits}
+use Rattle.engine.proofs.LineLaws.{answer-long}
+use Rattle.engine.proofs.BelowLaws.{Below, call-below}
+use Rattle.engine.proofs.NameLineLaws.{line-answer, line-long, line-other, needed-answer, needed-refusal}
 use Rattle.base.proofs.PickLaws.{pick-true, pick-false, pick-all}
 
 -- ---- digits

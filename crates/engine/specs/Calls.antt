@@ -28,7 +28,8 @@ use Rattle.refusals.specs.declared.Refusal.the-variants.{NotUtf8, OutsideRange,
 use Rattle.choices.specs.Texts.{Text}
 use Rattle.choices.specs.Apply.{Entry}
 use Rattle.phoneme_builder.specs.Sets.{Spelling, refusal, texts}
-use Rattle.phoneme_builder.specs.Passes.{firstMatch, wordOf, joined}
+use Rattle.rule_index.specs.Matching.{firstMatch}
+use Rattle.phoneme_builder.specs.Passes.{wordOf, joined}
 use Rattle.engine.specs.Spelling.{Spelt, unspelt, speltAs, Steps, spelledName}
 use Rattle.engine.specs.declared.call.Settings.{Settings}
 use Rattle.engine.specs.declared.call.Start.{Start}

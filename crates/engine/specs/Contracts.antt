@@ -1,10 +1,10 @@
 -- What the functions of a call tell of the pack's bytes and of the lent buffers.
 use mathlib.Core.Path.{_≡_}
-use Prim.Native.Nat.{ℕ, _+_, _-_, _*_, _/_, _≤_, _<_, min}
+use Prim.Native.Nat.{ℕ, _+_, _*_, _≤_, _<_, min}
 use mathlib.Core.Bool.{Bool, true, false}
 use mathlib.Core.List.{List, [], _∷_}
 use lib.Dec.{eqb, leb}
-use lib.ListN.{length, getD, set, take}
+use lib.ListN.{length, take}
 use lib.Seq.{sets}
 use Rattle.base.specs.Pick.{pick}
 use Rattle.languages.specs.Names.{namePlace}
@@ -12,16 +12,14 @@ use Rattle.languages.specs.declared.sets.LanguageSet.{LanguageSet}
 use Rattle.writing.specs.Contracts.{cap, Put}
 use Rattle.prefixes.specs.declared.prefixes.Prefix.{Prefix}
 use Rattle.prefixes.specs.declared.prefixes.Prefix.the-variants as prefix
-use Rattle.pack.specs.Packs.{Pack, Verdict, accepted, refused, packOf, listCount, any, stringsLength}
-use Rattle.pack.specs.PlaceContracts.{placesOf}
+use Rattle.pack.specs.Packs.{accepted, refused, packOf, any, stringsLength}
 use Rattle.refusals.specs.declared.Refusal.the-variants.{TextTooLong, TooManyTexts, NoRoom}
 use Rattle.choices.specs.Texts.{Text}
-use Rattle.phoneme_builder.specs.Passes.{firstMatch}
-use Rattle.phoneme_builder.specs.TableContracts.{matcher}
+use Rattle.rule_index.specs.Contracts.{packIn, Finds}
 use Rattle.phoneme_builder.specs.declared.words.Worded.{Worded}
 use Rattle.phoneme_builder.specs.declared.words.Worded.the-variants.{Done, TooLong, TooMany, Unfit}
 use Rattle.engine.specs.Spelling.{Spelt, unspelt, speltAs, Steps, or}
-use Rattle.engine.specs.Calls.{listNumbered, stepsBy, startSet, typeOf, CallOutcome, refusedBy, key}
+use Rattle.engine.specs.Calls.{stepsBy, startSet, typeOf, CallOutcome, refusedBy, key}
 use Rattle.engine.specs.declared.spelling.Spelled.{Spelled}
 use Rattle.engine.specs.declared.spelling.Spelled.the-variants as spelled
 use Rattle.engine.specs.declared.call.Settings.{Settings}
@@ -42,36 +40,23 @@ toldOf (key t f) room = pick (leb (length t) room) (spelled.Done (length t) f) (
 
 -- ---- the pack
 
-unfoldable pub packBy : Verdict → Pack
-packBy (accepted p) = p
-packBy (refused place) = record { names = []; guesses = []; lists = [] }
-
--- the pack that bytes are
-unfoldable pub packIn : List ℕ → Pack
-packIn s = packBy (packOf s)
-
--- by a table of lists the rules of a pack's first n lists are found
-pub record ByTable (s table : List ℕ) (n : ℕ) : Type 0 where
-  pub long : length table ≡ 12642
-  pub found : (k : ℕ) → k < n → matcher s table k ≡ firstMatch (listNumbered (packIn s) k)
-
 -- the numbers of an accepted pack, and a table by which its rules are found
-pub record AtDesk (s places : List ℕ) (languages guesses other : ℕ) : Type 0 where
+pub record AtDesk (s : List ℕ) (table : List (List ℕ)) (languages guesses other : ℕ) : Type 0 where
   pub is : packOf s ≡ accepted (packIn s)
   pub languages-are : languages ≡ length (packIn s .names)
   pub guesses-are : guesses ≡ 1 + stringsLength (packIn s .names)
   pub any-is : other ≡ namePlace any (packIn s .names)
   pub any-below : other < languages
-  pub table : ByTable s places (listCount languages)
+  pub finds : Finds s table
 
-unfoldable pub DeskIs : List ℕ → List ℕ → Desk → Type 0
-DeskIs s places (Open languages guesses other) = AtDesk s places languages guesses other
-DeskIs s places (Shut place) = packOf s ≡ refused place
+unfoldable pub DeskIs : List ℕ → List (List ℕ) → Desk → Type 0
+DeskIs s table (Open languages guesses other) = AtDesk s table languages guesses other
+DeskIs s table (Shut place) = packOf s ≡ refused place
 
 -- ---- a call on it
 
-pub record CallReady (s places : List ℕ) (call : Call) : Type 0 where
-  pub desk : AtDesk s places (call .languages) (call .guesses) (call .any)
+pub record CallReady (s : List ℕ) (table : List (List ℕ)) (call : Call) : Type 0 where
+  pub desk : AtDesk s table (call .languages) (call .guesses) (call .any)
   pub few : call .limit ≤ 256
   pub known : call .rules < 2
   pub below : BitsBelow (call .languages) (call .set)
@@ -117,42 +102,6 @@ pub record Scratch (store marks : ℕ) : Type 0 where
 -- the numbers of a language's lists
 unfoldable pub listNumbers : Call → ℕ → Lists
 listNumbers c l = record { main = 3 * l; common = 3 * (c .languages) + c .rules; own = 3 * l + 1 + c .rules }
-
--- ---- the table that rules are found by
-
--- where the row of list k starts
-abbrev pub rowOf : ℕ → ℕ
-rowOf k = 98 + k * 128
-
--- a table with nothing in it
-pub record Blank (table : List ℕ) : Type 0 where
-  pub long : length table ≡ 12642
-  pub clear : (j : ℕ) → getD table j 0 ≡ 0
-
--- the lists of an accepted pack by their places, and no rule in the rows from the k-th on
-pub record ListsPlaced (s table : List ℕ) (k : ℕ) : Type 0 where
-  pub is : packOf s ≡ accepted (packIn s)
-  pub long : length table ≡ 12642
-  pub places : (j : ℕ) → j < listCount (length (packIn s .names)) → getD table j 0 ≡ getD (placesOf s) j 0
-  pub clear : (j : ℕ) → rowOf k ≤ j → getD table j 0 ≡ 0
-
--- the entry at b can take rule i
-pub record CanNote (table : List ℕ) (b i : ℕ) : Type 0 where
-  pub within : b + 64 < length table
-  pub few : i < 4096
-  pub later : getD table (b + 64) 0 / 65536 ≤ i
-
--- rule i, which stands at a place, noted in the entry at b: the first of its rules, or the last so far
-unfoldable pub notedIn : List ℕ → ℕ → ℕ → ℕ → List ℕ
-notedIn table b at i =
-    let e = getD table (b + 64) 0 in
-    pick (eqb e 0) (set (set table b at) (b + 64) (i * 65536 + 1)) (set table (b + 64) (e / 65536 * 65536 + (i + 1 - e / 65536)))
-
--- the rules of list k are found, and nothing else of the table changed
-pub record Indexed (s table table′ : List ℕ) (k : ℕ) : Type 0 where
-  pub long : length table′ ≡ 12642
-  pub others : (j : ℕ) → (rowOf k ≤ j → rowOf k + 128 ≤ j) → getD table′ j 0 ≡ getD table j 0
-  pub found : matcher s table′ k ≡ firstMatch (listNumbered (packIn s) k)
 
 -- ---- an answer in a buffer
 

@@ -7,13 +7,13 @@ ghost use Rattle.languages.specs.Names.{namePlace};
 ghost use Rattle.strings.specs.Reading.{stringsOf};
 ghost use Rattle.pack.specs.Packs.{any};
 ghost use Rattle.engine.specs.Calls.{settingsKnown, kindKnown, haveLanguages, typeOf, startSet};
-ghost use Rattle.engine.specs.Contracts.{Blank, DeskIs, callFor, afreshOf};
+ghost use Rattle.engine.specs.Contracts.{DeskIs, callFor, afreshOf};
 ghost use Rattle.pack.specs.Contracts.{guessedAt};
-use crate::index::index_lists;
 use languages::LanguageSet;
 use languages::Listed;
 use pack::Surveyed;
 use prefixes::NameType;
+use rule_index::Table;
 
 // The settings in the paper's numbers: Ashkenazi 0, Generic 1, Sephardic 2; approx 0, exact 1; concat 0 or 1; the limit.
 pub struct Settings {
@@ -56,19 +56,15 @@ pub struct Call {
 }
 
 // The pack's numbers, and the table that its rules are found by.
-pub(crate) fn open(pack: &[u8], places: &mut [usize]) -> Desk
-    requires { ⌜ Blank (now places) ⌝ }
-    ensures { λ r. ⌜ DeskIs (now (pack .entry)) (now (places .exit)) r ⌝ }
+pub(crate) fn open(pack: &[u8], table: &mut Table) -> Desk
+    ensures { λ r. ⌜ DeskIs (now (pack .entry)) (now (table .exit)) r ⌝ }
 {
-    match pack::survey(pack, places) {
-        Surveyed::Accepted { languages, guesses } => {
-            index_lists(pack, places, 3 * languages + 2);
-            Desk::Open {
-                languages,
-                guesses,
-                any: any_of(&pack[1..guesses]),
-            }
-        }
+    match rule_index::index(pack, table) {
+        Surveyed::Accepted { languages, guesses } => Desk::Open {
+            languages,
+            guesses,
+            any: any_of(&pack[1..guesses]),
+        },
         Surveyed::Refused(place) => Desk::Shut { place },
     }
 }

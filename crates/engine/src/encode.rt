@@ -21,6 +21,7 @@ use phoneme_builder::Worded;
 use prefixes::NameType;
 use prefixes::Prefix;
 use refusals::Refusal;
+use rule_index::Table;
 
 // No slice has more bytes; a place stays at most this.
 const CAP: usize = 0x8000_0000_0000_0000;
@@ -134,7 +135,7 @@ fn spell_word(
     store: &mut [u8],
     marks: &mut [u64],
     pack: &[u8],
-    places: &[usize],
+    table: &Table,
     call: Call,
     set: LanguageSet,
     word: &[u8],
@@ -142,7 +143,7 @@ fn spell_word(
     at: usize,
 ) -> Ends
     requires { ⌜ Scratch (length (now store)) (length (now marks)) ⌝ }
-    requires { ⌜ CallReady (now pack) (now places) call ⌝ }
+    requires { ⌜ CallReady (now pack) (now table) call ⌝ }
     requires { ⌜ BitsBelow (call .languages) set ⌝ }
     ensures { λ r. ⌜ ToldWhole (stepsAt (now (pack .entry)) call .word set (now (word .entry))) (now (out .entry)) (now (out .exit)) at r ⌝ }
 {
@@ -155,7 +156,7 @@ fn spell_word(
         &mut alts,
         pack,
         &pack[1..guesses],
-        places,
+        table,
         lists.main,
         lists.common,
         lists.own,
@@ -173,14 +174,14 @@ pub(crate) fn spell_plain(
     store: &mut [u8],
     marks: &mut [u64],
     pack: &[u8],
-    places: &[usize],
+    table: &Table,
     call: Call,
     name: &[u8],
     out: &mut [u8],
     at: usize,
 ) -> Ends
     requires { ⌜ Scratch (length (now store)) (length (now marks)) ⌝ }
-    requires { ⌜ CallReady (now pack) (now places) call ⌝ }
+    requires { ⌜ CallReady (now pack) (now table) call ⌝ }
     requires { ⌜ length (now name) ≤ 96 ⌝ }
     ensures { λ r. ⌜ ToldWhole (onePart (stepsAt (now (pack .entry)) call) (startAt (now (pack .entry)) call (now (name .entry))) (now (name .entry))) (now (out .entry)) (now (out .exit)) at r ⌝ }
 {
@@ -189,20 +190,10 @@ pub(crate) fn spell_plain(
         let kind = call.kind;
         let mut joined = [0u8; 96];
         let n = name_parts::join_words(kind, name, &mut joined);
-        spell_word(
-            store,
-            marks,
-            pack,
-            places,
-            call,
-            set,
-            &joined[0..n],
-            out,
-            at,
-        )
+        spell_word(store, marks, pack, table, call, set, &joined[0..n], out, at)
     } else {
         let word = name_parts::next_word(name, 0);
-        spell_word(store, marks, pack, places, call, set, word, out, at)
+        spell_word(store, marks, pack, table, call, set, word, out, at)
     }
 }
 
@@ -264,14 +255,14 @@ pub(crate) fn spell_name(
     store: &mut [u8],
     marks: &mut [u64],
     pack: &[u8],
-    places: &[usize],
+    table: &Table,
     call: Call,
     name: &[u8],
     out: &mut [u8],
     at: usize,
 ) -> Ends
     requires { ⌜ Scratch (length (now store)) (length (now marks)) ⌝ }
-    requires { ⌜ CallReady (now pack) (now places) call ⌝ }
+    requires { ⌜ CallReady (now pack) (now table) call ⌝ }
     requires { ⌜ length (now name) ≤ 96 ⌝ }
     requires { ⌜ at ≤ cap ⌝ }
     ensures { λ r. ⌜ NameTold (spelledName (stepsAt (now (pack .entry)) call) (startAt (now (pack .entry)) call (now (name .entry))) (now (name .entry))) (now (out .entry)) (now (out .exit)) at r ⌝ }
@@ -283,17 +274,17 @@ pub(crate) fn spell_name(
             let mut joined = [0u8; 96];
             let n = name_parts::join_prefix(name, keep, skip, &mut joined);
             let p = writing::push(out, at, b'(');
-            let a = spell_name(store, marks, pack, places, again, &name[skip..], out, p);
+            let a = spell_name(store, marks, pack, table, again, &name[skip..], out, p);
             let q = middle(out, a.at);
-            let b = spell_name(store, marks, pack, places, again, &joined[0..n], out, q);
+            let b = spell_name(store, marks, pack, table, again, &joined[0..n], out, q);
             let end = writing::push(out, b.at, b')');
             both(b, a, end)
         }
         Prefix::Whole => {
             if is_plain(call, name) {
-                spell_plain(store, marks, pack, places, call, name, out, at)
+                spell_plain(store, marks, pack, table, call, name, out, at)
             } else {
-                spell_words(store, marks, pack, places, call, name, out, at)
+                spell_words(store, marks, pack, table, call, name, out, at)
             }
         }
     }
@@ -304,14 +295,14 @@ fn spell_words(
     store: &mut [u8],
     marks: &mut [u64],
     pack: &[u8],
-    places: &[usize],
+    table: &Table,
     call: Call,
     name: &[u8],
     out: &mut [u8],
     at: usize,
 ) -> Ends
     requires { ⌜ Scratch (length (now store)) (length (now marks)) ⌝ }
-    requires { ⌜ CallReady (now pack) (now places) call ⌝ }
+    requires { ⌜ CallReady (now pack) (now table) call ⌝ }
     requires { ⌜ length (now name) ≤ 96 ⌝ }
     requires { ⌜ at ≤ cap ⌝ }
     requires { ⌜ oneWord (now name) ≡ false ⌝ }
@@ -331,7 +322,7 @@ fn spell_words(
             return all;
         }
         let q = hyphen(out, all.at, p);
-        let b = spell_name(store, marks, pack, places, again, w, out, q);
+        let b = spell_name(store, marks, pack, table, again, w, out, q);
         all = both(all, b, b.at);
         p = name_parts::past_word(name, p);
     }

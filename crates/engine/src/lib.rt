@@ -1,7 +1,6 @@
 // Spelling a name (engine.rs): every check, the name's parts, and its answer; one name, or a block of lines.
 mod call;
 mod encode;
-mod index;
 mod lines;
 mod spelling;
 

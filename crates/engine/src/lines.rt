@@ -14,6 +14,7 @@ use crate::call::Start;
 use crate::call::open;
 use crate::spelling::Spelled;
 use crate::spelling::spell_at;
+use rule_index::Table;
 
 // How many bytes of the block were read, and how many written; or that the first line has no room in the whole buffer, and how many
 // bytes it needs (9).
@@ -162,7 +163,7 @@ fn put_line(
     store: &mut [u8],
     marks: &mut [u64],
     pack: &[u8],
-    places: &[usize],
+    table: &Table,
     desk: Desk,
     settings: Settings,
     start: Start,
@@ -172,7 +173,7 @@ fn put_line(
     size: usize,
 ) -> Fit
     requires { ⌜ Scratch (length (now store)) (length (now marks)) ⌝ }
-    requires { ⌜ DeskIs (now pack) (now places) desk ⌝ }
+    requires { ⌜ DeskIs (now pack) (now table) desk ⌝ }
     requires { ⌜ (at ≤ size) × (size ≡ min (length (now out)) most) ⌝ }
     ensures { λ r. ⌜ LineAt (lineFor (callOf settings start (now (pack .entry))) (length (now (out .entry))) (now (name .entry))) (needed (callOf settings start (now (pack .entry)) (now (name .entry)))) size (now (out .entry)) (now (out .exit)) at r ⌝ }
 {
@@ -182,7 +183,7 @@ fn put_line(
         store,
         marks,
         pack,
-        places,
+        table,
         desk,
         settings,
         start,
@@ -212,7 +213,7 @@ fn put_lines(
     store: &mut [u8],
     marks: &mut [u64],
     pack: &[u8],
-    places: &[usize],
+    table: &Table,
     desk: Desk,
     settings: Settings,
     start: Start,
@@ -220,7 +221,7 @@ fn put_lines(
     out: &mut [u8],
 ) -> Lines
     requires { ⌜ Scratch (length (now store)) (length (now marks)) ⌝ }
-    requires { ⌜ DeskIs (now pack) (now places) desk ⌝ }
+    requires { ⌜ DeskIs (now pack) (now table) desk ⌝ }
     ensures { λ r. ⌜ LinesIs (callOf settings start (now (pack .entry))) (now (block .entry)) (now (out .entry)) r (now (out .exit)) ⌝ }
 {
     let size = most_of(out.len());
@@ -236,7 +237,7 @@ fn put_lines(
             store,
             marks,
             pack,
-            places,
+            table,
             desk,
             settings,
             start,
@@ -264,15 +265,15 @@ pub fn spell_lines(
 ) -> Lines
     ensures { λ r. ⌜ LinesIs (callOf settings start (now (pack .entry))) (now (block .entry)) (now (out .entry)) r (now (out .exit)) ⌝ }
 {
-    let mut places = [0usize; 12642];
-    let desk = open(pack, &mut places);
+    let mut table = [[0usize; 128]; 98];
+    let desk = open(pack, &mut table);
     let mut store = [0u8; 131072];
     let mut marks = [0u64; 1024];
     put_lines(
         &mut store,
         &mut marks,
         pack,
-        &places,
+        &table,
         desk,
         settings,
         start,

@@ -24,6 +24,7 @@ use crate::encode::spell_plain;
 use letters::Found;
 use prefixes::Prefix;
 use refusals::Refusal;
+use rule_index::Table;
 
 // How many bytes were written, and the flag; or a refusal and its place (01, What the desk gets).
 pub enum Spelled {
@@ -137,25 +138,25 @@ fn spell_lowered(
     store: &mut [u8],
     marks: &mut [u64],
     pack: &[u8],
-    places: &[usize],
+    table: &Table,
     call: Call,
     name: &[u8],
     out: &mut [u8],
 ) -> Ends
     requires { ⌜ Scratch (length (now store)) (length (now marks)) ⌝ }
-    requires { ⌜ CallReady (now pack) (now places) call ⌝ }
+    requires { ⌜ CallReady (now pack) (now table) call ⌝ }
     requires { ⌜ length (now name) ≤ 96 ⌝ }
     ensures { λ r. ⌜ ToldWhole (spelledName (stepsAt (now (pack .entry)) call) (startAt (now (pack .entry)) call (now (name .entry))) (now (name .entry))) (now (out .entry)) (now (out .exit)) 0 r ⌝ }
 {
     if is_single(call, name) {
-        return spell_plain(store, marks, pack, places, call, name, out, 0);
+        return spell_plain(store, marks, pack, table, call, name, out, 0);
     }
     let mut apart = [0u8; 16384];
-    let a = spell_name(store, marks, pack, places, call, name, &mut apart, 0);
+    let a = spell_name(store, marks, pack, table, call, name, &mut apart, 0);
     if keep(a, &apart, out) {
         a
     } else {
-        spell_name(store, marks, pack, places, call, name, out, 0)
+        spell_name(store, marks, pack, table, call, name, out, 0)
     }
 }
 
@@ -165,7 +166,7 @@ pub(crate) fn spell_at(
     store: &mut [u8],
     marks: &mut [u64],
     pack: &[u8],
-    places: &[usize],
+    table: &Table,
     desk: Desk,
     settings: Settings,
     start: Start,
@@ -173,7 +174,7 @@ pub(crate) fn spell_at(
     out: &mut [u8],
 ) -> Spelled
     requires { ⌜ Scratch (length (now store)) (length (now marks)) ⌝ }
-    requires { ⌜ DeskIs (now pack) (now places) desk ⌝ }
+    requires { ⌜ DeskIs (now pack) (now table) desk ⌝ }
     ensures { λ r. ⌜ SpellIs (callOf settings start (now (pack .entry)) (now (name .entry))) (now (out .entry)) r (now (out .exit)) ⌝ }
 {
     match refusal_of(settings, start, name) {
@@ -189,7 +190,7 @@ pub(crate) fn spell_at(
                     lower_case::lower_into(name, &mut low);
                     let call = call_of(settings, start, pack, languages, guesses, any, &low[0..n]);
                     name_parts::part_hyphens(&mut low);
-                    let a = spell_lowered(store, marks, pack, places, call, &low[0..n], out);
+                    let a = spell_lowered(store, marks, pack, table, call, &low[0..n], out);
                     answer(a, out.len())
                 } else {
                     Spelled::Refused {
@@ -211,15 +212,15 @@ pub(crate) fn spell_at(
 pub fn spell(settings: Settings, start: Start, pack: &[u8], name: &[u8], out: &mut [u8]) -> Spelled
     ensures { λ r. ⌜ SpellIs (callOf settings start (now (pack .entry)) (now (name .entry))) (now (out .entry)) r (now (out .exit)) ⌝ }
 {
-    let mut places = [0usize; 12642];
-    let desk = open(pack, &mut places);
+    let mut table = [[0usize; 128]; 98];
+    let desk = open(pack, &mut table);
     let mut store = [0u8; 131072];
     let mut marks = [0u64; 1024];
     spell_at(
         &mut store,
         &mut marks,
         pack,
-        &places,
+        &table,
         desk,
         settings,
         start,

@@ -10,6 +10,7 @@ use Rattle.base.specs.Pick.{pick}
 use lib.ListN.{length, take, drop}
 use Rattle.choices.specs.Texts.{Text}
 use Rattle.languages.specs.Contracts.{decoded, IsCode}
+use Rattle.languages.specs.declared.sets.LanguageSet.{LanguageSet}
 use Rattle.choices.specs.Apply.{Entry, apply, start}
 use Rattle.refusals.specs.Numbers.{numberOf}
 use Rattle.refusals.specs.declared.Refusal.the-variants.{TextTooLong, TooManyTexts}
@@ -228,10 +229,14 @@ abbrev pub FinishedAll : Arena → Arena → List ℕ → List (List ℕ) → Pl
 FinishedAll a b s table by from r =
     FinishedAt b 0 (then (finalBy s table by (by .common) (entriesAt a (from .set) (from .count))) (finalBy s table by (by .own))) r
 
+-- g is the number of the set
+pub record CodeOf (set : LanguageSet) (g : ℕ) : Type 0 where
+  pub code : IsCode g
+  pub is : set ≡ decoded g
+
 pub record Spells (by : Plan) (g : ℕ) : Type 0 where
   pub few : by .limit ≤ 256
-  pub code : IsCode g
-  pub is : by .set ≡ decoded g
+  pub code : CodeOf (by .set) g
 
 -- a word by a plan with this limit
 abbrev pub wordWithin : ℕ → List ℕ → List (List ℕ) → Plan → Text → Spelling

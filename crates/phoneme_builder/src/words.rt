@@ -7,7 +7,7 @@ ghost use lib.Seq.{sets};
 ghost use Rattle.phonemes.specs.Expressions.{bar};
 ghost use Rattle.phoneme_builder.specs.BufferContracts.{arena};
 ghost use Rattle.phoneme_builder.specs.Passes.{joined};
-ghost use Rattle.phoneme_builder.specs.Contracts.{raisedBy, FinishesAll, FinishedAll, Spells, SpelledAs, TextsIn, textsIn, barred, GivenIs, wordBy, WordIs};
+ghost use Rattle.phoneme_builder.specs.Contracts.{CodeOf, raisedBy, FinishesAll, FinishedAll, Spells, SpelledAs, TextsIn, textsIn, barred, GivenIs, wordBy, WordIs};
 use crate::expressions::Alternatives;
 use crate::finals::FinalSets;
 use crate::finals::Finished;
@@ -44,6 +44,13 @@ pub enum Worded {
     Done { length: usize, flag: bool },
     TooLong,
     TooMany,
+}
+
+// The set as a number.
+fn code_of(set: LanguageSet) -> u64
+    ensures { λ r. ⌜ CodeOf set r ⌝ }
+{
+    languages::coded(set)
 }
 
 // What a pass came to, with the flag up where that of the pass before it was.
@@ -220,7 +227,7 @@ pub fn word(
     ensures { λ r. ⌜ WordIs (wordBy (now (pack .entry)) (now (table .entry)) by (now (word .entry))) (now (out .entry)) (now (out .exit)) at r ⌝ }
 {
     let set = by.set;
-    let langs = languages::coded(set);
+    let langs = code_of(set);
     let within = Plan {
         main: by.main,
         common: by.common,

@@ -153,7 +153,7 @@ pub ruleset listing-laws = (listing-start, listing-done, listing-row, listing-pl
 
 -- ---- a survey's answer
 
-pack-in : (s : List ℕ) (p : Pack) → packOf s ≡ accepted p → packIn s ≡ p
+pub pack-in : (s : List ℕ) (p : Pack) → packOf s ≡ accepted p → packIn s ≡ p
 unfolding packIn packBy
 pack-in s p e = ap packBy e
 

@@ -6,7 +6,7 @@ use Rattle.engine.specs.Spelling.{afreshBy}
 use Rattle.engine.specs.Contracts.{stepsAt}
 use Rattle.engine.proofs.EncodeLaws.{ready-afresh, afresh-told, skip-within, parted-told, whole-plain, whole-words, several, front-in, front-is}
 use Rattle.engine.proofs.NameLaws.{scratch-kept, name-falls, word-falls, still-short, words-fall, rest-less, joined-small, joined-less, steps-again, told-again, WordsHeld, held-start, held-scratch, held-end, held-shorter, held-less, held-place, held-turn}
-use Prim.Native.Nat.{ℕ, _+_, _-_, _*_}
+use Prim.Native.Nat.{ℕ, _+_, _-_, _*_, _<_}
 use borrow.Fn.Kinds.{In}
 use borrow.Fn.PlainCycle.{Measures, is, falls, and}
 use Rattle.engine.proofs.encode.spell_name.Reads as spell-name
@@ -59,11 +59,11 @@ abbrev spell-words-calls : ℕ → spell-words-lts.Claims
 spell-words-calls t = (afresh-reads.Asked, afresh-reads.Learnt, next-word-reads.Asked, next-word-reads.Learnt, hyphen-reads.Asked, hyphen-reads.Learnt, spell-name-below t, spell-name.Post, both-reads.Asked, both-reads.Learnt, past-word-reads.Asked, past-word-reads.Learnt)
 
 abbrev spell-words-Inv-loop : spell-words-lts.InvT-loop
-spell-words-Inv-loop store₀ marks₀ pack places name out₀ at again all₀ p₀ store marks out all p =
+spell-words-Inv-loop store₀ marks₀ pack table name out₀ at again all₀ p₀ store marks out all p =
     WordsHeld (afreshBy (stepsAt pack again)) name out₀ out at p all (length store₀) (length marks₀) (length store) (length marks)
 
 abbrev spell-words-μ-loop : spell-words-lts.MeasureT-loop
-spell-words-μ-loop store₀ marks₀ pack places name out₀ at again all₀ p₀ store marks out all p = length name - p
+spell-words-μ-loop store₀ marks₀ pack table name out₀ at again all₀ p₀ store marks out all p = length name - p
 
 spell-name-part-of-requires : (t : ℕ) → spell-name-lts.Need-part-of-requires (spell-name-calls t) (spell-name-at t) spell-name.Post
 spell-name-part-of-requires t c κs = search needs
@@ -84,16 +84,16 @@ spell-name-push-requires : (t : ℕ) → spell-name-lts.Need-push-requires (spel
 spell-name-push-requires t c κs = search needs
 
 spell-name-sub-spell-name : (t : ℕ) → spell-name-lts.Need-sub-spell-name (spell-name-calls t) (spell-name-at t) spell-name.Post
-spell-name-sub-spell-name t c = skip-within _ _ _ (c .before .before .before .before .before .before .before .before .before .before .before .before .before .part-of .ensures) _ _ (c .before .before .before .before .before .before .before .before .before .before .before .keep .given .1)
+spell-name-sub-spell-name t c = search (skip-within, needs)
 
 spell-name-part-spell-name-start : (t : ℕ) → spell-name-lts.Need-part-spell-name-start (spell-name-calls t) (spell-name-at t) spell-name.Post
-spell-name-part-spell-name-start t c = skip-within _ _ _ (c .before .before .before .before .before .before .before .before .before .before .before .before .before .part-of .ensures) _ _ (c .before .before .before .before .before .before .before .before .before .before .before .keep .given .1)
+spell-name-part-spell-name-start t c = search (skip-within, needs)
 
 spell-name-part-spell-name-end : (t : ℕ) → spell-name-lts.Need-part-spell-name-end (spell-name-calls t) (spell-name-at t) spell-name.Post
 spell-name-part-spell-name-end t c = search needs
 
 spell-name-spell-name-requires : (t : ℕ) → spell-name-lts.Need-spell-name-requires (spell-name-calls t) (spell-name-at t) spell-name.Post
-spell-name-spell-name-requires t c κs = (name-falls (rest-less _ _ _ (c .before .before .before .before .before .before .before .before .before .before .before .before .before .before .before .part-of .ensures) _ _ (c .before .before .before .before .before .before .before .before .before .before .before .before .before .keep .given .1)) (c .before .before .before .before .before .before .before .before .before .before .before .before .before .before .before .before .before .before .before .before .before .before .pre .0), (c .before .before .before .before .before .before .before .before .before .before .before .before .before .before .before .before .before .before .before .before .before .before .pre .1 .0, (ready-afresh _ _ _ (c .before .before .before .before .before .before .before .before .before .before .before .before .before .before .before .before .before .before .before .before .before .before .pre .1 .1 .0) _ (c .before .before .before .before .before .before .before .before .before .before .before .afresh .ensures), (still-short (rest-less _ _ _ (c .before .before .before .before .before .before .before .before .before .before .before .before .before .before .before .part-of .ensures) _ _ (c .before .before .before .before .before .before .before .before .before .before .before .before .before .keep .given .1)) (c .before .before .before .before .before .before .before .before .before .before .before .before .before .before .before .before .before .before .before .before .before .before .pre .1 .1 .1 .0), put-place _ _ _ _ _ (c .before .before .before .before .before .before .push .ensures)))))
+spell-name-spell-name-requires t c κs = (name-falls (rest-less _ _ _ (c .before .before .before .before .before .before .before .before .before .before .before .before .before .before .before .part-of .ensures) _ _ (c .before .before .before .before .before .before .before .before .before .before .before .before .before .keep .given .1)) (c .before .before .before .before .before .before .before .before .before .before .before .before .before .before .before .before .before .before .before .before .before .pre .0), (c .before .before .before .before .before .before .before .before .before .before .before .before .before .before .before .before .before .before .before .before .before .pre .1 .0, (ready-afresh _ _ _ (c .before .before .before .before .before .before .before .before .before .before .before .before .before .before .before .before .before .before .before .before .before .pre .1 .1 .0) _ (c .before .before .before .before .before .before .before .before .before .before .before .afresh .ensures), (still-short (rest-less _ _ _ (c .before .before .before .before .before .before .before .before .before .before .before .before .before .before .before .part-of .ensures) _ _ (c .before .before .before .before .before .before .before .before .before .before .before .before .before .keep .given .1)) (c .before .before .before .before .before .before .before .before .before .before .before .before .before .before .before .before .before .before .before .before .before .pre .1 .1 .1 .0), put-place _ _ _ _ _ (c .before .before .before .before .before .before .push .ensures)))))
 
 spell-name-middle-requires : (t : ℕ) → spell-name-lts.Need-middle-requires (spell-name-calls t) (spell-name-at t) spell-name.Post
 spell-name-middle-requires t c κs = search needs
@@ -105,10 +105,10 @@ spell-name-part-spell-name-start-2 : (t : ℕ) → spell-name-lts.Need-part-spel
 spell-name-part-spell-name-start-2 t c = search needs
 
 spell-name-part-spell-name-end-2 : (t : ℕ) → spell-name-lts.Need-part-spell-name-end-2 (spell-name-calls t) (spell-name-at t) spell-name.Post
-spell-name-part-spell-name-end-2 t c = front-in (c .before .before .before .before .before .before .before .before .before .before .before .before .before .before .before .before .before .before .before .before .before .before .before .join-prefix .ensures) (joined-small _ _ _ (c .before .before .before .before .before .before .before .before .before .before .before .before .before .before .before .before .before .before .before .before .before .before .before .before .before .before .before .before .before .part-of .ensures) _ _ (c .before .before .before .before .before .before .before .before .before .before .before .before .before .before .before .before .before .before .before .before .before .before .before .before .before .before .before .keep .given .1) (c .before .before .before .before .before .before .before .before .before .before .before .before .before .before .before .before .before .before .before .before .before .before .before .before .before .before .before .before .before .before .before .before .before .before .before .before .pre .1 .1 .1 .0)) refl
+spell-name-part-spell-name-end-2 t c = front-in (c .before .before .before .before .before .before .before .before .before .before .before .before .before .before .before .before .before .before .before .before .before .before .before .join-prefix .ensures) (joined-small _ _ _ (c .before .before .before .before .before .before .before .before .before .before .before .before .before .before .before .before .before .before .before .before .before .before .before .before .before .before .before .before .before .part-of .ensures) _ _ (c .before .before .before .before .before .before .before .before .before .before .before .before .before .before .before .before .before .before .before .before .before .before .before .before .before .before .before .keep .given .1) (c .before .before .before .before .before .before .before .before .before .before .before .before .before .before .before .before .before .before .before .before .before .before .before .before .before .before .before .before .before .before .before .before .before .before .before .pre .1 .1 .1 .0)) refl
 
 spell-name-spell-name-requires-2 : (t : ℕ) → spell-name-lts.Need-spell-name-requires-2 (spell-name-calls t) (spell-name-at t) spell-name.Post
-spell-name-spell-name-requires-2 t c κs = (name-falls (joined-less _ _ _ (c .before .before .before .before .before .before .before .before .before .before .before .before .before .before .before .before .before .before .before .before .before .before .before .before .before .before .before .before .before .before .before .part-of .ensures) _ _ (c .before .before .before .before .before .before .before .before .before .before .before .before .before .before .before .before .before .before .before .before .before .before .before .before .before .before .before .before .before .keep .given .1) (c .before .before .before .before .before .before .before .before .before .before .before .before .before .before .before .before .before .before .before .before .before .before .before .before .before .before .before .before .before .before .before .before .before .before .before .before .before .before .pre .1 .1 .1 .0) (c .before .before .before .before .before .before .before .before .before .before .before .before .before .before .before .before .before .before .before .before .before .before .before .before .before .join-prefix .ensures) refl) (c .before .before .before .before .before .before .before .before .before .before .before .before .before .before .before .before .before .before .before .before .before .before .before .before .before .before .before .before .before .before .before .before .before .before .before .before .before .before .pre .0), (scratch-kept (c .before .before .before .before .before .before .before .before .before .before .before .before .before .before .before .before .before .before .before .before .before .before .before .before .before .before .before .before .before .before .before .before .before .before .before .before .before .before .pre .1 .0) (c .before .before .before .before .before .before .before .before .before .before .before .before .before .before .store .given) (c .before .before .before .before .before .before .before .before .before .before .before .before .marks .given), (ready-afresh _ _ _ (c .before .before .before .before .before .before .before .before .before .before .before .before .before .before .before .before .before .before .before .before .before .before .before .before .before .before .before .before .before .before .before .before .before .before .before .before .before .before .pre .1 .1 .0) _ (c .before .before .before .before .before .before .before .before .before .before .before .before .before .before .before .before .before .before .before .before .before .before .before .before .before .before .before .afresh .ensures), (still-short (joined-less _ _ _ (c .before .before .before .before .before .before .before .before .before .before .before .before .before .before .before .before .before .before .before .before .before .before .before .before .before .before .before .before .before .before .before .part-of .ensures) _ _ (c .before .before .before .before .before .before .before .before .before .before .before .before .before .before .before .before .before .before .before .before .before .before .before .before .before .before .before .before .before .keep .given .1) (c .before .before .before .before .before .before .before .before .before .before .before .before .before .before .before .before .before .before .before .before .before .before .before .before .before .before .before .before .before .before .before .before .before .before .before .before .before .before .pre .1 .1 .1 .0) (c .before .before .before .before .before .before .before .before .before .before .before .before .before .before .before .before .before .before .before .before .before .before .before .before .before .join-prefix .ensures) refl) (c .before .before .before .before .before .before .before .before .before .before .before .before .before .before .before .before .before .before .before .before .before .before .before .before .before .before .before .before .before .before .before .before .before .before .before .before .before .before .pre .1 .1 .1 .0), put-place _ _ _ _ _ (c .before .before .before .before .before .before .before .middle .ensures)))))
+spell-name-spell-name-requires-2 t c κs = (name-falls (joined-less _ _ _ (c .before .before .before .before .before .before .before .before .before .before .before .before .before .before .before .before .before .before .before .before .before .before .before .before .before .before .before .before .before .before .before .part-of .ensures) _ _ (c .before .before .before .before .before .before .before .before .before .before .before .before .before .before .before .before .before .before .before .before .before .before .before .before .before .before .before .before .before .keep .given .1) (c .before .before .before .before .before .before .before .before .before .before .before .before .before .before .before .before .before .before .before .before .before .before .before .before .before .before .before .before .before .before .before .before .before .before .before .before .before .pre .1 .1 .1 .0) (c .before .before .before .before .before .before .before .before .before .before .before .before .before .before .before .before .before .before .before .before .before .before .before .before .before .join-prefix .ensures) refl) (c .before .before .before .before .before .before .before .before .before .before .before .before .before .before .before .before .before .before .before .before .before .before .before .before .before .before .before .before .before .before .before .before .before .before .before .before .before .pre .0), (scratch-kept (c .before .before .before .before .before .before .before .before .before .before .before .before .before .before .before .before .before .before .before .before .before .before .before .before .before .before .before .before .before .before .before .before .before .before .before .before .before .pre .1 .0) (c .before .before .before .before .before .before .before .before .before .before .before .before .before .before .store .given) (c .before .before .before .before .before .before .before .before .before .before .before .before .marks .given), (ready-afresh _ _ _ (c .before .before .before .before .before .before .before .before .before .before .before .before .before .before .before .before .before .before .before .before .before .before .before .before .before .before .before .before .before .before .before .before .before .before .before .before .before .pre .1 .1 .0) _ (c .before .before .before .before .before .before .before .before .before .before .before .before .before .before .before .before .before .before .before .before .before .before .before .before .before .before .before .afresh .ensures), (still-short (joined-less _ _ _ (c .before .before .before .before .before .before .before .before .before .before .before .before .before .before .before .before .before .before .before .before .before .before .before .before .before .before .before .before .before .before .before .part-of .ensures) _ _ (c .before .before .before .before .before .before .before .before .before .before .before .before .before .before .before .before .before .before .before .before .before .before .before .before .before .before .before .before .before .keep .given .1) (c .before .before .before .before .before .before .before .before .before .before .before .before .before .before .before .before .before .before .before .before .before .before .before .before .before .before .before .before .before .before .before .before .before .before .before .before .before .pre .1 .1 .1 .0) (c .before .before .before .before .before .before .before .before .before .before .before .before .before .before .before .before .before .before .before .before .before .before .before .before .before .join-prefix .ensures) refl) (c .before .before .before .before .before .before .before .before .before .before .before .before .before .before .before .before .before .before .before .before .before .before .before .before .before .before .before .before .before .before .before .before .before .before .before .before .before .pre .1 .1 .1 .0), put-place _ _ _ _ _ (c .before .before .before .before .before .before .before .middle .ensures)))))
 
 spell-name-push-requires-2 : (t : ℕ) → spell-name-lts.Need-push-requires-2 (spell-name-calls t) (spell-name-at t) spell-name.Post
 spell-name-push-requires-2 t c κs = search needs
@@ -123,25 +123,25 @@ spell-name-is-plain-requires : (t : ℕ) → spell-name-lts.Need-is-plain-requir
 spell-name-is-plain-requires t c κs = search needs
 
 spell-name-spell-plain-requires : (t : ℕ) → spell-name-lts.Need-spell-plain-requires (spell-name-calls t) (spell-name-at t) spell-name.Post
-spell-name-spell-plain-requires t c κs = (c .before .before .before .before .before .before .before .before .before .before .before .before .before .before .pre .1 .0, (c .before .before .before .before .before .before .before .before .before .before .before .before .before .before .pre .1 .1 .0, c .before .before .before .before .before .before .before .before .before .before .before .before .before .before .pre .1 .1 .1 .0))
+spell-name-spell-plain-requires t c κs = (search needs, (search needs, search needs))
 
 spell-name-spell-words-requires : (t : ℕ) → spell-name-lts.Need-spell-words-requires (spell-name-calls t) (spell-name-at t) spell-name.Post
-spell-name-spell-words-requires t c κs = (words-fall _ (c .before .before .before .before .before .before .before .before .before .before .before .before .before .before .pre .0), (c .before .before .before .before .before .before .before .before .before .before .before .before .before .before .pre .1 .0, (c .before .before .before .before .before .before .before .before .before .before .before .before .before .before .pre .1 .1 .0, (c .before .before .before .before .before .before .before .before .before .before .before .before .before .before .pre .1 .1 .1 .0, (c .before .before .before .before .before .before .before .before .before .before .before .before .before .before .pre .1 .1 .1 .1, several _ _ _ (c .before .before .before .before .is-plain .ensures) (c .before .before .before .if1 .left))))))
+spell-name-spell-words-requires t c κs = (search (words-fall, needs), (search needs, (search needs, (search needs, (search needs, search (several, needs))))))
 
 spell-name-same-length : (t : ℕ) → spell-name-lts.Need-same-length (spell-name-calls t) (spell-name-at t) spell-name.Post
-spell-name-same-length t c = c .before .before .before .before .before .before .before .before .before .before .store2 .given ∙ c .before .before .before .before .before .before .before .before .before .before .before .before .before .before .before .before .before .before .before .before .before .before .before .before .before .before .store .given
+spell-name-same-length t c = search needs
 
 spell-name-same-length-2 : (t : ℕ) → spell-name-lts.Need-same-length-2 (spell-name-calls t) (spell-name-at t) spell-name.Post
-spell-name-same-length-2 t c = c .before .before .before .before .before .before .before .before .marks2 .given ∙ c .before .before .before .before .before .before .before .before .before .before .before .before .before .before .before .before .before .before .before .before .before .before .before .before .marks .given
+spell-name-same-length-2 t c = search needs
 
 spell-name-same-length-3 : (t : ℕ) → spell-name-lts.Need-same-length-3 (spell-name-calls t) (spell-name-at t) spell-name.Post
 spell-name-same-length-3 t c = c .before .before .out5 .given ∙ c .before .before .before .before .before .before .out4 .given ∙ c .before .before .before .before .before .before .before .before .before .before .before .before .before .before .before .before .before .before .out3 .given ∙ c .before .before .before .before .before .before .before .before .before .before .before .before .before .before .before .before .before .before .before .before .before .before .out2 .given ∙ c .before .before .before .before .before .before .before .before .before .before .before .before .before .before .before .before .before .before .before .before .before .before .before .before .before .before .before .before .before .before .before .before .before .out .given
 
 spell-name-returns : (t : ℕ) → spell-name-lts.Need-returns (spell-name-calls t) (spell-name-at t) spell-name.Post
-spell-name-returns t c = parted-told _ _ _ _ (c .before .before .before .before .before .before .before .before .before .before .before .before .before .before .before .before .before .before .before .before .before .before .before .before .before .before .before .before .before .before .before .before .before .before .before .before .before .before .before .before .before .before .before .part-of .ensures) _ _ (c .before .before .before .before .before .before .before .before .before .before .before .before .before .before .before .before .before .before .before .before .before .before .before .before .before .before .before .before .before .before .before .before .before .before .before .before .before .before .before .before .before .keep .given .1) _ (front-is (c .before .before .before .before .before .before .before .before .before .before .before .before .before .before .before .before .before .before .before .before .before .before .before .before .before .before .before .before .before .before .before .before .before .before .before .before .before .join-prefix .ensures) (joined-small _ _ _ (c .before .before .before .before .before .before .before .before .before .before .before .before .before .before .before .before .before .before .before .before .before .before .before .before .before .before .before .before .before .before .before .before .before .before .before .before .before .before .before .before .before .before .before .part-of .ensures) _ _ (c .before .before .before .before .before .before .before .before .before .before .before .before .before .before .before .before .before .before .before .before .before .before .before .before .before .before .before .before .before .before .before .before .before .before .before .before .before .before .before .before .before .keep .given .1) (c .before .before .before .before .before .before .before .before .before .before .before .before .before .before .before .before .before .before .before .before .before .before .before .before .before .before .before .before .before .before .before .before .before .before .before .before .before .before .before .before .before .before .before .before .before .before .before .before .before .before .pre .1 .1 .1 .0)) refl) (c .before .before .before .before .before .before .before .before .before .before .before .before .before .before .before .before .before .before .before .before .before .before .before .before .before .before .before .before .before .before .before .before .before .before .push .ensures) (afresh-told _ _ _ _ (c .before .before .before .before .before .before .before .before .before .before .before .before .before .before .before .before .before .before .before .before .before .before .before .before .before .before .before .before .before .before .before .before .before .before .before .before .before .before .before .afresh .ensures) (c .before .before .before .before .before .before .before .before .before .before .before .before .before .before .before .before .before .before .before .before .before .before .before .before .before .before .before .spell-name .ensures)) (c .before .before .before .before .before .before .before .before .before .before .before .before .before .before .before .before .before .before .before .middle .ensures) (afresh-told _ _ _ _ (c .before .before .before .before .before .before .before .before .before .before .before .before .before .before .before .before .before .before .before .before .before .before .before .before .before .before .before .before .before .before .before .before .before .before .before .before .before .before .before .afresh .ensures) (c .before .before .before .before .before .before .before .before .before .before .before .spell-name2 .ensures)) (c .before .before .before .push2 .ensures) (c .both .ensures)
+spell-name-returns t c = parted-told _ _ _ _ (c .before .before .before .before .before .before .before .before .before .before .before .before .before .before .before .before .before .before .before .before .before .before .before .before .before .before .before .before .before .before .before .before .before .before .before .before .before .before .before .before .before .before .before .part-of .ensures) _ _ (c .before .before .before .before .before .before .before .before .before .before .before .before .before .before .before .before .before .before .before .before .before .before .before .before .before .before .before .before .before .before .before .before .before .before .before .before .before .before .before .before .before .keep .given .1) _ (front-is (c .before .before .before .before .before .before .before .before .before .before .before .before .before .before .before .before .before .before .before .before .before .before .before .before .before .before .before .before .before .before .before .before .before .before .before .before .before .join-prefix .ensures) (joined-small _ _ _ (c .before .before .before .before .before .before .before .before .before .before .before .before .before .before .before .before .before .before .before .before .before .before .before .before .before .before .before .before .before .before .before .before .before .before .before .before .before .before .before .before .before .before .before .part-of .ensures) _ _ (c .before .before .before .before .before .before .before .before .before .before .before .before .before .before .before .before .before .before .before .before .before .before .before .before .before .before .before .before .before .before .before .before .before .before .before .before .before .before .before .before .before .keep .given .1) (c .before .before .before .before .before .before .before .before .before .before .before .before .before .before .before .before .before .before .before .before .before .before .before .before .before .before .before .before .before .before .before .before .before .before .before .before .before .before .before .before .before .before .before .before .before .before .before .before .before .pre .1 .1 .1 .0)) refl) (c .before .before .before .before .before .before .before .before .before .before .before .before .before .before .before .before .before .before .before .before .before .before .before .before .before .before .before .before .before .before .before .before .before .before .push .ensures) (afresh-told _ _ _ _ (c .before .before .before .before .before .before .before .before .before .before .before .before .before .before .before .before .before .before .before .before .before .before .before .before .before .before .before .before .before .before .before .before .before .before .before .before .before .before .before .afresh .ensures) (c .before .before .before .before .before .before .before .before .before .before .before .before .before .before .before .before .before .before .before .before .before .before .before .before .before .before .before .spell-name .ensures)) (c .before .before .before .before .before .before .before .before .before .before .before .before .before .before .before .before .before .before .before .middle .ensures) (afresh-told _ _ _ _ (c .before .before .before .before .before .before .before .before .before .before .before .before .before .before .before .before .before .before .before .before .before .before .before .before .before .before .before .before .before .before .before .before .before .before .before .before .before .before .before .afresh .ensures) (c .before .before .before .before .before .before .before .before .before .before .before .spell-name2 .ensures)) (c .before .before .before .push2 .ensures) (c .both .ensures)
 
 spell-name-same-length-4 : (t : ℕ) → spell-name-lts.Need-same-length-4 (spell-name-calls t) (spell-name-at t) spell-name.Post
-spell-name-same-length-4 t c = c .before .before .before .before .before .store3 .given
+spell-name-same-length-4 t c = search needs
 
 spell-name-same-length-5 : (t : ℕ) → spell-name-lts.Need-same-length-5 (spell-name-calls t) (spell-name-at t) spell-name.Post
 spell-name-same-length-5 t c = c .before .before .before .marks3 .given
@@ -150,10 +150,10 @@ spell-name-same-length-6 : (t : ℕ) → spell-name-lts.Need-same-length-6 (spel
 spell-name-same-length-6 t c = c .before .out6 .given
 
 spell-name-returns-2 : (t : ℕ) → spell-name-lts.Need-returns-2 (spell-name-calls t) (spell-name-at t) spell-name.Post
-spell-name-returns-2 t c = whole-plain _ _ _ _ (c .before .before .before .before .before .before .before .before .before .before .before .before .before .before .part-of .ensures) (c .before .before .before .before .before .before .before .before .before .before .before .before .enum-told .given .1) _ (c .before .before .before .before .before .before .before .before .before .before .before .is-plain .ensures) (c .before .before .before .before .before .before .before .before .before .before .if1 .taken) (c .before .before .before .before .before .before .spell-plain .ensures)
+spell-name-returns-2 t c = search (whole-plain, needs)
 
 spell-name-same-length-7 : (t : ℕ) → spell-name-lts.Need-same-length-7 (spell-name-calls t) (spell-name-at t) spell-name.Post
-spell-name-same-length-7 t c = c .before .before .before .before .before .store4 .given
+spell-name-same-length-7 t c = search needs
 
 spell-name-same-length-8 : (t : ℕ) → spell-name-lts.Need-same-length-8 (spell-name-calls t) (spell-name-at t) spell-name.Post
 spell-name-same-length-8 t c = c .before .before .before .marks4 .given
@@ -162,13 +162,13 @@ spell-name-same-length-9 : (t : ℕ) → spell-name-lts.Need-same-length-9 (spel
 spell-name-same-length-9 t c = c .before .out7 .given
 
 spell-name-returns-3 : (t : ℕ) → spell-name-lts.Need-returns-3 (spell-name-calls t) (spell-name-at t) spell-name.Post
-spell-name-returns-3 t c = whole-words _ _ _ _ (c .before .before .before .before .before .before .before .before .before .before .before .before .before .before .part-of .ensures) (c .before .before .before .before .before .before .before .before .before .before .before .before .enum-told .given .1) _ (c .before .before .before .before .before .before .before .before .before .before .before .is-plain .ensures) (c .before .before .before .before .before .before .before .before .before .before .if1 .left) (c .before .before .before .before .before .before .spell-words .ensures)
+spell-name-returns-3 t c = search (whole-words, needs)
 
 spell-words-afresh-requires : (t : ℕ) → spell-words-lts.Need-afresh-requires (spell-words-calls t) (spell-words-at t) spell-words.Post spell-words-Inv-loop spell-words-μ-loop
 spell-words-afresh-requires t c κs = search needs
 
 spell-words-loop-holds : (t : ℕ) → spell-words-lts.Need-loop-holds (spell-words-calls t) (spell-words-at t) spell-words.Post spell-words-Inv-loop spell-words-μ-loop
-spell-words-loop-holds t c = held-start _ _ _ _ _ _ _ (c .before .before .before .before .before .before .before .pre .1 .1 .1 .1 .0) (c .before .before .before .before .before .before .before .good .1 .1 .1 .1 .1 .1 .0 .1)
+spell-words-loop-holds t c = search (held-start, needs)
 
 spell-words-next-word-requires : (t : ℕ) → spell-words-lts.Need-next-word-requires (spell-words-calls t) (spell-words-at t) spell-words.Post spell-words-Inv-loop spell-words-μ-loop
 spell-words-next-word-requires t c κs = search needs
@@ -189,7 +189,7 @@ spell-words-hyphen-requires : (t : ℕ) → spell-words-lts.Need-hyphen-requires
 spell-words-hyphen-requires t c κs = search needs
 
 spell-words-spell-name-requires : (t : ℕ) → spell-words-lts.Need-spell-name-requires (spell-words-calls t) (spell-words-at t) spell-words.Post spell-words-Inv-loop spell-words-μ-loop
-spell-words-spell-name-requires t c κs = (word-falls (held-shorter (c .before .before .before .before .before .before .before .before .before .loop .inv) _ (c .before .before .before .before .before .before .before .before .next-word .ensures) (c .before .before .before .before .before .before .before .if1 .left) (c .before .before .before .before .before .before .before .before .before .before .before .before .before .before .before .before .before .pre .1 .1 .1 .1 .1)) (c .before .before .before .before .before .before .before .before .before .before .before .before .before .before .before .before .before .pre .0), (held-scratch (c .before .before .before .before .before .before .before .before .before .loop .inv) (c .before .before .before .before .before .before .before .before .before .before .before .before .before .before .before .before .before .pre .1 .0), (ready-afresh _ _ _ (c .before .before .before .before .before .before .before .before .before .before .before .before .before .before .before .before .before .pre .1 .1 .0) _ (c .before .before .before .before .before .before .before .before .before .before .afresh .ensures), (still-short (held-shorter (c .before .before .before .before .before .before .before .before .before .loop .inv) _ (c .before .before .before .before .before .before .before .before .next-word .ensures) (c .before .before .before .before .before .before .before .if1 .left) (c .before .before .before .before .before .before .before .before .before .before .before .before .before .before .before .before .before .pre .1 .1 .1 .1 .1)) (c .before .before .before .before .before .before .before .before .before .before .before .before .before .before .before .before .before .pre .1 .1 .1 .0), held-place (c .before .before .before .before .before .before .before .before .before .loop .inv) _ (c .before .before .before .before .before .before .before .before .next-word .ensures) (c .before .before .before .before .before .before .before .if1 .left) (c .before .before .before .before .before .hyphen .ensures)))))
+spell-words-spell-name-requires t c κs = (word-falls (held-shorter (c .before .before .before .before .before .before .before .before .before .loop .inv) _ (c .before .before .before .before .before .before .before .before .next-word .ensures) (c .before .before .before .before .before .before .before .if1 .left) (c .before .before .before .before .before .before .before .before .before .before .before .before .before .before .before .before .pre .1 .1 .1 .1 .1)) (c .before .before .before .before .before .before .before .before .before .before .before .before .before .before .before .before .pre .0), (held-scratch (c .before .before .before .before .before .before .before .before .before .loop .inv) (c .before .before .before .before .before .before .before .before .before .before .before .before .before .before .before .before .pre .1 .0), (ready-afresh _ _ _ (c .before .before .before .before .before .before .before .before .before .before .before .before .before .before .before .before .pre .1 .1 .0) _ (c .before .before .before .before .before .before .before .before .before .before .afresh .ensures), (still-short (held-shorter (c .before .before .before .before .before .before .before .before .before .loop .inv) _ (c .before .before .before .before .before .before .before .before .next-word .ensures) (c .before .before .before .before .before .before .before .if1 .left) (c .before .before .before .before .before .before .before .before .before .before .before .before .before .before .before .before .pre .1 .1 .1 .1 .1)) (c .before .before .before .before .before .before .before .before .before .before .before .before .before .before .before .before .pre .1 .1 .1 .0), held-place (c .before .before .before .before .before .before .before .before .before .loop .inv) _ (c .before .before .before .before .before .before .before .before .next-word .ensures) (c .before .before .before .before .before .before .before .if1 .left) (c .before .before .before .before .before .hyphen .ensures)))))
 
 spell-words-both-requires : (t : ℕ) → spell-words-lts.Need-both-requires (spell-words-calls t) (spell-words-at t) spell-words.Post spell-words-Inv-loop spell-words-μ-loop
 spell-words-both-requires t c κs = search needs
@@ -198,7 +198,7 @@ spell-words-past-word-requires : (t : ℕ) → spell-words-lts.Need-past-word-re
 spell-words-past-word-requires t c κs = search needs
 
 spell-words-loop-less : (t : ℕ) → spell-words-lts.Need-loop-less (spell-words-calls t) (spell-words-at t) spell-words.Post spell-words-Inv-loop spell-words-μ-loop
-spell-words-loop-less t c = held-less (c .before .before .before .before .before .before .before .before .before .before .before .before .before .before .before .before .before .before .loop .inv) _ (c .before .before .before .before .before .before .before .before .before .before .before .before .before .before .before .before .before .next-word .ensures) (c .before .before .before .before .before .before .before .before .before .before .before .before .before .before .before .before .if1 .left) _ (c .past-word .ensures)
+spell-words-loop-less t c = search (held-less, needs)
 
 spell-words-loop-again : (t : ℕ) → spell-words-lts.Need-loop-again (spell-words-calls t) (spell-words-at t) spell-words.Post spell-words-Inv-loop spell-words-μ-loop
 spell-words-loop-again t c = held-turn (c .before .before .before .before .before .before .before .before .before .before .before .before .before .before .before .before .before .before .loop .inv) _ (c .before .before .before .before .before .before .before .before .before .before .before .before .before .before .before .before .before .next-word .ensures) (c .before .before .before .before .before .before .before .before .before .before .before .before .before .before .before .before .if1 .left) (c .before .before .before .before .before .before .before .before .before .before .before .before .before .before .hyphen .ensures) (told-again _ _ _ (c .before .before .before .before .before .before .before .before .before .before .before .before .before .before .before .before .before .before .before .afresh .ensures) _ (c .before .before .before .before .before .before .before .before .spell-name .ensures)) (c .before .both .ensures) (c .past-word .ensures) (c .before .before .before .before .before .before .before .store .given) (c .before .before .before .before .before .marks .given) (c .before .before .before .out2 .given ∙ c .before .before .before .before .before .before .before .before .before .before .before .before .before .out .given)

@@ -6,16 +6,16 @@ use Rattle.engine.proofs.encode.spell_plain.Tie as tie
 use Rattle.base.proofs.PickLaws.{pick-yes, pick-no}
 
 part-spell-word-end : tie.Need-part-spell-word-end
-part-spell-word-end c = front-in (c .before .before .before .before .join-words .ensures) (joined-few _ _ (c .before .before .before .before .before .before .before .before .before .before .before .before .before .before .pre .1 .1)) refl
+part-spell-word-end c = search (front-in, joined-few, needs)
 
 spell-word-requires : tie.Need-spell-word-requires
-spell-word-requires c κs = (c .before .before .before .before .before .before .before .before .before .before .before .before .before .before .before .before .pre .0, (c .before .before .before .before .before .before .before .before .before .before .before .before .before .before .before .before .pre .1 .0, start-below _ _ _ (c .before .before .before .before .before .before .before .before .before .before .before .before .before .before .before .before .pre .1 .0) _ _ (start-told _ _ _ (c .before .before .before .before .before .before .before .before .before .before .before .before .before .before .before .before .pre .1 .0) _ _ (c .before .before .before .before .before .before .before .before .before .start-of .ensures))))
+spell-word-requires c κs = (c .before .before .before .before .before .before .before .before .before .before .before .before .before .before .before .pre .0, (c .before .before .before .before .before .before .before .before .before .before .before .before .before .before .before .pre .1 .0, start-below _ _ _ (c .before .before .before .before .before .before .before .before .before .before .before .before .before .before .before .pre .1 .0) _ _ (start-told _ _ _ (c .before .before .before .before .before .before .before .before .before .before .before .before .before .before .before .pre .1 .0) _ _ (c .before .before .before .before .before .before .before .before .before .start-of .ensures))))
 
 spell-word-requires-2 : tie.Need-spell-word-requires-2
-spell-word-requires-2 c κs = (c .before .before .before .before .before .before .before .before .before .before .before .before .pre .0, (c .before .before .before .before .before .before .before .before .before .before .before .before .pre .1 .0, start-below _ _ _ (c .before .before .before .before .before .before .before .before .before .before .before .before .pre .1 .0) _ _ (start-told _ _ _ (c .before .before .before .before .before .before .before .before .before .before .before .before .pre .1 .0) _ _ (c .before .before .before .before .before .start-of .ensures))))
+spell-word-requires-2 c κs = (c .before .before .before .before .before .before .before .before .before .before .before .pre .0, (c .before .before .before .before .before .before .before .before .before .before .before .pre .1 .0, start-below _ _ _ (c .before .before .before .before .before .before .before .before .before .before .before .pre .1 .0) _ _ (start-told _ _ _ (c .before .before .before .before .before .before .before .before .before .before .before .pre .1 .0) _ _ (c .before .before .before .before .before .start-of .ensures))))
 
 same-length : tie.Need-same-length
-same-length c = c .before .before .before .before .before .store .given
+same-length c = search needs
 
 same-length-2 : tie.Need-same-length-2
 same-length-2 c = c .before .before .before .marks .given
@@ -24,10 +24,10 @@ same-length-3 : tie.Need-same-length-3
 same-length-3 c = c .before .out .given
 
 returns : tie.Need-returns
-returns c = plain-told _ _ _ _ _ (start-told _ _ _ (c .before .before .before .before .before .before .before .before .before .before .before .before .before .before .before .before .before .before .before .before .before .before .before .pre .1 .0) _ _ (c .before .before .before .before .before .before .before .before .before .before .before .before .before .before .before .before .start-of .ensures)) (pick-yes _ _ _ _ (c .before .before .before .before .before .before .before .before .before .before .before .before .before .before .before .if1 .taken) (front-is (c .before .before .before .before .before .before .before .before .before .before .before .before .before .join-words .ensures) (joined-few _ _ (c .before .before .before .before .before .before .before .before .before .before .before .before .before .before .before .before .before .before .before .before .before .before .before .pre .1 .1)) refl)) (c .before .before .before .before .before .before .spell-word .ensures)
+returns c = search (plain-told, start-told, pick-yes, front-is, joined-few, needs)
 
 same-length-4 : tie.Need-same-length-4
-same-length-4 c = c .before .before .before .before .before .store2 .given
+same-length-4 c = search needs
 
 same-length-5 : tie.Need-same-length-5
 same-length-5 c = c .before .before .before .marks2 .given
@@ -36,7 +36,7 @@ same-length-6 : tie.Need-same-length-6
 same-length-6 c = c .before .out2 .given
 
 returns-2 : tie.Need-returns-2
-returns-2 c = plain-told _ _ _ _ _ (start-told _ _ _ (c .before .before .before .before .before .before .before .before .before .before .before .before .before .before .before .before .before .before .before .pre .1 .0) _ _ (c .before .before .before .before .before .before .before .before .before .before .before .before .start-of .ensures)) (pick-no _ _ _ _ (c .before .before .before .before .before .before .before .before .before .before .before .if1 .left) (c .before .before .before .before .before .before .before .before .before .before .next-word .ensures)) (c .before .before .before .before .before .before .spell-word2 .ensures)
+returns-2 c = search (plain-told, start-told, pick-no, needs)
 
 pub spell-plain-spec : {M : Type 1} → statement M
 spell-plain-spec =

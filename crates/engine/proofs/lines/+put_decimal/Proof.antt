@@ -1,6 +1,6 @@
 use borrow.Author.Needs.{needs}
-use Rattle.engine.proofs.LinesLaws.{lines-laws}
-use Prim.Native.Nat.{ℕ}
+use Rattle.engine.proofs.LineLaws.{lines-laws}
+use Prim.Native.Nat.{ℕ, _<_}
 use borrow.Fn.Kinds.{In}
 use borrow.Fn.PlainCycle.{Measures, is, falls, and}
 use Rattle.engine.proofs.lines.put_decimal.Reads as put-decimal

@@ -1,6 +1,6 @@
 use native.Mathlib.Omega.{arith}
 use borrow.Author.Needs.{needs}
-use Rattle.engine.proofs.LinesLaws.{lines-laws, done-within}
+use Rattle.engine.proofs.LineLaws.{lines-laws, done-within}
 use Rattle.engine.proofs.lines.done_line.Statement.{statement}
 use Rattle.engine.proofs.lines.done_line.Tie as tie
 

@@ -1,6 +1,6 @@
 use native.Mathlib.Omega.{arith}
 use borrow.Author.Needs.{needs}
-use Rattle.engine.proofs.LinesLaws.{head-is, digit-small}
+use Rattle.engine.proofs.LineLaws.{head-is, digit-small}
 use Rattle.engine.proofs.lines.put_head.Statement.{statement}
 use Rattle.engine.proofs.lines.put_head.Tie as tie
 

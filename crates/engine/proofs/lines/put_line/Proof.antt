@@ -1,52 +1,53 @@
 use mathlib.Core.Path.{_∙_}
 use native.Mathlib.Omega.{arith}
 use Rattle.engine.specs.Calls.{callOf}
-use Rattle.engine.proofs.LinesLaws.{call-below, lent-order, lent-within, lent-long, put-done, put-refused}
+use Rattle.engine.proofs.BelowLaws.{call-below}
+use Rattle.engine.proofs.NameLineLaws.{lent-order, lent-within, lent-long, put-done, put-refused}
 use borrow.Author.Needs.{needs}
 use Rattle.engine.proofs.lines.put_line.Statement.{statement}
 use Rattle.engine.proofs.lines.put_line.Tie as tie
 
 sub-spell-at : tie.Need-sub-spell-at
-sub-spell-at c = lent-order (c .before .before .before .before .before .before .before .before .before .before .args .out .now) _ _ _ _ (c .before .before .before .before .before .before .before .before .before .before .pre .1 .1) (c .before .before .before .front-of .ensures) (c .before .before .end-of .ensures)
+sub-spell-at c = search (lent-order, needs)
 
 part-spell-at-start : tie.Need-part-spell-at-start
-part-spell-at-start c = lent-order (c .before .before .before .before .before .before .before .before .before .before .args .out .now) _ _ _ _ (c .before .before .before .before .before .before .before .before .before .before .pre .1 .1) (c .before .before .before .front-of .ensures) (c .before .before .end-of .ensures)
+part-spell-at-start c = search (lent-order, needs)
 
 part-spell-at-end : tie.Need-part-spell-at-end
-part-spell-at-end c = lent-within (c .before .before .before .before .before .before .before .before .before .before .args .out .now) _ _ _ _ (c .before .before .before .before .before .before .before .before .before .before .pre .1 .1) (c .before .before .before .front-of .ensures) (c .before .before .end-of .ensures)
+part-spell-at-end c = search (lent-within, needs)
 
 spell-at-requires : tie.Need-spell-at-requires
-spell-at-requires c κs = (c .before .before .before .before .before .before .before .before .before .before .before .pre .0, c .before .before .before .before .before .before .before .before .before .before .before .pre .1 .0)
+spell-at-requires c κs = (search needs, search needs)
 
 done-line-requires : tie.Need-done-line-requires
-done-line-requires c κs = (c .before .before .before .before .before .before .before .before .before .before .before .before .before .before .before .before .before .before .before .before .before .before .pre .1 .1 .0, omega (arith, c .before .before .before .before .before .before .before .before .before .before .before .before .before .before .before .before .before .before .before .before .before .before .pre .1 .1 .1, lent-long (c .before .before .before .before .before .before .before .before .before .before .before .before .before .before .before .before .before .before .before .before .before .before .args .out .now) _ _ _ _ (c .before .before .before .before .before .before .before .before .before .before .before .before .before .before .before .before .before .before .before .before .before .before .pre .1 .1) (c .before .before .before .before .before .before .before .before .before .before .before .before .before .before .before .front-of .ensures) (c .before .before .before .before .before .before .before .before .before .before .before .before .before .before .end-of .ensures) (c .before .before .before .before .before .before .before .before .before .before .spell-at .ensures)))
+done-line-requires c κs = (search needs, search (lent-long, needs))
 
 refused-line-requires : tie.Need-refused-line-requires
-refused-line-requires c κs = (c .before .before .before .before .before .before .before .before .before .before .before .before .before .before .before .before .before .before .before .before .before .before .before .pre .1 .1 .0, omega (arith, c .before .before .before .before .before .before .before .before .before .before .before .before .before .before .before .before .before .before .before .before .before .before .before .pre .1 .1 .1, lent-long (c .before .before .before .before .before .before .before .before .before .before .before .before .before .before .before .before .before .before .before .before .before .before .before .args .out .now) _ _ _ _ (c .before .before .before .before .before .before .before .before .before .before .before .before .before .before .before .before .before .before .before .before .before .before .before .pre .1 .1) (c .before .before .before .before .before .before .before .before .before .before .before .before .before .before .before .before .front-of .ensures) (c .before .before .before .before .before .before .before .before .before .before .before .before .before .before .before .end-of .ensures) (c .before .before .before .before .before .before .before .before .before .before .before .spell-at .ensures)))
+refused-line-requires c κs = (search needs, search (lent-long, needs))
 
 same-length : tie.Need-same-length
-same-length c = c .before .before .before .before .before .before .before .before .before .before .before .before .store .given
+same-length c = search needs
 
 same-length-2 : tie.Need-same-length-2
-same-length-2 c = c .before .before .before .before .before .before .before .before .before .before .marks .given
+same-length-2 c = search needs
 
 same-length-3 : tie.Need-same-length-3
-same-length-3 c = c .before .out2 .given ∙ lent-long (c .before .before .before .before .before .before .before .before .before .before .before .before .before .before .before .before .before .before .before .before .before .before .before .before .before .args .out .now) _ _ _ _ (c .before .before .before .before .before .before .before .before .before .before .before .before .before .before .before .before .before .before .before .before .before .before .before .before .before .pre .1 .1) (c .before .before .before .before .before .before .before .before .before .before .before .before .before .before .before .before .before .before .front-of .ensures) (c .before .before .before .before .before .before .before .before .before .before .before .before .before .before .before .before .before .end-of .ensures) (c .before .before .before .before .before .before .before .before .before .before .before .before .before .spell-at .ensures)
+same-length-3 c = c .before .out2 .given ∙ lent-long (c .before .before .before .before .before .before .before .before .before .before .before .before .before .before .before .before .before .before .before .before .before .before .before .before .args .out .now) _ _ _ _ (c .before .before .before .before .before .before .before .before .before .before .before .before .before .before .before .before .before .before .before .before .before .before .before .before .pre .1 .1) (c .before .before .before .before .before .before .before .before .before .before .before .before .before .before .before .before .before .before .front-of .ensures) (c .before .before .before .before .before .before .before .before .before .before .before .before .before .before .before .before .before .end-of .ensures) (c .before .before .before .before .before .before .before .before .before .before .before .before .before .spell-at .ensures)
 
 returns : tie.Need-returns
-returns c = put-done _ _ _ _ _ (c .before .before .before .before .before .before .before .before .before .before .before .before .before .before .before .before .before .before .before .before .before .before .before .before .before .pre .1 .1) (c .before .before .before .before .before .before .before .before .before .before .before .before .before .before .before .before .before .before .front-of .ensures) (c .before .before .before .before .before .before .before .before .before .before .before .before .before .before .before .before .before .end-of .ensures) (callOf _ _ _) _ _ _ _ _ (call-below _ _ _ _) (c .before .before .before .before .before .before .before .before .before .before .before .before .before .spell-at .ensures) _ _ (c .before .before .before .before .before .written .given .1) (c .before .before .done-line .ensures)
+returns c = put-done _ _ _ _ _ (c .before .before .before .before .before .before .before .before .before .before .before .before .before .before .before .before .before .before .before .before .before .before .before .before .pre .1 .1) (c .before .before .before .before .before .before .before .before .before .before .before .before .before .before .before .before .before .before .front-of .ensures) (c .before .before .before .before .before .before .before .before .before .before .before .before .before .before .before .before .before .end-of .ensures) (callOf _ _ _) _ _ _ _ _ (call-below _ _ _ _) (c .before .before .before .before .before .before .before .before .before .before .before .before .before .spell-at .ensures) _ _ (c .before .before .before .before .before .written .given .1) (c .before .before .done-line .ensures)
 
 same-length-4 : tie.Need-same-length-4
-same-length-4 c = c .before .before .before .before .before .before .before .before .before .before .before .before .before .store .given
+same-length-4 c = search needs
 
 same-length-5 : tie.Need-same-length-5
-same-length-5 c = c .before .before .before .before .before .before .before .before .before .before .before .marks .given
+same-length-5 c = search needs
 
 same-length-6 : tie.Need-same-length-6
-same-length-6 c = c .before .out3 .given ∙ lent-long (c .before .before .before .before .before .before .before .before .before .before .before .before .before .before .before .before .before .before .before .before .before .before .before .before .before .before .args .out .now) _ _ _ _ (c .before .before .before .before .before .before .before .before .before .before .before .before .before .before .before .before .before .before .before .before .before .before .before .before .before .before .pre .1 .1) (c .before .before .before .before .before .before .before .before .before .before .before .before .before .before .before .before .before .before .before .front-of .ensures) (c .before .before .before .before .before .before .before .before .before .before .before .before .before .before .before .before .before .before .end-of .ensures) (c .before .before .before .before .before .before .before .before .before .before .before .before .before .before .spell-at .ensures)
+same-length-6 c = c .before .out3 .given ∙ lent-long (c .before .before .before .before .before .before .before .before .before .before .before .before .before .before .before .before .before .before .before .before .before .before .before .before .before .args .out .now) _ _ _ _ (c .before .before .before .before .before .before .before .before .before .before .before .before .before .before .before .before .before .before .before .before .before .before .before .before .before .pre .1 .1) (c .before .before .before .before .before .before .before .before .before .before .before .before .before .before .before .before .before .before .before .front-of .ensures) (c .before .before .before .before .before .before .before .before .before .before .before .before .before .before .before .before .before .before .end-of .ensures) (c .before .before .before .before .before .before .before .before .before .before .before .before .before .before .spell-at .ensures)
 
 returns-2 : tie.Need-returns-2
-returns-2 c = put-refused _ _ _ _ _ (c .before .before .before .before .before .before .before .before .before .before .before .before .before .before .before .before .before .before .before .before .before .before .before .before .before .before .pre .1 .1) (c .before .before .before .before .before .before .before .before .before .before .before .before .before .before .before .before .before .before .before .front-of .ensures) (c .before .before .before .before .before .before .before .before .before .before .before .before .before .before .before .before .before .before .end-of .ensures) (callOf _ _ _) _ _ _ _ _ (call-below _ _ _ _) (c .before .before .before .before .before .before .before .before .before .before .before .before .before .before .spell-at .ensures) _ _ _ (c .before .before .before .before .before .before .why .given .1) (c .before .before .before .before .number-of .ensures) (c .before .before .refused-line .ensures)
+returns-2 c = put-refused _ _ _ _ _ (c .before .before .before .before .before .before .before .before .before .before .before .before .before .before .before .before .before .before .before .before .before .before .before .before .before .pre .1 .1) (c .before .before .before .before .before .before .before .before .before .before .before .before .before .before .before .before .before .before .before .front-of .ensures) (c .before .before .before .before .before .before .before .before .before .before .before .before .before .before .before .before .before .before .end-of .ensures) (callOf _ _ _) _ _ _ _ _ (call-below _ _ _ _) (c .before .before .before .before .before .before .before .before .before .before .before .before .before .before .spell-at .ensures) _ _ _ (c .before .before .before .before .before .before .why .given .1) (c .before .before .before .before .number-of .ensures) (c .before .before .refused-line .ensures)
 
 pub put-line-spec : {M : Type 1} → statement M
 put-line-spec =

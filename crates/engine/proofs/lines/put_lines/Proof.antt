@@ -11,21 +11,21 @@ use Rattle.engine.proofs.lines.put_lines.Statement.{statement}
 use Rattle.engine.proofs.lines.put_lines.Tie as tie
 
 abbrev Inv-loop : tie.InvT-loop
-Inv-loop store₀ marks₀ pack places desk settings start block out₀ size read₀ written₀ store marks out read written =
+Inv-loop store₀ marks₀ pack table desk settings start block out₀ size read₀ written₀ store marks out read written =
     Going (callOf settings start pack) block out₀ out size read written × Scratch (length store) (length marks)
 
 abbrev μ-loop : tie.MeasureT-loop
-μ-loop store₀ marks₀ pack places desk settings start block out₀ size read₀ written₀ store marks out read written =
+μ-loop store₀ marks₀ pack table desk settings start block out₀ size read₀ written₀ store marks out read written =
     length block - read
 
 loop-holds : tie.Need-loop-holds Inv-loop μ-loop
-loop-holds c = (going-start _ _ _ _ (c .most-of .ensures), c .before .before .before .before .before .before .before .pre .0)
+loop-holds c = (going-start _ _ _ _ (c .most-of .ensures), search needs)
 
 same-length : tie.Need-same-length Inv-loop μ-loop
-same-length c = c .before .before .before .loop .inv .1 .store-is ∙ sym (c .before .before .before .before .before .before .before .before .before .before .before .pre .0 .store-is)
+same-length c = c .before .before .before .loop .inv .1 .store-is ∙ sym (c .before .before .before .before .before .before .before .before .before .before .pre .0 .store-is)
 
 same-length-2 : tie.Need-same-length-2 Inv-loop μ-loop
-same-length-2 c = c .before .before .before .loop .inv .1 .marks-is ∙ sym (c .before .before .before .before .before .before .before .before .before .before .before .pre .0 .marks-is)
+same-length-2 c = c .before .before .before .loop .inv .1 .marks-is ∙ sym (c .before .before .before .before .before .before .before .before .before .before .pre .0 .marks-is)
 
 same-length-3 : tie.Need-same-length-3 Inv-loop μ-loop
 same-length-3 c = going-long (c .before .before .before .loop .inv .0)
@@ -34,31 +34,31 @@ returns : tie.Need-returns Inv-loop μ-loop
 returns c = going-end (c .before .before .before .loop .inv .0) _ (c .before .find-byte .ensures) (c .if1 .taken)
 
 put-line-requires : tie.Need-put-line-requires Inv-loop μ-loop
-put-line-requires c κs = (c .before .before .before .before .before .before .before .loop .inv .1, (c .before .before .before .before .before .before .before .before .before .before .before .before .before .before .before .pre .1, going-room (c .before .before .before .before .before .before .before .loop .inv .0)))
+put-line-requires c κs = (search needs, (search needs, search (going-room, needs)))
 
 add-read : tie.Need-add-read Inv-loop μ-loop
-add-read c = let m = going-most (c .before .before .before .before .before .before .before .before .before .before .before .before .before .before .before .before .before .loop .inv .0) _ (c .before .before .before .before .before .before .before .before .before .before .before .before .before .before .if1 .left) in omega (arith, m, c .before .before .before .before .before .before .before .before .before .before .before .before .before .before .before .before .before .before .before .before .before .before .before .before .before .good .1 .1 .1 .1 .1 .1 .1 .0 .0)
+add-read c = let m = going-most (c .before .before .before .before .before .before .before .before .before .before .before .before .before .before .before .before .before .loop .inv .0) _ (c .before .before .before .before .before .before .before .before .before .before .before .before .before .before .if1 .left) in omega (arith, m, c .before .before .before .before .before .before .before .before .before .before .before .before .before .before .before .before .before .before .before .before .before .before .before .before .good .1 .1 .1 .1 .1 .1 .1 .0 .0)
 
 add-read-2 : tie.Need-add-read-2 Inv-loop μ-loop
-add-read-2 c = let m = going-most (c .before .before .before .before .before .before .before .before .before .before .before .before .before .before .before .before .before .loop .inv .0) _ (c .before .before .before .before .before .before .before .before .before .before .before .before .before .before .if1 .left) in omega (arith, m, c .before .before .before .before .before .before .before .before .before .before .before .before .before .before .before .before .before .before .before .before .before .before .before .before .before .good .1 .1 .1 .1 .1 .1 .1 .0 .0)
+add-read-2 c = let m = going-most (c .before .before .before .before .before .before .before .before .before .before .before .before .before .before .before .before .before .loop .inv .0) _ (c .before .before .before .before .before .before .before .before .before .before .before .before .before .before .if1 .left) in omega (arith, m, c .before .before .before .before .before .before .before .before .before .before .before .before .before .before .before .before .before .before .before .before .before .before .before .before .good .1 .1 .1 .1 .1 .1 .1 .0 .0)
 
 loop-less : tie.Need-loop-less Inv-loop μ-loop
-loop-less c = going-less (c .before .before .before .before .before .before .before .before .before .before .before .before .before .before .before .before .before .loop .inv .0) _ (c .before .before .before .before .before .before .before .before .before .before .before .before .before .before .if1 .left)
+loop-less c = search (going-less, needs)
 
 loop-again : tie.Need-loop-again Inv-loop μ-loop
 loop-again c = (going-next (c .before .before .before .before .before .before .before .before .before .before .before .before .before .before .before .before .before .loop .inv .0) _ (c .before .before .before .before .before .before .before .before .before .before .before .before .before .before .before .find-byte .ensures) (c .before .before .before .before .before .before .before .before .before .before .before .before .before .before .if1 .left) _ _ (c .before .before .before .before .before .before .before .before .before .put-line .ensures) _ (c .before .next .given .1), scratch-kept (c .before .before .before .before .before .before .before .before .before .before .before .before .before .before .before .before .before .loop .inv .1) (c .before .before .before .before .before .before .before .before .store .given) (c .before .before .before .before .before .before .marks .given))
 
 same-length-4 : tie.Need-same-length-4 Inv-loop μ-loop
-same-length-4 c = c .before .before .before .before .before .before .before .before .before .store .given ∙ c .before .before .before .before .before .before .before .before .before .before .before .before .before .before .before .before .before .before .loop .inv .1 .store-is ∙ sym (c .before .before .before .before .before .before .before .before .before .before .before .before .before .before .before .before .before .before .before .before .before .before .before .before .before .before .pre .0 .store-is)
+same-length-4 c = c .before .before .before .before .before .before .before .before .before .store .given ∙ c .before .before .before .before .before .before .before .before .before .before .before .before .before .before .before .before .before .before .loop .inv .1 .store-is ∙ sym (c .before .before .before .before .before .before .before .before .before .before .before .before .before .before .before .before .before .before .before .before .before .before .before .before .before .pre .0 .store-is)
 
 same-length-5 : tie.Need-same-length-5 Inv-loop μ-loop
-same-length-5 c = c .before .before .before .before .before .before .before .marks .given ∙ c .before .before .before .before .before .before .before .before .before .before .before .before .before .before .before .before .before .before .loop .inv .1 .marks-is ∙ sym (c .before .before .before .before .before .before .before .before .before .before .before .before .before .before .before .before .before .before .before .before .before .before .before .before .before .before .pre .0 .marks-is)
+same-length-5 c = c .before .before .before .before .before .before .before .marks .given ∙ c .before .before .before .before .before .before .before .before .before .before .before .before .before .before .before .before .before .before .loop .inv .1 .marks-is ∙ sym (c .before .before .before .before .before .before .before .before .before .before .before .before .before .before .before .before .before .before .before .before .before .before .before .before .before .pre .0 .marks-is)
 
 same-length-6 : tie.Need-same-length-6 Inv-loop μ-loop
 same-length-6 c = c .before .before .before .before .before .out .given ∙ going-long (c .before .before .before .before .before .before .before .before .before .before .before .before .before .before .before .before .before .before .loop .inv .0)
 
 returns-2 : tie.Need-returns-2 Inv-loop μ-loop
-returns-2 c = going-stop (c .before .before .before .before .before .before .before .before .before .before .before .before .before .before .before .before .before .before .loop .inv .0) _ (c .before .before .before .before .before .before .before .before .before .before .before .before .before .before .before .before .find-byte .ensures) (c .before .before .before .before .before .before .before .before .before .before .before .before .before .before .before .if1 .left) _ _ (c .before .before .before .before .before .before .before .before .before .before .put-line .ensures) _ _ (c .before .before .needed .given .1) (c .stopped .ensures)
+returns-2 c = search (going-stop, needs)
 
 pub put-lines-spec : {M : Type 1} → statement M
 put-lines-spec =

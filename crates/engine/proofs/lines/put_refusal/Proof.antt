@@ -1,5 +1,5 @@
 use borrow.Author.Needs.{needs}
-use Rattle.engine.proofs.LinesLaws.{refusal-put}
+use Rattle.engine.proofs.LineLaws.{refusal-put}
 use Rattle.engine.proofs.lines.put_refusal.Statement.{statement}
 use Rattle.engine.proofs.lines.put_refusal.Tie as tie
 

@@ -30,11 +30,11 @@ enum-told c = search needs
 
 returns : tie.Need-returns
 unfolding wordOf
-returns c = main-then (main-run _ _ _ _ _ _ _ _ _ _ (c .before .before .before .before .before .before .before .before .before .before .before .before .begin .ensures) (c .before .before .before .before .before .before .before .before .before .before .before .before .before .before .before .before .before .pre .is) (c .before .before .before .before .before .before .before .before .run .ensures)) (c .before .before .before .before .before .before .texts .given .1) _ _ _ _ (c .before .final-passes .ensures) (c .raised .ensures)
+returns c = main-then (main-run _ _ _ _ _ _ _ _ _ _ (c .before .before .before .before .before .before .before .before .before .before .before .before .begin .ensures) (c .before .before .before .before .before .before .before .before .before .before .before .before .before .before .before .before .before .pre .code .is) (c .before .before .before .before .before .before .before .before .run .ensures)) (c .before .before .before .before .before .before .texts .given .1) _ _ _ _ (c .before .final-passes .ensures) (c .raised .ensures)
 
 returns-2 : tie.Need-returns-2
 unfolding wordOf
-returns-2 c = main-long (main-run _ _ _ _ _ _ _ _ _ _ (c .before .before .before .before .before .before .begin .ensures) (c .before .before .before .before .before .before .before .before .before .before .before .pre .is) (c .before .before .run .ensures)) _ (c .enum-told .given .1)
+returns-2 c = main-long (main-run _ _ _ _ _ _ _ _ _ _ (c .before .before .before .before .before .before .begin .ensures) (c .before .before .before .before .before .before .before .before .before .before .before .pre .code .is) (c .before .before .run .ensures)) _ (c .enum-told .given .1)
 
 pub spell-word-spec : {M : Type 1} → statement M
 spell-word-spec =

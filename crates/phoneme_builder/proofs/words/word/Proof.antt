@@ -1,23 +1,21 @@
 use borrow.Author.Needs.{needs}
-use Rattle.languages.specs.Contracts.{BitsBelow}
-use Rattle.phoneme_builder.proofs.WordLaws.{set-below, code-by, set-by, texts-in, word-capped, word-done, word-long, word-many}
+use Rattle.phoneme_builder.proofs.WordLaws.{texts-in, word-capped, word-done, word-long, word-many}
 use Rattle.phoneme_builder.proofs.words.word.Statement.{statement}
 use Rattle.phoneme_builder.proofs.words.word.Tie as tie
 use Rattle.phoneme_builder.proofs.words.word.Reads as reads
 use Rattle.phoneme_builder.proofs.words.word.Lts as lts
-use Rattle.languages.proofs.coded.Reads as coded-reads
 use Rattle.phoneme_builder.proofs.pass.least_of.Reads as least-of-reads
 use Rattle.phoneme_builder.proofs.words.give.Reads as give-reads
 use Rattle.phoneme_builder.proofs.words.spell_word.Reads as spell-word-reads
 
-coded-requires : tie.Need-coded-requires
-coded-requires c κs = search needs
+code-of-requires : tie.Need-code-of-requires
+code-of-requires c κs = search needs
 
 least-of-requires : tie.Need-least-of-requires
 least-of-requires c κs = search needs
 
 spell-word-requires : tie.Need-spell-word-requires
-spell-word-requires c κs = let below : BitsBelow 32 (c .before .before .before .before .before .before .before .before .args .by .set) = set-below _ _ (c .before .before .before .before .before .before .before .before .good .1 .1 .1 .1 .0 .1) in record { few = search needs; code = code-by _ below (c .before .before .before .before .coded .ensures); is = set-by _ below (c .before .before .before .before .coded .ensures) }
+spell-word-requires c κs = search needs
 
 enum-known-texts : tie.Need-enum-known-texts
 enum-known-texts c = search needs
@@ -47,7 +45,7 @@ pub word-spec : {M : Type 1} → statement M
 word-spec =
     tie.close
     (tie.spec
-    coded-requires
+    code-of-requires
     least-of-requires
     spell-word-requires
     enum-known-texts

@@ -2,7 +2,7 @@ use lib.ListN.{length}
 use native.Mathlib.Omega.{arith}
 use borrow.Author.Needs.{needs}
 use Rattle.rule_lists.proofs.GoingLaws.{Going, going-start, going-done, going-passed, going-rule, going-in, stop-bad, stop-enter, stop-in, entry-left, entry-less, entry-order, entry-within, entry-ready, room-passed, room-rule, room-include, less-passed, less-rule, less-include}
-use Prim.Native.Nat.{ℕ, _-_}
+use Prim.Native.Nat.{ℕ, _-_, _<_}
 use borrow.Fn.Kinds.{In}
 use borrow.Fn.PlainCycle.{Measures, is, falls, and}
 use Rattle.rule_lists.proofs.walk.walk.Reads as walk
