@@ -3,7 +3,7 @@ use mathlib.Core.Path.{_≡_, refl, sym, ap, _∙_}
 use mathlib.Core.List.{List, [], _∷_}
 use Prim.Native.Nat.{ℕ, zero, suc, _-_, _≤_, _<_, min}
 use native.Mathlib.Omega.{arith}
-use lib.ListN.{length, take, drop, length-drop, drop-of-length-le}
+use lib.ListN.{length, take, drop, length-drop}
 use Rattle.letters.specs.Utf8.{decodeAt}
 use Rattle.letters.specs.declared.utf8.Step.{Step}
 use Rattle.letters.specs.declared.utf8.Step.the-variants.{Char, Ill, End}

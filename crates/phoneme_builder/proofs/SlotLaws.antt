@@ -1,5 +1,5 @@
 -- Laws of three numbers in one. Assumes nothing.
-use mathlib.Core.Path.{_≡_, _∙_}
+use mathlib.Core.Path.{_≡_}
 use Prim.Native.Nat.{ℕ, _<_}
 use native.Mathlib.Omega.{arith}
 use Rattle.languages.specs.Contracts.{coded, codesMerged, IsCode, BitsBelow}

@@ -2,10 +2,10 @@
 ghost use Rattle.phoneme_builder.specs.BufferContracts.{arena, Lengthens, LengthenedTo, BetweenIn, AppendedTo};
 use crate::apply::Applied;
 use crate::set::Between;
-use crate::set::Target;
 use crate::set::ROW;
 use crate::set::Slots;
 use crate::set::Store;
+use crate::set::Target;
 use crate::set::add_to;
 use crate::set::copy_text;
 use crate::set::langs_at;
@@ -47,7 +47,10 @@ pub(crate) fn append(store: &mut Store, slots: &mut Slots, sets: Between, c: &[u
             slots,
             sets.from,
             i,
-            Target { set: sets.to, count },
+            Target {
+                set: sets.to,
+                count,
+            },
             c,
         ) {
             Applied::Now(grown) => {

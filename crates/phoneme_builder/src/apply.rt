@@ -1,10 +1,10 @@
 // Applying a rule (01, Spelling a name, step 7).
 ghost use Rattle.phoneme_builder.specs.BufferContracts.{arena, Offers, OfferedTo, RowOffers, RowOffered, TextOffers, TextOffered, Applies, AppliedTo};
 use crate::set::Between;
-use crate::set::Target;
 use crate::set::ROW;
 use crate::set::Slots;
 use crate::set::Store;
+use crate::set::Target;
 use crate::set::add_to;
 use crate::set::copy_text;
 use crate::set::langs_at;
@@ -142,7 +142,10 @@ pub(crate) fn apply(
             slots,
             sets.from,
             old,
-            Target { set: sets.to, count },
+            Target {
+                set: sets.to,
+                count,
+            },
             expr,
             alts,
             most,

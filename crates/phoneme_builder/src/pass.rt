@@ -107,13 +107,7 @@ fn past(word: &[u8], place: usize, step: usize) -> usize
 }
 
 // An unmatched character: skipped in the main pass, appended in a final one.
-fn pass_unmatched(
-    store: &mut Store,
-    slots: &mut Slots,
-    by: Pass,
-    word: &[u8],
-    at: Stage,
-) -> Turned
+fn pass_unmatched(store: &mut Store, slots: &mut Slots, by: Pass, word: &[u8], at: Stage) -> Turned
     requires { ⌜ StageIn (arena (now store) (now slots)) (now word) at ⌝ }
     ensures { λ r. ⌜ UnmatchedTurned (arena (now (store .entry)) (now (slots .entry))) (arena (now (store .exit)) (now (slots .exit)))
         by (now (word .entry)) at r ⌝ }

@@ -21,6 +21,7 @@ pub type Slots = [[u64; 256]; 4];
 
 // The bytes of a row, which no text exceeds, and the texts that a set may have.
 pub(crate) const ROW: usize = 128;
+
 pub(crate) const MOST: usize = 256;
 
 // A set by its number, and how many texts it has.

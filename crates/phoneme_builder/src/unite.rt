@@ -1,11 +1,11 @@
 // Uniting the results of a final pass (01, Spelling a name, step 8).
 ghost use Rattle.phoneme_builder.specs.BufferContracts.{InsertsRow, RowInserted, Unites, UnitedRow, arena, UnitesTo, UnitedTo, UnitesText, UnitedText, UnitesSet, UnitedSet};
 use crate::set::Between;
-use crate::set::Target;
 use crate::set::Found;
 use crate::set::MOST;
 use crate::set::Slots;
 use crate::set::Store;
+use crate::set::Target;
 use crate::set::copy_text;
 use crate::set::find;
 use crate::set::insert_text;
@@ -20,14 +20,7 @@ pub(crate) enum United {
 }
 
 // A text written into the row behind the others, and its slot put at index p.
-fn insert_row(
-    store: &mut [u8],
-    slots: &mut [u64],
-    p: usize,
-    count: usize,
-    text: &[u8],
-    langs: u64,
-)
+fn insert_row(store: &mut [u8], slots: &mut [u64], p: usize, count: usize, text: &[u8], langs: u64)
     requires { ⌜ InsertsRow (now store) (now slots) p count (now text) langs ⌝ }
     ensures { λ _. ⌜ RowInserted (now (store .entry)) (now (slots .entry)) p count (now (text .entry)) langs
         (now (store .exit)) (now (slots .exit)) ⌝ }
@@ -129,7 +122,10 @@ pub(crate) fn unite(
             slots,
             sets.from,
             next,
-            Target { set: sets.to, count },
+            Target {
+                set: sets.to,
+                count,
+            },
             worked,
         ) {
             United::Into(grown) => {
