@@ -32,7 +32,7 @@ use Rattle.choices.specs.Texts.{Text}
 use Rattle.engine.specs.Spelling.{Spelt, unspelt, speltAs, onePart, partedAs, spelledName}
 use Rattle.engine.specs.Calls.{settingsKnown, kindKnown, haveLanguages, stepsBy, stepsOf, spelledBy, CallOutcome, refusedBy, outcomeOf, onPack, checkedThen, callOf, numbersIn, spelledNumbers, filledBy, SpellIs}
 use Rattle.rule_index.specs.Contracts.{packIn}
-use Rattle.engine.specs.Contracts.{AtDesk, DeskIs, CallReady, Scratch, callFor, FoundIs, stepsAt, startAt, isSpelt, ToldBy, NameTold, wholeBy, ToldWhole, answeredBy, wholeAnd, KeptAll, none, over, copied, HeldApartIs, toldOf}
+use Rattle.engine.specs.Contracts.{AtDesk, DeskIs, CallReady, callFor, FoundIs, stepsAt, startAt, isSpelt, ToldBy, NameTold, wholeBy, ToldWhole, answeredBy, wholeAnd, KeptAll, none, over, copied, HeldApartIs, toldOf}
 use Rattle.engine.specs.declared.call.Call.{Call}
 use Rattle.engine.specs.declared.encode.Ends.{Ends}
 use Rattle.engine.specs.declared.spelling.Spelled.{Spelled}

@@ -102,12 +102,6 @@ fn ended(answer: Worded, at: usize) -> Ends
             fine: false,
             why: Refusal::TooManyTexts,
         },
-        Worded::Unfit => Ends {
-            at,
-            flag: false,
-            fine: false,
-            why: Refusal::TooManyTexts,
-        },
     }
 }
 

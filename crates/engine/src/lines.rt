@@ -14,6 +14,8 @@ use crate::call::Start;
 use crate::call::open;
 use crate::spelling::Spelled;
 use crate::spelling::spell_at;
+use phoneme_builder::Slots;
+use phoneme_builder::Store;
 use rule_index::Table;
 
 // How many bytes of the block were read, and how many written; or that the first line has no room in the whole buffer, and how many

@@ -22,6 +22,8 @@ use crate::encode::part_of;
 use crate::encode::spell_name;
 use crate::encode::spell_plain;
 use letters::Found;
+use phoneme_builder::Slots;
+use phoneme_builder::Store;
 use prefixes::Prefix;
 use refusals::Refusal;
 use rule_index::Table;

@@ -341,9 +341,9 @@ pub «rule_index-index» : SettledBy rule_index.index.ended {B = Surveyed × (�
 pub «rule_index-first-match» : SettledBy rule_index.first_match.ended (λ κs a x v. seenIn (now (a .0)) x) rule_index.first_match.Reads.Asked rule_index.first_match.Reads.Learnt
 «rule_index-first-match» κs a = (tt, λ x y v w. match-one _ _ _ _ x y)
 
--- ---- phoneme_builder: of its three work buffers `word` promises nothing; the fourth, `out`, is its thirteenth parameter
+-- ---- phoneme_builder: of its two work buffers `word` promises nothing; the third, `out`, is its seventh parameter
 
-pub «phoneme_builder-word» : SettledBy phoneme_builder.word.ended {B = Worded × List ℕ} (λ κs a x v. (x, v .1 .1 .1 .1 .1 .1 .1 .1 .1 .1 .1 .1 .0)) phoneme_builder.word.Reads.Asked phoneme_builder.word.Reads.Learnt
+pub «phoneme_builder-word» : SettledBy phoneme_builder.word.ended {B = Worded × List ℕ} (λ κs a x v. (x, v .1 .1 .1 .1 .1 .1 .0)) phoneme_builder.word.Reads.Asked phoneme_builder.word.Reads.Learnt
 «phoneme_builder-word» κs a = (tt, λ x y v w p q. let e = word-one p q in ap₂ (λ r o. (r, o)) (e .0) (e .1))
 
 -- ---- engine
