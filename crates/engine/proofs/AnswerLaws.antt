@@ -303,6 +303,3 @@ module _ (c : Settings) (start : Start) (s : List ℕ) (table : List (List ℕ))
 -- the promise of a call allows one answer and one content of the buffer
 pub spell-one : {x : CallOutcome} {out o o′ : List ℕ} {r r′ : Spelled} → SpellIs x out r o → SpellIs x out r′ o′ → (r ≡ r′) × (o ≡ o′)
 spell-one a b = (numbers-one _ _ (one (a .result) (b .result)), one (a .buffer) (b .buffer))
-
-pub scratch-new : (a b : ℕ) → a ≡ 131072 → b ≡ 1024 → Scratch (length (replicate {A = ℕ} a 0)) (length (replicate {A = ℕ} b 0))
-scratch-new a b ea eb = record { store-is = length-replicate {A = ℕ} a 0 ∙ ea; marks-is = length-replicate {A = ℕ} b 0 ∙ eb }

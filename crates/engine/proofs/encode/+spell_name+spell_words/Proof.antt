@@ -93,7 +93,7 @@ spell-name-part-spell-name-end : (t : ℕ) → spell-name-lts.Need-part-spell-na
 spell-name-part-spell-name-end t c = search needs
 
 spell-name-spell-name-requires : (t : ℕ) → spell-name-lts.Need-spell-name-requires (spell-name-calls t) (spell-name-at t) spell-name.Post
-spell-name-spell-name-requires t c κs = (name-falls (rest-less _ _ _ (@part-of .ensures) _ _ (@keep .given .1)) (@pre .0), (ready-afresh _ _ _ (@pre .1 .0) _ (@afresh .ensures), (still-short (rest-less _ _ _ (@part-of .ensures) _ _ (@keep .given .1)) (@pre .1 .1 .0), put-place _ _ _ _ _ (@push .ensures))))
+spell-name-spell-name-requires t c κs = (name-falls (rest-less _ _ _ (c .before .before .before .before .before .before .before .before .before .before .before .before .before .before .before .part-of .ensures) _ _ (c .before .before .before .before .before .before .before .before .before .before .before .before .before .keep .given .1)) (c .before .before .before .before .before .before .before .before .before .before .before .before .before .before .before .before .before .before .before .pre .0), (ready-afresh _ _ _ (c .before .before .before .before .before .before .before .before .before .before .before .before .before .before .before .before .before .before .before .pre .1 .0) _ (c .before .before .before .before .before .before .before .before .before .before .before .afresh .ensures), (still-short (rest-less _ _ _ (c .before .before .before .before .before .before .before .before .before .before .before .before .before .before .before .part-of .ensures) _ _ (c .before .before .before .before .before .before .before .before .before .before .before .before .before .keep .given .1)) (c .before .before .before .before .before .before .before .before .before .before .before .before .before .before .before .before .before .before .before .pre .1 .1 .0), put-place _ _ _ _ _ (c .before .before .before .before .before .before .push .ensures))))
 
 spell-name-middle-requires : (t : ℕ) → spell-name-lts.Need-middle-requires (spell-name-calls t) (spell-name-at t) spell-name.Post
 spell-name-middle-requires t c κs = search needs
@@ -105,10 +105,10 @@ spell-name-part-spell-name-start-2 : (t : ℕ) → spell-name-lts.Need-part-spel
 spell-name-part-spell-name-start-2 t c = search needs
 
 spell-name-part-spell-name-end-2 : (t : ℕ) → spell-name-lts.Need-part-spell-name-end-2 (spell-name-calls t) (spell-name-at t) spell-name.Post
-spell-name-part-spell-name-end-2 t c = front-in (@join-prefix .ensures) (joined-small _ _ _ (@part-of .ensures) _ _ (@keep .given .1) (@pre .1 .1 .0)) refl
+spell-name-part-spell-name-end-2 t c = front-in (c .before .before .before .before .before .before .before .before .before .before .before .before .before .before .before .before .before .before .before .join-prefix .ensures) (joined-small _ _ _ (c .before .before .before .before .before .before .before .before .before .before .before .before .before .before .before .before .before .before .before .before .before .before .before .before .before .part-of .ensures) _ _ (c .before .before .before .before .before .before .before .before .before .before .before .before .before .before .before .before .before .before .before .before .before .before .before .keep .given .1) (c .before .before .before .before .before .before .before .before .before .before .before .before .before .before .before .before .before .before .before .before .before .before .before .before .before .before .before .before .before .pre .1 .1 .0)) refl
 
 spell-name-spell-name-requires-2 : (t : ℕ) → spell-name-lts.Need-spell-name-requires-2 (spell-name-calls t) (spell-name-at t) spell-name.Post
-spell-name-spell-name-requires-2 t c κs = (name-falls (joined-less _ _ _ (@part-of .ensures) _ _ (@keep .given .1) (@pre .1 .1 .0) (@join-prefix .ensures) refl) (@pre .0), (ready-afresh _ _ _ (@pre .1 .0) _ (@afresh .ensures), (still-short (joined-less _ _ _ (@part-of .ensures) _ _ (@keep .given .1) (@pre .1 .1 .0) (@join-prefix .ensures) refl) (@pre .1 .1 .0), put-place _ _ _ _ _ (@middle .ensures))))
+spell-name-spell-name-requires-2 t c κs = (name-falls (joined-less _ _ _ (c .before .before .before .before .before .before .before .before .before .before .before .before .before .before .before .before .before .before .before .before .before .before .before .before .before .before .before .part-of .ensures) _ _ (c .before .before .before .before .before .before .before .before .before .before .before .before .before .before .before .before .before .before .before .before .before .before .before .before .before .keep .given .1) (c .before .before .before .before .before .before .before .before .before .before .before .before .before .before .before .before .before .before .before .before .before .before .before .before .before .before .before .before .before .before .before .pre .1 .1 .0) (c .before .before .before .before .before .before .before .before .before .before .before .before .before .before .before .before .before .before .before .before .before .join-prefix .ensures) refl) (c .before .before .before .before .before .before .before .before .before .before .before .before .before .before .before .before .before .before .before .before .before .before .before .before .before .before .before .before .before .before .before .pre .0), (ready-afresh _ _ _ (c .before .before .before .before .before .before .before .before .before .before .before .before .before .before .before .before .before .before .before .before .before .before .before .before .before .before .before .before .before .before .before .pre .1 .0) _ (c .before .before .before .before .before .before .before .before .before .before .before .before .before .before .before .before .before .before .before .before .before .before .before .afresh .ensures), (still-short (joined-less _ _ _ (c .before .before .before .before .before .before .before .before .before .before .before .before .before .before .before .before .before .before .before .before .before .before .before .before .before .before .before .part-of .ensures) _ _ (c .before .before .before .before .before .before .before .before .before .before .before .before .before .before .before .before .before .before .before .before .before .before .before .before .before .keep .given .1) (c .before .before .before .before .before .before .before .before .before .before .before .before .before .before .before .before .before .before .before .before .before .before .before .before .before .before .before .before .before .before .before .pre .1 .1 .0) (c .before .before .before .before .before .before .before .before .before .before .before .before .before .before .before .before .before .before .before .before .before .join-prefix .ensures) refl) (c .before .before .before .before .before .before .before .before .before .before .before .before .before .before .before .before .before .before .before .before .before .before .before .before .before .before .before .before .before .before .before .pre .1 .1 .0), put-place _ _ _ _ _ (c .before .before .before .before .before .before .before .middle .ensures))))
 
 spell-name-push-requires-2 : (t : ℕ) → spell-name-lts.Need-push-requires-2 (spell-name-calls t) (spell-name-at t) spell-name.Post
 spell-name-push-requires-2 t c κs = search needs
@@ -129,19 +129,19 @@ spell-name-spell-words-requires : (t : ℕ) → spell-name-lts.Need-spell-words-
 spell-name-spell-words-requires t c κs = (search (words-fall, needs), (search needs, (search needs, (search needs, search (several, needs)))))
 
 spell-name-same-length : (t : ℕ) → spell-name-lts.Need-same-length (spell-name-calls t) (spell-name-at t) spell-name.Post
-spell-name-same-length t c = @out5 .given ∙ @out4 .given ∙ @out3 .given ∙ @out2 .given ∙ @out .given
+spell-name-same-length t c = c .before .before .out5 .given ∙ c .before .before .before .before .before .before .out4 .given ∙ c .before .before .before .before .before .before .before .before .before .before .before .before .before .before .out3 .given ∙ c .before .before .before .before .before .before .before .before .before .before .before .before .before .before .before .before .before .before .out2 .given ∙ c .before .before .before .before .before .before .before .before .before .before .before .before .before .before .before .before .before .before .before .before .before .before .before .before .before .out .given
 
 spell-name-returns : (t : ℕ) → spell-name-lts.Need-returns (spell-name-calls t) (spell-name-at t) spell-name.Post
-spell-name-returns t c = parted-told _ _ _ _ (@part-of .ensures) _ _ (@keep .given .1) _ (front-is (@join-prefix .ensures) (joined-small _ _ _ (@part-of .ensures) _ _ (@keep .given .1) (@pre .1 .1 .0)) refl) (@push .ensures) (afresh-told _ _ _ _ (@afresh .ensures) (@spell-name .ensures)) (@middle .ensures) (afresh-told _ _ _ _ (@afresh .ensures) (@spell-name2 .ensures)) (@push2 .ensures) (@both .ensures)
+spell-name-returns t c = parted-told _ _ _ _ (c .before .before .before .before .before .before .before .before .before .before .before .before .before .before .before .before .before .before .before .before .before .before .before .before .before .before .before .before .before .before .before .before .before .before .before .part-of .ensures) _ _ (c .before .before .before .before .before .before .before .before .before .before .before .before .before .before .before .before .before .before .before .before .before .before .before .before .before .before .before .before .before .before .before .before .before .keep .given .1) _ (front-is (c .before .before .before .before .before .before .before .before .before .before .before .before .before .before .before .before .before .before .before .before .before .before .before .before .before .before .before .before .before .join-prefix .ensures) (joined-small _ _ _ (c .before .before .before .before .before .before .before .before .before .before .before .before .before .before .before .before .before .before .before .before .before .before .before .before .before .before .before .before .before .before .before .before .before .before .before .part-of .ensures) _ _ (c .before .before .before .before .before .before .before .before .before .before .before .before .before .before .before .before .before .before .before .before .before .before .before .before .before .before .before .before .before .before .before .before .before .keep .given .1) (c .before .before .before .before .before .before .before .before .before .before .before .before .before .before .before .before .before .before .before .before .before .before .before .before .before .before .before .before .before .before .before .before .before .before .before .before .before .before .before .pre .1 .1 .0)) refl) (c .before .before .before .before .before .before .before .before .before .before .before .before .before .before .before .before .before .before .before .before .before .before .before .before .before .before .push .ensures) (afresh-told _ _ _ _ (c .before .before .before .before .before .before .before .before .before .before .before .before .before .before .before .before .before .before .before .before .before .before .before .before .before .before .before .before .before .before .before .afresh .ensures) (c .before .before .before .before .before .before .before .before .before .before .before .before .before .before .before .before .before .before .before .spell-name .ensures)) (c .before .before .before .before .before .before .before .before .before .before .before .before .before .before .before .middle .ensures) (afresh-told _ _ _ _ (c .before .before .before .before .before .before .before .before .before .before .before .before .before .before .before .before .before .before .before .before .before .before .before .before .before .before .before .before .before .before .before .afresh .ensures) (c .before .before .before .before .before .before .before .spell-name2 .ensures)) (c .before .before .before .push2 .ensures) (c .both .ensures)
 
 spell-name-same-length-2 : (t : ℕ) → spell-name-lts.Need-same-length-2 (spell-name-calls t) (spell-name-at t) spell-name.Post
-spell-name-same-length-2 t c = @out6 .given
+spell-name-same-length-2 t c = c .before .out6 .given
 
 spell-name-returns-2 : (t : ℕ) → spell-name-lts.Need-returns-2 (spell-name-calls t) (spell-name-at t) spell-name.Post
 spell-name-returns-2 t c = search (whole-plain, needs)
 
 spell-name-same-length-3 : (t : ℕ) → spell-name-lts.Need-same-length (spell-name-calls t) (spell-name-at t) spell-name.Post
-spell-name-same-length-3 t c = @out7 .given
+spell-name-same-length-3 t c = search needs
 
 spell-name-returns-3 : (t : ℕ) → spell-name-lts.Need-returns-3 (spell-name-calls t) (spell-name-at t) spell-name.Post
 spell-name-returns-3 t c = search (whole-words, needs)
@@ -156,16 +156,16 @@ spell-words-next-word-requires : (t : ℕ) → spell-words-lts.Need-next-word-re
 spell-words-next-word-requires t c κs = search needs
 
 spell-words-same-length : (t : ℕ) → spell-words-lts.Need-same-length (spell-words-calls t) (spell-words-at t) spell-words.Post spell-words-Inv-loop spell-words-μ-loop
-spell-words-same-length t c = @loop .inv .out-same
+spell-words-same-length t c = c .before .before .loop .inv .out-same
 
 spell-words-returns : (t : ℕ) → spell-words-lts.Need-returns (spell-words-calls t) (spell-words-at t) spell-words.Post spell-words-Inv-loop spell-words-μ-loop
-spell-words-returns t c = rw (steps-again _ _ _ (@afresh .ensures)) at (held-end (@loop .inv) _ (@next-word .ensures) (@if1 .taken))
+spell-words-returns t c = rw (steps-again _ _ _ (c .before .before .before .afresh .ensures)) at (held-end (c .before .before .loop .inv) _ (c .before .next-word .ensures) (c .if1 .taken))
 
 spell-words-hyphen-requires : (t : ℕ) → spell-words-lts.Need-hyphen-requires (spell-words-calls t) (spell-words-at t) spell-words.Post spell-words-Inv-loop spell-words-μ-loop
 spell-words-hyphen-requires t c κs = search needs
 
 spell-words-spell-name-requires : (t : ℕ) → spell-words-lts.Need-spell-name-requires (spell-words-calls t) (spell-words-at t) spell-words.Post spell-words-Inv-loop spell-words-μ-loop
-spell-words-spell-name-requires t c κs = (word-falls (held-shorter (@loop .inv) _ (@next-word .ensures) (@if1 .left) (@pre .1 .1 .1 .1)) (@pre .0), (ready-afresh _ _ _ (@pre .1 .0) _ (@afresh .ensures), (still-short (held-shorter (@loop .inv) _ (@next-word .ensures) (@if1 .left) (@pre .1 .1 .1 .1)) (@pre .1 .1 .0), held-place (@loop .inv) _ (@next-word .ensures) (@if1 .left) (@hyphen .ensures))))
+spell-words-spell-name-requires t c κs = (word-falls (held-shorter (c .before .before .before .before .before .before .before .before .before .loop .inv) _ (c .before .before .before .before .before .before .before .before .next-word .ensures) (c .before .before .before .before .before .before .before .if1 .left) (c .before .before .before .before .before .before .before .before .before .before .before .before .before .before .pre .1 .1 .1 .1)) (c .before .before .before .before .before .before .before .before .before .before .before .before .before .before .pre .0), (ready-afresh _ _ _ (c .before .before .before .before .before .before .before .before .before .before .before .before .before .before .pre .1 .0) _ (c .before .before .before .before .before .before .before .before .before .before .afresh .ensures), (still-short (held-shorter (c .before .before .before .before .before .before .before .before .before .loop .inv) _ (c .before .before .before .before .before .before .before .before .next-word .ensures) (c .before .before .before .before .before .before .before .if1 .left) (c .before .before .before .before .before .before .before .before .before .before .before .before .before .before .pre .1 .1 .1 .1)) (c .before .before .before .before .before .before .before .before .before .before .before .before .before .before .pre .1 .1 .0), held-place (c .before .before .before .before .before .before .before .before .before .loop .inv) _ (c .before .before .before .before .before .before .before .before .next-word .ensures) (c .before .before .before .before .before .before .before .if1 .left) (c .before .before .before .before .before .hyphen .ensures))))
 
 spell-words-both-requires : (t : ℕ) → spell-words-lts.Need-both-requires (spell-words-calls t) (spell-words-at t) spell-words.Post spell-words-Inv-loop spell-words-μ-loop
 spell-words-both-requires t c κs = search needs
@@ -177,7 +177,7 @@ spell-words-loop-less : (t : ℕ) → spell-words-lts.Need-loop-less (spell-word
 spell-words-loop-less t c = search (held-less, needs)
 
 spell-words-loop-again : (t : ℕ) → spell-words-lts.Need-loop-again (spell-words-calls t) (spell-words-at t) spell-words.Post spell-words-Inv-loop spell-words-μ-loop
-spell-words-loop-again t c = held-turn (@loop .inv) _ (@next-word .ensures) (@if1 .left) (@hyphen .ensures) (told-again _ _ _ (@afresh .ensures) _ (@spell-name .ensures)) (@both .ensures) (@past-word .ensures) (@out2 .given ∙ @out .given)
+spell-words-loop-again t c = held-turn (c .before .before .before .before .before .before .before .before .before .before .before .before .before .before .loop .inv) _ (c .before .before .before .before .before .before .before .before .before .before .before .before .before .next-word .ensures) (c .before .before .before .before .before .before .before .before .before .before .before .before .if1 .left) (c .before .before .before .before .before .before .before .before .before .before .hyphen .ensures) (told-again _ _ _ (c .before .before .before .before .before .before .before .before .before .before .before .before .before .before .before .afresh .ensures) _ (c .before .before .before .before .spell-name .ensures)) (c .before .both .ensures) (c .past-word .ensures) (c .before .before .before .out2 .given ∙ c .before .before .before .before .before .before .before .before .before .out .given)
 
 pub +spell-name+spell-words-spec : {M : Type 1} → statement M
 +spell-name+spell-words-spec = close μ-spell-name μ-spell-words (λ t. spell-name-lts.spec (spell-name-calls t)

@@ -4,13 +4,13 @@ use Rattle.engine.proofs.encode.spell_word.Statement.{statement}
 use Rattle.engine.proofs.encode.spell_word.Tie as tie
 
 lists-of-requires : tie.Need-lists-of-requires
-lists-of-requires c κs = lists-ready _ _ _ (@pre .0) _ (@pre .1) _ (@language-of .ensures)
+lists-of-requires c κs = lists-ready _ _ _ (c .before .before .before .before .pre .0) _ (c .before .before .before .before .pre .1) _ (c .language-of .ensures)
 
 same-length : tie.Need-same-length
-same-length c = @out .given
+same-length c = c .before .before .out .given
 
 returns : tie.Need-returns
-returns c = one-told _ _ _ (@pre .0) _ (@pre .1) _ (@language-of .ensures) _ _ (@lists-of .ensures) (@good .1 .1 .1 .1 .1 .1 .1 .0 .1) (@word .ensures) (@ended .ensures)
+returns c = one-told _ _ _ (c .before .before .before .before .before .before .before .before .before .before .before .before .pre .0) _ (c .before .before .before .before .before .before .before .before .before .before .before .before .pre .1) _ (c .before .before .before .before .before .before .before .before .language-of .ensures) _ _ (c .before .before .before .before .before .before .before .lists-of .ensures) (c .before .before .before .before .before .before .before .before .before .before .before .before .good .1 .1 .1 .1 .1 .1 .1 .0 .1) (c .before .before .before .word .ensures) (c .ended .ensures)
 
 pub spell-word-spec : {M : Type 1} → statement M
 spell-word-spec =

@@ -26,16 +26,16 @@ refused-line-requires : tie.Need-refused-line-requires
 refused-line-requires c κs = (search needs, search (lent-long, needs))
 
 same-length : tie.Need-same-length
-same-length c = @out2 .given ∙ lent-long (@args .out .now) _ _ _ _ (@pre .1) (@front-of .ensures) (@end-of .ensures) (@spell-at .ensures)
+same-length c = c .before .out2 .given ∙ lent-long (c .before .before .before .before .before .before .before .before .before .before .before .before .before .before .before .before .before .before .args .out .now) _ _ _ _ (c .before .before .before .before .before .before .before .before .before .before .before .before .before .before .before .before .before .before .pre .1) (c .before .before .before .before .before .before .before .before .before .before .before .before .before .before .front-of .ensures) (c .before .before .before .before .before .before .before .before .before .before .before .before .before .end-of .ensures) (c .before .before .before .before .before .before .before .before .before .spell-at .ensures)
 
 returns : tie.Need-returns
-returns c = put-done _ _ _ _ _ (@pre .1) (@front-of .ensures) (@end-of .ensures) (callOf _ _ _) _ _ _ _ _ (call-below _ _ _ _) (@spell-at .ensures) _ _ (@written .given .1) (@done-line .ensures)
+returns c = put-done _ _ _ _ _ (c .before .before .before .before .before .before .before .before .before .before .before .before .before .before .before .before .before .before .pre .1) (c .before .before .before .before .before .before .before .before .before .before .before .before .before .before .front-of .ensures) (c .before .before .before .before .before .before .before .before .before .before .before .before .before .end-of .ensures) (callOf _ _ _) _ _ _ _ _ (call-below _ _ _ _) (c .before .before .before .before .before .before .before .before .before .spell-at .ensures) _ _ (c .before .before .before .before .before .written .given .1) (c .before .before .done-line .ensures)
 
 same-length-2 : tie.Need-same-length-2
-same-length-2 c = @out3 .given ∙ lent-long (@args .out .now) _ _ _ _ (@pre .1) (@front-of .ensures) (@end-of .ensures) (@spell-at .ensures)
+same-length-2 c = c .before .out3 .given ∙ lent-long (c .before .before .before .before .before .before .before .before .before .before .before .before .before .before .before .before .before .before .before .args .out .now) _ _ _ _ (c .before .before .before .before .before .before .before .before .before .before .before .before .before .before .before .before .before .before .before .pre .1) (c .before .before .before .before .before .before .before .before .before .before .before .before .before .before .before .front-of .ensures) (c .before .before .before .before .before .before .before .before .before .before .before .before .before .before .end-of .ensures) (c .before .before .before .before .before .before .before .before .before .before .spell-at .ensures)
 
 returns-2 : tie.Need-returns-2
-returns-2 c = put-refused _ _ _ _ _ (@pre .1) (@front-of .ensures) (@end-of .ensures) (callOf _ _ _) _ _ _ _ _ (call-below _ _ _ _) (@spell-at .ensures) _ _ _ (@why .given .1) (@number-of .ensures) (@refused-line .ensures)
+returns-2 c = put-refused _ _ _ _ _ (c .before .before .before .before .before .before .before .before .before .before .before .before .before .before .before .before .before .before .before .pre .1) (c .before .before .before .before .before .before .before .before .before .before .before .before .before .before .before .front-of .ensures) (c .before .before .before .before .before .before .before .before .before .before .before .before .before .before .end-of .ensures) (callOf _ _ _) _ _ _ _ _ (call-below _ _ _ _) (c .before .before .before .before .before .before .before .before .before .before .spell-at .ensures) _ _ _ (c .before .before .before .before .before .before .why .given .1) (c .before .before .before .before .number-of .ensures) (c .before .before .refused-line .ensures)
 
 pub put-line-spec : {M : Type 1} → statement M
 put-line-spec =

@@ -17,31 +17,31 @@ abbrev μ-loop : tie.MeasureT-loop
     length block - read
 
 loop-holds : tie.Need-loop-holds Inv-loop μ-loop
-loop-holds c = going-start _ _ _ _ (@most-of .ensures)
+loop-holds c = going-start _ _ _ _ (c .most-of .ensures)
 
 same-length : tie.Need-same-length Inv-loop μ-loop
-same-length c = going-long (@loop .inv)
+same-length c = going-long (c .before .before .before .loop .inv)
 
 returns : tie.Need-returns Inv-loop μ-loop
-returns c = going-end (@loop .inv) _ (@find-byte .ensures) (@if1 .taken)
+returns c = going-end (c .before .before .before .loop .inv) _ (c .before .find-byte .ensures) (c .if1 .taken)
 
 put-line-requires : tie.Need-put-line-requires Inv-loop μ-loop
 put-line-requires c κs = (search needs, search (going-room, needs))
 
 add-read : tie.Need-add-read Inv-loop μ-loop
-add-read c = let m = going-most (@loop .inv) _ (@if1 .left) in omega (arith, m, @good .1 .1 .1 .1 .1 .1 .1 .0 .0)
+add-read c = let m = going-most (c .before .before .before .before .before .before .before .before .before .before .before .before .before .loop .inv) _ (c .before .before .before .before .before .before .before .before .before .before .if1 .left) in omega (arith, m, c .before .before .before .before .before .before .before .before .before .before .before .before .before .before .before .before .before .before .good .1 .1 .1 .1 .1 .1 .1 .0 .0)
 
 add-read-2 : tie.Need-add-read-2 Inv-loop μ-loop
-add-read-2 c = let m = going-most (@loop .inv) _ (@if1 .left) in omega (arith, m, @good .1 .1 .1 .1 .1 .1 .1 .0 .0)
+add-read-2 c = let m = going-most (c .before .before .before .before .before .before .before .before .before .before .before .before .before .loop .inv) _ (c .before .before .before .before .before .before .before .before .before .before .if1 .left) in omega (arith, m, c .before .before .before .before .before .before .before .before .before .before .before .before .before .before .before .before .before .before .good .1 .1 .1 .1 .1 .1 .1 .0 .0)
 
 loop-less : tie.Need-loop-less Inv-loop μ-loop
 loop-less c = search (going-less, needs)
 
 loop-again : tie.Need-loop-again Inv-loop μ-loop
-loop-again c = going-next (@loop .inv) _ (@find-byte .ensures) (@if1 .left) _ _ (@put-line .ensures) _ (@next .given .1)
+loop-again c = going-next (c .before .before .before .before .before .before .before .before .before .before .before .before .before .loop .inv) _ (c .before .before .before .before .before .before .before .before .before .before .before .find-byte .ensures) (c .before .before .before .before .before .before .before .before .before .before .if1 .left) _ _ (c .before .before .before .before .before .put-line .ensures) _ (c .before .next .given .1)
 
 same-length-2 : tie.Need-same-length-2 Inv-loop μ-loop
-same-length-2 c = @out .given ∙ going-long (@loop .inv)
+same-length-2 c = c .before .before .before .before .before .out .given ∙ going-long (c .before .before .before .before .before .before .before .before .before .before .before .before .before .before .loop .inv)
 
 returns-2 : tie.Need-returns-2 Inv-loop μ-loop
 returns-2 c = search (going-stop, needs)

@@ -10,7 +10,7 @@ spell-plain-requires : tie.Need-spell-plain-requires
 spell-plain-requires c κs = (search needs, search needs)
 
 same-length : tie.Need-same-length
-same-length c = @out .given
+same-length c = c .before .out .given
 
 returns : tie.Need-returns
 returns c = search (single-told, needs)
@@ -25,16 +25,16 @@ spell-name-requires-2 : tie.Need-spell-name-requires-2
 spell-name-requires-2 c κs = (search needs, (search needs, zero-le))
 
 same-length-2 : tie.Need-same-length-2
-same-length-2 c = @out2 .given
+same-length-2 c = c .before .before .out2 .given
 
 returns-2 : tie.Need-returns-2
-returns-2 c = kept-told (@good .1 .1 .1 .1 .1 .1 .0 .1) (@spell-name .ensures) (@keep .ensures) (@if2 .taken)
+returns-2 c = kept-told (c .before .before .before .before .before .before .before .before .before .before .before .before .before .before .before .before .good .1 .1 .1 .1 .1 .1 .0 .1) (c .before .before .before .before .before .before .before .spell-name .ensures) (c .before .before .before .keep .ensures) (c .if2 .taken)
 
 same-length-3 : tie.Need-same-length-3
-same-length-3 c = @out3 .given ∙ @out2 .given
+same-length-3 c = c .before .out3 .given ∙ c .before .before .before .before .before .before .before .before .out2 .given
 
 returns-3 : tie.Need-returns-3
-returns-3 c = again-told (@good .1 .1 .1 .1 .1 .1 .0 .1) (@spell-name .ensures) (@keep .ensures) (@if2 .left) (@spell-name2 .ensures)
+returns-3 c = again-told (c .before .before .before .before .before .before .before .before .before .before .before .before .before .before .before .before .before .before .before .before .before .before .good .1 .1 .1 .1 .1 .1 .0 .1) (c .before .before .before .before .before .before .before .before .before .before .before .before .before .spell-name .ensures) (c .before .before .before .before .before .before .before .before .before .keep .ensures) (c .before .before .before .before .before .before .if2 .left) (c .before .before .spell-name2 .ensures)
 
 pub spell-lowered-spec : {M : Type 1} → statement M
 spell-lowered-spec =
