@@ -140,8 +140,8 @@ spell-name-same-length-2 t c = c .before .out6 .given
 spell-name-returns-2 : (t : ℕ) → spell-name-lts.Need-returns-2 (spell-name-calls t) (spell-name-at t) spell-name.Post
 spell-name-returns-2 t c = search (whole-plain, needs)
 
-spell-name-same-length-3 : (t : ℕ) → spell-name-lts.Need-same-length (spell-name-calls t) (spell-name-at t) spell-name.Post
-spell-name-same-length-3 t c = search needs
+spell-name-same-length-3 : (t : ℕ) → spell-name-lts.Need-same-length-3 (spell-name-calls t) (spell-name-at t) spell-name.Post
+spell-name-same-length-3 t c = c .before .out7 .given
 
 spell-name-returns-3 : (t : ℕ) → spell-name-lts.Need-returns-3 (spell-name-calls t) (spell-name-at t) spell-name.Post
 spell-name-returns-3 t c = search (whole-words, needs)
