@@ -12,7 +12,8 @@ use Rattle.texts.specs.Parts.{firstIs, lastIs, prefixOf}
 use Rattle.rule.specs.Matching.{ruleMatches}
 use Rattle.phonemes.specs.Expressions.{round, unround, formed, checkedOf}
 use Rattle.phonemes.specs.declared.answers.Expression.the-variants.{Good}
-use Rattle.pack.specs.Packs.{Rule, Pack, packOf, accepted, all, ruleGood, listGood}
+use Rattle.pack.specs.Packs.{Pack, packOf, accepted, all, listGood}
+use Rattle.rule_lines.specs.Rules.{Rule, ruleGood}
 use Rattle.pack.proofs.Laws.{GoodRule, good-rule, ListsAt, no-list, one-list, is-pack}
 use Rattle.choices.specs.Texts.{Text}
 use Rattle.base.proofs.Arms.{clash}

@@ -12,7 +12,7 @@ use Rattle.letters.specs.declared.utf8.Step.the-variants.{Char, Ill, End}
 use Rattle.letters.proofs.Utf8Laws.{end-at}
 use Rattle.languages.specs.declared.sets.LanguageSet.{LanguageSet}
 use Rattle.phonemes.specs.Expressions.{piecesIn, textOf, setOf}
-use Rattle.pack.specs.Packs.{Rule}
+use Rattle.rule_lines.specs.Rules.{Rule}
 use Rattle.choices.specs.Texts.{Text}
 use Rattle.choices.specs.Apply.{Entry, textsOf, NextSet, overlong, nextSet, apply, start}
 use Rattle.choices.specs.Choices.{Increasing, First}

@@ -17,7 +17,8 @@ use Rattle.languages.specs.declared.sets.LanguageSet.the-variants.{Any, SomeLan
 use Rattle.regex_optim.specs.Contexts.{literalForm, formIn, formOf, leftForm, rightForm, kindOf, fits}
 use Rattle.phonemes.specs.Expressions.{onFirst, cutAt, inside, extra, piecesIn, allOf, formedPiece, formed, boxOf, withBits, namesMask, pieceMask, isListed, textOf, maskSet, setOf, checkedOf}
 use Rattle.rule.specs.Matching.{plainCode, plainIn, ruleText, codeIn, firstCode, ruleMatches}
-use Rattle.pack.specs.Packs.{Rule, Pack, rule, readNames, readGuesses, readRule, readList, all, holds, namesGood, guessesGood, isForm, isGood, ruleGood, orderedByCode, listGood, accepted, section, namesIn, listCount, listSections, endSection, packOf}
+use Rattle.pack.specs.Packs.{Pack, readNames, readGuesses, readRule, readList, all, holds, namesGood, guessesGood, orderedByCode, listGood, accepted, section, namesIn, listCount, listSections, endSection, packOf}
+use Rattle.rule_lines.specs.Rules.{Rule, rule, lengthFault, contextFault, expressionFault, faultElse, ruleFault, ruleTexts, faultless, ruleGood}
 use Rattle.choices.specs.Texts.{Text, byOrder}
 use Rattle.choices.specs.Apply.{Alternative, Places, Entry, insert, under, candidates, enter, apply, start}
 use Rattle.choices.specs.Choices.{here, there, Choice, end, choose, spelt, leaves, times}
@@ -36,7 +37,7 @@ unfolding
     literalForm withoutCaret withoutDollar formIn formOf leftForm rightForm kindOf fits
     onFirst cutAt inside extra piecesIn allOf formedPiece formed boxOf withBits namesMask pieceMask isListed textOf maskSet setOf checkedOf
     plainCode plainIn ruleText codeIn firstCode ruleMatches andRead readByte readMore readNumber readText readMany
-    readNames readGuesses readRule readList all isLess increasing holds namesGood guessesGood isForm isGood ruleGood orderedByCode listGood
+    readNames readGuesses readRule readList all isLess increasing holds namesGood guessesGood lengthFault contextFault expressionFault faultElse ruleFault ruleTexts faultless ruleGood orderedByCode listGood
     section placeIn namesIn listCount listSections isNil endSection packOf
     byOrder insert under candidates enter apply sameSet agrees agreeing allAgree
     offered firstMatch stepLength turnOn turnsFrom turnsOf flagged applied afterLetter unmatched run rulePlaces

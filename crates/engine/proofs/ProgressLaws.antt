@@ -21,7 +21,8 @@ use Rattle.letters.proofs.Utf8Laws.{char-at, ill-in}
 use Rattle.writing.specs.Contracts.{cap}
 use Rattle.base.proofs.Arms.{clash}
 use Rattle.strings.specs.Reading.{Read, cut, got, readByte, placeIn}
-use Rattle.pack.specs.Packs.{Verdict, accepted, refused, Rule, readNames, readGuesses, readList, section, listSections, endSection, packOf}
+use Rattle.pack.specs.Packs.{Verdict, accepted, refused, readNames, readGuesses, readList, section, listSections, endSection, packOf}
+use Rattle.rule_lines.specs.Rules.{Rule}
 use Rattle.choices.specs.Texts.{Text}
 use Rattle.refusals.specs.Numbers.{numberOf}
 use Rattle.refusals.specs.declared.Refusal.{Refusal}

@@ -20,7 +20,8 @@ use Rattle.languages.specs.declared.sets.Single.the-variants.{Language, NotSing
 use Rattle.name_parts.specs.Joining.{spaced}
 use Rattle.prefixes.specs.declared.prefixes.NameType.{NameType}
 use Rattle.prefixes.specs.declared.prefixes.NameType.the-variants.{Ashkenazi, Generic, Sephardic}
-use Rattle.pack.specs.Packs.{Pack, Rule, Verdict, accepted, refused, packOf, any, stringsLength}
+use Rattle.pack.specs.Packs.{Pack, Verdict, accepted, refused, packOf, any, stringsLength}
+use Rattle.rule_lines.specs.Rules.{Rule}
 use Rattle.pack.specs.Guessing.{guessed}
 use Rattle.refusals.specs.Numbers.{numberOf}
 use Rattle.refusals.specs.declared.Refusal.{Refusal}

@@ -6,6 +6,7 @@ use mathlib.Core.List.{List, [], _∷_}
 use Prim.Native.Nat.{ℕ, _+_, _-_, _≤_, _<_, zero-le}
 use lib.Dec.{leb, eqb}
 use lib.ListN.{length, take, drop}
+use borrow.Author.Needs.{needs}
 use borrow.Author.Tests.{leb-true, leb-false}
 use Rattle.base.specs.Pick.{and}
 use Rattle.letters.specs.Utf8.{decodeAt}
@@ -13,10 +14,10 @@ use Rattle.letters.specs.Reading.{codesOf}
 use Rattle.letters.specs.declared.utf8.Step.{Step}
 use Rattle.letters.specs.declared.utf8.Step.the-variants.{Char, Ill, End}
 use Rattle.letters.proofs.CodesLaws.{codes-char, codes-ill, codes-end}
-use Rattle.letters.proofs.ReadingLaws.{step-less, ill-less}
+use Rattle.letters.proofs.ReadingLaws.{step-laws}
 use Rattle.texts.specs.Parts.{firstIs, lastIs, has, caret, dollar, opening, withoutCaret}
 use Rattle.lang.specs.Patterns.{Piece, middle, insideOf, boxPiece, charPiece, pieceAt, lengthAt, patternPieces, takes, fitsAt, fitsAnywhere, matchesIn, matchesOf}
-use Rattle.lang.proofs.PieceLaws.{piece-box, piece-char, next-within, next-pieces, pieces-none}
+use Rattle.lang.proofs.PieceLaws.{next-fits, piece-box, piece-char, next-within, next-pieces, pieces-none}
 use Rattle.base.proofs.PickLaws.{pick-true, pick-false, pick-yes, pick-no, and-first}
 use Rattle.texts.proofs.Laws.{first-some-by}
 
@@ -54,7 +55,7 @@ module _ (l : List ℕ) (k : ℕ) (t : Bool) (e : t ≡ firstIs opening l) (r : 
   pub takes-other : t ≡ false → r ≡ takes (charPiece (decodeAt l 0)) k → r ≡ takes (pieceAt l) k
   takes-other p h = h ∙ ap (λ (y : Piece). takes y k) (piece-char l t e p)
 
-pub ruleset takes-laws = (first-some-by, box-negated, box-plain, takes-char, takes-ill, takes-end, takes-box, takes-other)
+pub ruleset takes-laws = (first-some-by, box-negated, box-plain, takes-char, takes-ill, takes-end, takes-box, takes-other, needs)
 
 -- ---- the pieces from a place on: as far as q in the pattern and `at` in the name
 
@@ -101,7 +102,7 @@ module _ {t : List ℕ} {end : Bool} {name : List ℕ} {from q at : ℕ} (w : Fi
   pub fitting-end : r ≡ End → leb (length t) q ≡ fitsAt (patternPieces t) end (codesOf (drop from name))
   fitting-end u = over u (leb (length t) q) refl
 
-pub ruleset fitting-laws = (fitting-start, fitting-over, fitting-next, fitting-stop, fitting-past, fitting-end, step-less, ill-less)
+pub ruleset fitting-laws = (fitting-start, fitting-over, fitting-next, fitting-stop, fitting-past, fitting-end, step-laws, next-fits, needs)
 
 -- ---- any place, as far as `at`
 
@@ -136,7 +137,7 @@ module _ {t : List ℕ} {end : Bool} {name : List ℕ} {at : ℕ} (w : Trying t 
         let c = codes-end name at (sym e ∙ u) in
         sym (w .is ∙ ap (fitsAnywhere (patternPieces t) end) c ∙ ap (fitsAt (patternPieces t) end) (sym c) ∙ sym f ∙ p)
 
-pub ruleset trying-laws = (trying-start, trying-found, trying-next, trying-past, trying-none, step-less, ill-less)
+pub ruleset trying-laws = (trying-start, trying-found, trying-next, trying-past, trying-none, step-laws, needs)
 
 -- ---- a pattern and a name
 
@@ -149,4 +150,4 @@ module _ (p name x : List ℕ) (s end r : Bool) (d : end ≡ lastIs dollar p) (m
   unfolding matchesOf matchesIn
   match-anywhere u h = pick-no _ _ _ _ (sym a ∙ u) (h ∙ rw (m, d))
 
-pub ruleset match-laws = (match-start, match-anywhere)
+pub ruleset match-laws = (match-start, match-anywhere, needs)

@@ -6,17 +6,18 @@ use Prim.Native.Nat.{ℕ, _+_, _-_, _≤_, _<_, zero-le}
 use native.Mathlib.Omega.{arith}
 use lib.Dec.{eqb}
 use lib.ListN.{length, take, drop}
+use borrow.Author.Needs.{needs}
 use borrow.Author.Tests.{lt-ltb, le-ltb, eq-eqb, ne-eqb, ltb-true, ltb-false}
 use Rattle.base.specs.Pick.{and}
 use Rattle.letters.specs.Utf8.{decodeAt}
 use Rattle.letters.specs.Reading as letters
 use Rattle.letters.specs.declared.utf8.Step.{Step}
 use Rattle.letters.specs.declared.utf8.Step.the-variants.{Char, Ill, End}
-use Rattle.letters.proofs.ReadingLaws.{Walk, walk-start, walk-on, walk-stop, walk-ill, walk-end, step-less}
+use Rattle.letters.proofs.ReadingLaws.{Walk, walk-start, walk-on, walk-stop, walk-ill, walk-end, step-laws}
 use Rattle.texts.specs.Parts.{firstIs, placeOf, has, opening, withoutCaret}
 use Rattle.texts.proofs.Laws.{place-most, first-some-by}
 use Rattle.lang.specs.Patterns.{plain, boxPlain, middle, insideOf, boxPiece, charPiece, pieceAt, lengthAt, patternPieces, allBoxPlain, listedBox, goodPiece, allGood, blankless, framed, inForms}
-use Rattle.lang.proofs.PieceLaws.{piece-box, piece-char, next-within, next-less, next-pieces, pieces-none}
+use Rattle.lang.proofs.PieceLaws.{next-fits, piece-box, piece-char, next-within, next-less, next-pieces, pieces-none}
 use Rattle.base.proofs.PickLaws.{and-rest, and-none, and-first}
 
 -- ---- the characters of a box, as far as place p
@@ -53,7 +54,7 @@ module _ {l : List ℕ} {p : ℕ} (w : Listing l p) (r : Step) (e : r ≡ decode
   unfolding allBoxPlain
   listing-done q = whole true (walk-end (w .walk) (sym e ∙ q))
 
-pub ruleset listing-laws = (listed-none, listing-start, listing-next, listing-stop, listing-ill, listing-done, step-less)
+pub ruleset listing-laws = (listed-none, listing-start, listing-next, listing-stop, listing-ill, listing-done, step-laws, needs)
 
 -- ---- a piece
 
@@ -78,7 +79,7 @@ module _ (l : List ℕ) (t : Bool) (e : t ≡ firstIs opening l) (r : Bool) wher
   pub good-other : t ≡ false → r ≡ goodPiece (charPiece (decodeAt l 0)) → r ≡ goodPiece (pieceAt l)
   good-other p h = h ∙ ap goodPiece (piece-char l t e p)
 
-pub ruleset good-laws = (first-some-by, good-char, good-ill, good-end, good-box, good-other)
+pub ruleset good-laws = (first-some-by, good-char, good-ill, good-end, good-box, good-other, needs)
 
 -- ---- all pieces, as far as q
 
@@ -102,7 +103,7 @@ module _ {t : List ℕ} {q : ℕ} (w : Passing t q) where
   unfolding allGood
   passing-done h = sym (w .is ∙ ap allGood (pieces-none t q h))
 
-pub ruleset passing-laws = (passing-start, passing-next, passing-stop, passing-done, next-less)
+pub ruleset passing-laws = (passing-start, passing-next, passing-stop, passing-done, next-less, next-fits, needs)
 
 -- ---- the frame
 
@@ -129,7 +130,7 @@ module _ (p : List ℕ) (i : ℕ) (e : i ≡ placeOf 32 p) where
   unfolding blankless
   blank-space h = and-none _ _ _ (sym (absent p 32 i e) ∙ ne-eqb i (length p) h) refl
 
-pub ruleset blank-laws = (blank-tab, blank-space)
+pub ruleset blank-laws = (blank-tab, blank-space, needs)
 
 pub ruleset framed-laws = (not-yes, not-no)
 
@@ -141,4 +142,4 @@ pub forms-no : (p : List ℕ) (f : Bool) → f ≡ framed p → f ≡ false → 
 unfolding inForms
 forms-no p f e q = and-none _ _ _ (sym e ∙ q) refl
 
-pub ruleset forms-laws = (forms-yes, forms-no)
+pub ruleset forms-laws = (forms-yes, forms-no, needs)

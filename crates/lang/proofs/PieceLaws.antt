@@ -3,10 +3,13 @@
 use mathlib.Core.Path.{_≡_, refl, sym, ap, _∙_}
 use mathlib.Core.Bool.{Bool, true, false}
 use mathlib.Core.List.{List, [], _∷_}
-use Prim.Native.Nat.{ℕ, zero, suc, _+_, _-_, _≤_, _<_}
+use Prim.Native.Nat.{ℕ, zero, suc, _+_, _-_, _^_, _≤_, _<_}
 use native.Mathlib.Omega.{arith}
+use mir.Syntax.{w64}
+use mir.Val.{Fits}
 use lib.ListN.{length, take, drop, length-drop, drop-of-length-le}
 use lib.Seq.{drop-drop}
+use borrow.Author.Needs.{needs}
 use borrow.Author.Tests.{lt-ltb, le-ltb, ltb-true}
 use Rattle.letters.specs.Utf8.{decodeAt}
 use Rattle.letters.specs.declared.utf8.Step.{Step}
@@ -59,7 +62,7 @@ most-by s false e = rw (pick-false _ (placeOf closing s + 1) (length s) e) (omeg
 pub box-most : (s : List ℕ) → boxLength s ≤ length s
 box-most s = most-by s (has closing s) refl
 
-pub ruleset box-laws = (inside-yes, inside-no, box-len-yes, box-len-no)
+pub ruleset box-laws = (inside-yes, inside-no, box-len-yes, box-len-no, needs)
 
 -- ---- the character and the piece at the front
 
@@ -96,7 +99,7 @@ module _ (l : List ℕ) (t : Bool) (e : t ≡ firstIs opening l) where
   unfolding pieceAt
   piece-char p = sym (pick-false _ _ _ (sym e ∙ p))
 
-pub ruleset front-laws = (first-some-by, char-len, char-len-ill, char-len-end, length-box, length-char)
+pub ruleset front-laws = (first-some-by, char-len, char-len-ill, char-len-end, length-box, length-char, needs)
 
 -- ---- one piece after the other
 
@@ -159,6 +162,9 @@ module _ (t : List ℕ) (q n : ℕ) (h : q < length t) (e : n ≡ lengthAt (take
 
   pub next-less : length t - (q + n) < length t - q
   next-less = omega (arith, bytes .some)
+
+  pub next-fits : length t < 2 ^ 64 → Fits w64 (q + n)
+  next-fits l = record { fits = omega (arith, next-within) }
 
   pub next-pieces : patternPieces (drop q t) ≡ pieceAt (take (length t - q) (drop q t)) ∷ patternPieces (drop (q + n) t)
   next-pieces = pieces-cons (drop q t) (omega (arith, length-drop q t)) ∙ rw (rest-is t q, here, drop-drop (lengthAt (drop q t)) q t)

@@ -14,6 +14,7 @@ use lib.Dec.{eqb, ltb, lit<}
 use lib.ListN.{length, getD, take, drop, length-drop, drop-of-length-le}
 use lib.Pow.{shl-exact, pow-pos}
 use lib.Seq.{drop-nil, drop-cons, drop-drop, getD-take, getD-drop}
+use borrow.Author.Needs.{needs}
 use borrow.Author.Tests.{eq-eqb, ne-eqb, leb-true, ltb-false, eqb-true, eqb-false}
 use Rattle.base.proofs.Bits.{or-assoc, and-or, and-over-or}
 use Rattle.base.specs.Pick.{pick, and}
@@ -26,7 +27,7 @@ use Rattle.letters.proofs.CodesLaws.{codes-char, codes-ill, codes-end}
 use Rattle.texts.specs.Parts.{firstIs, lastIs, placeOf, has, caret, dollar, opening, closing}
 use Rattle.lang.specs.Patterns.{Piece, boxLength, charPiece, pieceAt, lengthAt, charLength, patternPieces, middle, takes, fitsAt, fitsAnywhere, matchesIn, matchesOf}
 use Rattle.lang.specs.Contracts.{beginsWithOther, bitOf, signatureOf, hasBit, mayIn, mayMatch}
-use Rattle.lang.proofs.PieceLaws.{pieces-cons, piece-char, piece-bytes, next-less}
+use Rattle.lang.proofs.PieceLaws.{next-fits, pieces-cons, piece-char, piece-bytes, next-less}
 use Rattle.base.proofs.Stores.{rest-is}
 use Rattle.texts.proofs.Chars.{has-cons}
 use Rattle.base.proofs.PickLaws.{pick-true, pick-false, pick-inv, and-inv, and-first, pick-past}
@@ -99,7 +100,7 @@ pub signing-end : {name : List ℕ} {i bits : ℕ} → Signing name i bits → l
 unfolding signatureOf
 signing-end {name} {i} {bits} w h = sym (or-zero-r bits) ∙ ap (λ (l : List ℕ). bitOr bits (signatureOf l)) (sym (drop-of-length-le name h)) ∙ w .is
 
-pub ruleset signing-laws = (signing-start, signing-next, signing-end, has-by)
+pub ruleset signing-laws = (signing-start, signing-next, signing-end, has-by, needs)
 
 -- ---- the bytes of a name have their bits
 
@@ -311,4 +312,4 @@ pub may-by-middle : (p x : List ℕ) (bits : ℕ) (r : Bool) → x ≡ middle p 
 unfolding mayMatch
 may-by-middle p x bits r e f = f ∙ ap (mayIn bits false) e
 
-pub ruleset passing-laws = (passing-start, passing-box, passing-next, passing-stop, passing-end, next-less, may-by-middle)
+pub ruleset may-laws = (passing-start, passing-box, passing-next, passing-stop, passing-end, next-less, next-fits, may-by-middle, needs)

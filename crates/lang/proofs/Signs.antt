@@ -8,6 +8,7 @@ use native.Mathlib.Omega.{arith}
 use lib.Dec.{T, eqb, ltb, ltb→lt}
 use lib.ListN.{replicate, length-replicate}
 use types.Run.{OneOf}
+use borrow.Author.Needs.{needs}
 use borrow.Author.Tests.{ne-eqb}
 use Rattle.base.specs.Pick.{pick, and}
 use Rattle.base.proofs.Table.{every, at}
@@ -110,4 +111,4 @@ box-by k r n e =
     by true b p = sym p
     by false b p = refl
 
-pub ruleset sign-laws = (sign-key, sign-40, sign-91, sign-123, plain-0, plain-44, plain-95, plain-126, box-key, box-by)
+pub ruleset sign-laws = (sign-key, sign-40, sign-91, sign-123, plain-0, plain-44, plain-95, plain-126, box-key, box-by, needs)

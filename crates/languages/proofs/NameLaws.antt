@@ -11,6 +11,7 @@ use lib.Dec.{lit<}
 use lib.Pow.{shl-exact}
 use lib.ListN.{length, getD, take, drop, drop-of-length-le}
 use lib.Seq.{drop-cons}
+use borrow.Author.Needs.{needs}
 use borrow.Author.Tests.{lt-ltb, le-ltb}
 use Rattle.base.specs.Pick.{and}
 use Rattle.letters.specs.Order.{sameText}
@@ -47,7 +48,7 @@ pub letters-end : (s : List ℕ) (i : ℕ) → Letters s i → length s ≤ i �
 unfolding allLetters
 letters-end s i l h = rw (drop-of-length-le s h) at (l .rest)
 
-pub ruleset letters-laws = (letters-start, letters-next, letters-stop, letters-end)
+pub ruleset letters-laws = (letters-start, letters-next, letters-stop, letters-end, needs)
 
 -- ---- the bit of a place
 bit-is : (k n p : ℕ) → p ≡ k → k < n → k < 32 → Bit ((1 * 2 ^ k) % 2 ^ 32) ≡ bitAt p (min 32 n)
@@ -106,4 +107,4 @@ module _ (s name : List ℕ) (at place : ℕ) (c : Seen s name at place) where
   unfolding languageBit
   seen-full h = no-bit _ _ (omega (arith, c .placed))
 
-pub ruleset find-laws = (seen-start, part-order, part-fits, seen-next, seen-found, seen-cut, seen-full)
+pub ruleset find-laws = (seen-start, part-order, part-fits, seen-next, seen-found, seen-cut, seen-full, needs)

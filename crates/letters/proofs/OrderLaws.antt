@@ -9,6 +9,7 @@ use native.Mathlib.Nat.{le-of-lt}
 use lib.Dec.{eqb}
 use lib.ListN.{length, drop, getD, drop-of-length-le}
 use lib.Seq.{drop-cons}
+use borrow.Author.Needs.{needs}
 use borrow.Author.Tests.{eqb-true, lt-ltb, le-ltb, eq-eqb, ne-eqb}
 use Rattle.base.specs.Pick.{pick, and}
 use Rattle.letters.specs.Order.{orderOf, sameText}
@@ -60,7 +61,7 @@ module _ {a b : List ℕ} {i : ℕ} (c : Left Order orderOf a b i) where
   unfolding orderOf pick
   order-next ha hb h k = left-next c ha hb (simp (le-ltb _ _ h, le-ltb _ _ k))
 
-pub ruleset order-laws = (left-start, order-less, order-greater, order-long, order-short, order-end, order-next)
+pub ruleset order-laws = (left-start, order-less, order-greater, order-long, order-short, order-end, order-next, needs)
 
 -- ---- the same text
 
@@ -96,4 +97,4 @@ module _ {a b : List ℕ} {i : ℕ} (c : Left Bool sameText a b i) where
   unfolding sameText
   same-end ha e = rw (drop-of-length-le a ha, drop-of-length-le b (rw e at ha)) at (c .rest)
 
-pub ruleset same-laws = (left-start, same-not, same-next, same-stop, same-end)
+pub ruleset same-laws = (left-start, same-not, same-next, same-stop, same-end, needs)

@@ -2,9 +2,12 @@
 use mathlib.Core.Path.{_≡_, refl, sym, ap, _∙_}
 use mathlib.Core.Bool.{Bool, true, false}
 use mathlib.Core.List.{List, [], _∷_}
-use Prim.Native.Nat.{ℕ, zero, suc, _+_, _-_, _≤_, _<_, zero-le}
+use Prim.Native.Nat.{ℕ, zero, suc, _+_, _-_, _^_, _≤_, _<_, zero-le}
 use native.Mathlib.Omega.{arith}
 use lib.ListN.{length, getD}
+use mir.Syntax.{w64}
+use mir.Val.{Fits}
+use borrow.Author.Needs.{needs}
 use Rattle.letters.specs.Utf8.{decodeAt}
 use Rattle.letters.specs.Reading.{Symbol, symbol, strayByte, symbolsOn, symbolsFrom, symbolsOf, illIn, firstIll, inRange, outsideIn, firstOutside}
 use Rattle.letters.specs.declared.utf8.Step.{Step}
@@ -125,6 +128,9 @@ step-less s p k n r e q = let b = char-at s p k n (sym e ∙ q) in omega arith
 pub step-end : (s : List ℕ) (p k n : ℕ) (r : Step) → r ≡ decodeAt s p → r ≡ Char k n → p + n ≤ length s
 step-end s p k n r e q = char-at s p k n (sym e ∙ q) .end
 
+pub step-fits : (s : List ℕ) (p k n : ℕ) (r : Step) → r ≡ decodeAt s p → r ≡ Char k n → length s < 2 ^ 64 → Fits w64 (p + n)
+step-fits s p k n r e q h = record { fits = omega (arith, step-end s p k n r e q) }
+
 -- the same over an ill-formed byte
 module _ (s : List ℕ) (p : ℕ) (r : Step) (e : r ≡ decodeAt s p) (q : r ≡ Ill) where
   pub ill-end : p + 1 ≤ length s
@@ -133,6 +139,12 @@ module _ (s : List ℕ) (p : ℕ) (r : Step) (e : r ≡ decodeAt s p) (q : r ≡
   pub ill-less : length s - (p + 1) < length s - p
   ill-less = omega (arith, ill-in s p (sym e ∙ q))
 
-pub ruleset ill-laws = (walk-start, ill-on, ill-found, ill-none, step-less)
+  pub ill-fits : length s < 2 ^ 64 → Fits w64 (p + 1)
+  ill-fits h = record { fits = omega (arith, ill-end) }
 
-pub ruleset outside-laws = (walk-start, outside-on, outside-here, outside-ill, outside-none, step-less)
+-- steps of a loop over the characters of a slice
+pub ruleset step-laws = (step-less, step-fits, ill-less, ill-fits)
+
+pub ruleset ill-laws = (walk-start, ill-on, ill-found, ill-none, step-laws, needs)
+
+pub ruleset outside-laws = (walk-start, outside-on, outside-here, outside-ill, outside-none, step-laws, needs)

@@ -11,6 +11,7 @@ use native.Mathlib.Omega.{arith}
 use lib.Dec.{leb, eqb}
 use lib.ListN.{length, getD, take, drop, List·getD-eq-default, take-append-drop, length-drop}
 use lib.Seq.{drop-drop, ext-getD, length-take-le, getD-take, getD-drop}
+use borrow.Author.Needs.{needs}
 use borrow.Author.Tests.{leb-true, ltb-true, ltb-false, eqb-true, eqb-false, lt-ltb, le-ltb, le-leb, lt-leb}
 use Rattle.base.specs.Pick.{pick}
 use Rattle.letters.specs.Utf8.{within, lowSecond, highSecond, code2, code3, code4, decode2, decode3, decode4, decodeBytes, decodeAt, encode}
@@ -40,7 +41,7 @@ pub decode-none : (s : List ℕ) (p : ℕ) → length s ≤ p → End ≡ decode
 unfolding decodeAt
 decode-none s p h = pick-no _ _ _ _ (le-ltb _ _ h) refl
 
-pub ruleset decode-laws = (decode-one, decode-none)
+pub ruleset decode-laws = (decode-one, decode-none, needs)
 
 -- ---- the shapes
 

@@ -17,7 +17,8 @@ use Rattle.base.proofs.Arms.{clash}
 use Rattle.prefixes.specs.declared.prefixes.NameType.{NameType}
 use Rattle.prefixes.specs.declared.prefixes.NameType.the-variants.{Ashkenazi, Generic, Sephardic}
 use Rattle.strings.specs.Reading.{Read, cut, got}
-use Rattle.pack.specs.Packs.{Guess, Rule, Pack, accepted, packOf, all, guessesGood, ruleGood, listGood, listCount}
+use Rattle.pack.specs.Packs.{Guess, Pack, accepted, packOf, all, guessesGood, listGood, listCount}
+use Rattle.rule_lines.specs.Rules.{Rule, ruleGood}
 use Rattle.pack_bytes.specs.Bytes.{namesBytes, packBytes}
 use Rattle.pack_bytes.proofs.Laws.{packed}
 use Rattle.bundles.specs.Bundles.{File, Found, missing, found, readBundle}
@@ -25,7 +26,6 @@ use Rattle.rule_lists.specs.Outcomes as outcome
 use Rattle.rule_lists.specs.Lists.{typePrefix, listFiles, listsOf}
 use Rattle.rule_lists.proofs.WalkLaws.{GoodRead}
 use Rattle.rule_lists.proofs.FileLaws.{list-good}
-use Rattle.rule_lists.proofs.GoodLaws.{rule-good}
 use Rattle.loader.specs.Guesses.{guessesOf}
 use Rattle.loader.specs.Loading.{onType, onListed, namesOf, guessFile, listsIn, packFrom, onBundle, loadOf, written, LoadNumbers, doneAt, refusedAt, loadedNumbers, answer, filled, AnswerIs, LoadIs}
 use Rattle.loader.specs.declared.loading.Loaded.{Loaded}
@@ -96,7 +96,7 @@ loaded-from (suc (suc (suc n))) s p e = clash (cc)
 rules-good : (names : List ℕ) (rs : List Rule) → Each (GoodRead names) rs → all (ruleGood names) rs ≡ true
 unfolding all
 rules-good names [] none = refl
-rules-good names (r ∷ rs) (more g w) = and-yes _ _ (rule-good names r g) (rules-good names rs w)
+rules-good names (r ∷ rs) (more g w) = and-yes _ _ g (rules-good names rs w)
 
 lists-good : (names : List ℕ) (fs : List File) (ws : List (List ℕ)) (ls : List (List Rule)) → listsOf names fs ws ≡ outcome.fine ls → Each (λ rs. listGood names rs ≡ true) ls
 unfolding listsOf listGood

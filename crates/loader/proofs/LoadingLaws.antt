@@ -15,7 +15,8 @@ use Rattle.writing.specs.Contracts.{Put}
 use Rattle.writing.proofs.Laws.{put-then}
 use Rattle.base.proofs.Arms.{clash}
 use Rattle.prefixes.specs.declared.prefixes.NameType.{NameType}
-use Rattle.pack.specs.Packs.{Guess, Rule, Pack, namesGood}
+use Rattle.pack.specs.Packs.{Guess, Pack, namesGood}
+use Rattle.rule_lines.specs.Rules.{Rule}
 use Rattle.pack_bytes.specs.Bytes.{countBytes, namesBytes, guessBytes, listBytes, packBytes}
 use Rattle.bundles.specs.Bundles.{File, Found, missing, found, readBundle, wellFormed, fileNamed}
 use Rattle.bundles.specs.PlaceContracts as places
@@ -31,7 +32,7 @@ use Rattle.rule_lists.specs.declared.list_writing.Written.the-variants as wrote
 use Rattle.loader.specs.Languages.{languagesOf}
 use Rattle.loader.specs.Guesses.{guessesOf}
 use Rattle.loader.specs.Loading.{onType, languagesPart, langPart, onListed, namesOf, guessFile, listsIn, packFrom, onBundle, loadOf, written, doneAt, refusedAt, loadedNumbers, answer, filled, AnswerIs}
-use Rattle.loader.specs.Contracts.{NamesTold, NamesAre, GuessesTold, typeNumbered, frontBytes, packedOf}
+use Rattle.loader.specs.Contracts.{NamesTold, GuessesTold, typeNumbered, frontBytes, packedOf}
 use Rattle.loader.proofs.LanguageLaws.{strings-names, languages-good, languages-few}
 use Rattle.loader.proofs.GuessLaws.{guesses-few}
 use Rattle.loader.specs.declared.loading.Kind.{Kind}
@@ -50,9 +51,9 @@ use Rattle.rule_lists.specs.Contracts.{WrittenIs}
 -- ---- the language list
 
 module _ (kind : NameType) (s : List ℕ) (e : FileAt) (w : places.fileNumbers e ≡ fileAt s (typePrefix kind ++ languagesPart)) where
-  pub names-found : (k a b : ℕ) (out out′ : List ℕ) (r : Names) → e ≡ file-at.At k a b → NamesAre (take (b - a) (drop a s)) k out r out′ → NamesTold (namesOf kind (filesOf s)) r out′
-  unfolding NamesAre namesOf onListed
-  names-found k a b out out′ r h x = rw (found-is s _ e w k a b h) x
+  pub names-found : (k a b : ℕ) (out′ : List ℕ) (r : Names) → e ≡ file-at.At k a b → NamesTold (languagesOf k (take (b - a) (drop a s))) r out′ → NamesTold (namesOf kind (filesOf s)) r out′
+  unfolding namesOf onListed
+  names-found k a b out′ r h x = rw (found-is s _ e w k a b h) x
 
   pub names-order : (k a b : ℕ) → e ≡ file-at.At k a b → a ≤ b
   names-order k a b h = found-order s _ e w k a b h

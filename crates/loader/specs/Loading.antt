@@ -12,7 +12,8 @@ use Rattle.prefixes.specs.declared.prefixes.NameType.{NameType}
 use Rattle.prefixes.specs.declared.prefixes.NameType.the-variants.{Ashkenazi, Generic, Sephardic}
 use Rattle.refusals.specs.Numbers.{numberOf}
 use Rattle.strings.specs.Reading.{Read, cut, got}
-use Rattle.pack.specs.Packs.{Guess, Rule, Pack}
+use Rattle.pack.specs.Packs.{Guess, Pack}
+use Rattle.rule_lines.specs.Rules.{Rule}
 use Rattle.pack_bytes.specs.Bytes.{namesBytes, packBytes}
 use Rattle.bundles.specs.Bundles.{File, Found, missing, found, readBundle, wellFormed, fileNamed}
 use Rattle.rule_lists.specs.Outcomes.{Loading, fine, notLoaded, andLoad}

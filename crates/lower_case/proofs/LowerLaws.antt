@@ -10,6 +10,7 @@ use native.Mathlib.Omega.{arith}
 use lib.Dec.{ltb, leb, eqb, ltb→lt, eqb→eq}
 use lib.ListN.{length, getD, set, length-set, length-append}
 use lib.Seq.{sets, length-sets}
+use borrow.Author.Needs.{needs}
 use borrow.Author.Tests.{lt-ltb, le-ltb, le-leb, lt-leb}
 use Rattle.base.specs.Pick.{pick}
 use Rattle.base.proofs.Table.{at}
@@ -23,7 +24,7 @@ use Rattle.letters.specs.declared.utf8.Step.the-variants.{Char, Ill, End}
 use Rattle.lower_case.specs.declared.lower_case.Lowered.{Lowered}
 use Rattle.lower_case.specs.declared.lower_case.Lowered.the-variants.{Done, NoRoom}
 use Rattle.letters.proofs.Utf8Laws.{char-at, char-length, ill-in, end-at, encode-one, encode-two, encode-three, encode-four}
-use Rattle.letters.proofs.ReadingLaws.{Pieces, end, one, bad, pieces-of, char-left, ill-left, end-left}
+use Rattle.letters.proofs.ReadingLaws.{Pieces, end, one, bad, pieces-of, char-left, ill-left, end-left, step-laws}
 use Rattle.base.proofs.PickLaws.{pick-true, pick-false}
 use Rattle.lower_case.specs.Contracts.{loweredAnswer, loweredBuffer, LoweredInto}
 
@@ -120,7 +121,7 @@ module _ (out : List ℕ) (at c : ℕ) where
       ∙ ap (λ (k : ℕ). set (set (set (set out at (0xF0 + c / 262144)) (suc at) (0x80 + c / 4096 % 64)) (suc (suc at)) (0x80 + c / 64 % 64)) k (0x80 + c % 64)) (add-three at)
       ∙ ap (sets out at) (sym (encode-four c l))
 
-pub ruleset put-laws = (room-1, room-2, room-3, room-4, put-1, put-2, put-3, put-4)
+pub ruleset put-laws = (room-1, room-2, room-3, room-4, put-1, put-2, put-3, put-4, needs)
 
 -- ---- lower-casing into out₀, as far as place p: the lower case of what is left, stored from p on, makes the whole
 
@@ -225,7 +226,7 @@ no-room s out h =
     let f : leb (length (lowerText s)) (length out) ≡ false = lt-leb (length (lowerText s)) (length out) (omega (arith, lower-text-length s)) in
     record { result = sym (pick-false _ _ _ f); buffer = sym (pick-false _ _ _ f) }
 
-pub ruleset lowering-laws = (lowering-start, lowering-room, lowering-four, lowering-on, lowering-ill, lowering-less, lowering-in, lowering-in-out, lowering-done, no-room)
+pub ruleset lowering-laws = (lowering-start, lowering-room, lowering-four, lowering-on, lowering-ill, lowering-less, lowering-in, lowering-in-out, lowering-done, no-room, step-laws, needs)
 
 -- the promise of `lower_into` allows one answer and one buffer
 pub lowered-one : {s out o o′ : List ℕ} {r r′ : Lowered} → LoweredInto s out r o → LoweredInto s out r′ o′ → (r ≡ r′) × (o ≡ o′)

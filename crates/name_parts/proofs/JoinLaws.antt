@@ -9,12 +9,14 @@ use native.Mathlib.Omega.{arith}
 use lib.Dec.{eqb, leb·suc-suc}
 use lib.ListN.{length, getD, take, drop, set, length-set, drop-of-length-le}
 use lib.Seq.{take-all, drop-cons, drop-length}
+use borrow.Author.Needs.{needs}
 use borrow.Author.Tests.{lt-ltb, le-ltb, eq-eqb, ne-eqb}
 use Rattle.base.specs.Pick.{pick}
 use Rattle.texts.specs.Parts.{has, placeOf}
 use Rattle.writing.specs.Contracts.{Put, cap}
 use Rattle.name_parts.specs.Words.{wordsOf, wordAt, pastWord}
 use Rattle.prefixes.specs.Prefixes.{isPrefix}
+use Rattle.name_parts.specs.Contracts.{joinedBehind}
 use Rattle.name_parts.specs.Joining.{spaced, joinedName, afterApostrophe, keptOf, dropsOut, remaining, joinedBySpace, joinedWords}
 use Rattle.prefixes.specs.declared.prefixes.NameType.{NameType}
 use Rattle.name_parts.proofs.Laws.{words-none, words-next, word-later, past-within}
@@ -158,9 +160,6 @@ module _ (s : List ℕ) (p : ℕ) (w : List ℕ) (ew : w ≡ wordAt s p) (h : le
   word-less = omega (arith, word-later s p some, past-within s p some)
 
 -- ---- words joined: what is behind words that stand already
-abbrev pub behind : NameType → List (List ℕ) → List ℕ
-behind kind ws = joinedBySpace ([] ∷ remaining kind ws)
-
 join-led : (t : List ℕ) (ts : List (List ℕ)) → joinedBySpace (t ∷ ts) ≡ t ++ joinedBySpace ([] ∷ ts)
 unfolding joinedBySpace
 join-led t [] = sym (append-nil t)
@@ -171,26 +170,26 @@ module _ (kind : NameType) (w k : List ℕ) (ek : k ≡ keptOf kind w) (d : Bool
   unfolding remaining
   remains = rw (ed, ek) refl
 
-  behind-out : d ≡ true → behind kind (w ∷ ws) ≡ behind kind ws
+  behind-out : d ≡ true → joinedBehind kind (w ∷ ws) ≡ joinedBehind kind ws
   behind-out z = ap (λ (ts : List (List ℕ)). joinedBySpace ([] ∷ ts)) (remains ∙ pick-true _ _ _ z)
 
-  behind-in : d ≡ false → behind kind (w ∷ ws) ≡ 32 ∷ (k ++ behind kind ws)
+  behind-in : d ≡ false → joinedBehind kind (w ∷ ws) ≡ 32 ∷ (k ++ joinedBehind kind ws)
   unfolding joinedBySpace
   behind-in z = ap (λ (ts : List (List ℕ)). joinedBySpace ([] ∷ ts)) (remains ∙ pick-false _ _ _ z) ∙ ap (λ (l : List ℕ). 32 ∷ l) (join-led k (remaining kind ws))
 
-one-by : (kind : NameType) (w : List ℕ) (d : Bool) → d ≡ dropsOut kind (keptOf kind w) → (ws : List (List ℕ)) → behind kind (w ∷ []) ++ behind kind ws ≡ behind kind (w ∷ ws)
+one-by : (kind : NameType) (w : List ℕ) (d : Bool) → d ≡ dropsOut kind (keptOf kind w) → (ws : List (List ℕ)) → joinedBehind kind (w ∷ []) ++ joinedBehind kind ws ≡ joinedBehind kind (w ∷ ws)
 unfolding joinedBySpace remaining
-one-by kind w true e ws = ap (λ (l : List ℕ). l ++ behind kind ws) (behind-out kind w _ refl true e [] refl) ∙ sym (behind-out kind w _ refl true e ws refl)
+one-by kind w true e ws = ap (λ (l : List ℕ). l ++ joinedBehind kind ws) (behind-out kind w _ refl true e [] refl) ∙ sym (behind-out kind w _ refl true e ws refl)
 one-by kind w false e ws =
-    ap (λ (l : List ℕ). l ++ behind kind ws) (behind-in kind w _ refl false e [] refl ∙ ap (λ (l : List ℕ). 32 ∷ l) (append-nil (keptOf kind w))) ∙ sym (behind-in kind w _ refl false e ws refl)
+    ap (λ (l : List ℕ). l ++ joinedBehind kind ws) (behind-in kind w _ refl false e [] refl ∙ ap (λ (l : List ℕ). 32 ∷ l) (append-nil (keptOf kind w))) ∙ sym (behind-in kind w _ refl false e ws refl)
 
 -- one word
 module _ (kind : NameType) (w k : List ℕ) (ek : k ≡ keptOf kind w) (d : Bool) (ed : d ≡ dropsOut kind k) (o : List ℕ) (at : ℕ) where
-  pub word-out : d ≡ true → length o < cap → at ≤ cap → Put o o at at (behind kind (w ∷ []))
+  pub word-out : d ≡ true → length o < cap → at ≤ cap → Put o o at at (joinedBehind kind (w ∷ []))
   unfolding joinedBySpace remaining
   word-out z r h = rw (behind-out kind w k ek d ed [] z) (put-none o at r h)
 
-  pub word-in : (o₁ o₂ : List ℕ) (p q : ℕ) → d ≡ false → Put o o₁ at p (32 ∷ []) → Put o₁ o₂ p q k → Put o o₂ at q (behind kind (w ∷ []))
+  pub word-in : (o₁ o₂ : List ℕ) (p q : ℕ) → d ≡ false → Put o o₁ at p (32 ∷ []) → Put o₁ o₂ p q k → Put o o₂ at q (joinedBehind kind (w ∷ []))
   unfolding joinedBySpace remaining
   word-in o₁ o₂ p q z x y = rw (behind-in kind w k ek d ed [] z, append-nil) (put-then x y)
 
@@ -198,21 +197,21 @@ module _ (kind : NameType) (w k : List ℕ) (ek : k ≡ keptOf kind w) (d : Bool
 pub record Adding (kind : NameType) (s o₀ o : List ℕ) (from at p n : ℕ) : Type 0 where
   pub so-far : List ℕ
   pub wrote : Put o₀ o at n so-far
-  pub left : so-far ++ behind kind (wordsOf (drop p s)) ≡ behind kind (wordsOf (drop from s))
+  pub left : so-far ++ joinedBehind kind (wordsOf (drop p s)) ≡ joinedBehind kind (wordsOf (drop from s))
 
 pub add-start : (kind : NameType) (s o : List ℕ) (from at : ℕ) → length o < cap → at ≤ cap → Adding kind s o o from at from at
 add-start kind s o from at r h = record { so-far = []; wrote = put-none o at r h; left = refl }
 
 module _ (kind : NameType) (s o₀ o : List ℕ) (from at p n : ℕ) (a : Adding kind s o₀ o from at p n) (w : List ℕ) (ew : w ≡ wordAt s p) where
-  pub add-next : (length w ≡ 0 → ⊥) → (q : ℕ) → q ≡ pastWord s p → (o₁ : List ℕ) (m : ℕ) → Put o o₁ n m (behind kind (w ∷ [])) → Adding kind s o₀ o₁ from at q m
+  pub add-next : (length w ≡ 0 → ⊥) → (q : ℕ) → q ≡ pastWord s p → (o₁ : List ℕ) (m : ℕ) → Put o o₁ n m (joinedBehind kind (w ∷ [])) → Adding kind s o₀ o₁ from at q m
   add-next h q eq o₁ m y = record {
-    so-far = a .so-far ++ behind kind (w ∷ []);
+    so-far = a .so-far ++ joinedBehind kind (w ∷ []);
     wrote = put-then (a .wrote) y;
     left =
-        append-assoc (a .so-far) (behind kind (w ∷ [])) (behind kind (wordsOf (drop q s))) ∙ ap (λ (l : List ℕ). a .so-far ++ l) (one-by kind w _ refl _ ∙ ap (behind kind) (sym (next s p w ew h q eq))) ∙ a .left;
+        append-assoc (a .so-far) (joinedBehind kind (w ∷ [])) (joinedBehind kind (wordsOf (drop q s))) ∙ ap (λ (l : List ℕ). a .so-far ++ l) (one-by kind w _ refl _ ∙ ap (joinedBehind kind) (sym (next s p w ew h q eq))) ∙ a .left;
   }
 
-  pub add-end : length w ≡ 0 → Put o₀ o at n (behind kind (wordsOf (drop from s)))
+  pub add-end : length w ≡ 0 → Put o₀ o at n (joinedBehind kind (wordsOf (drop from s)))
   unfolding joinedBySpace remaining
   add-end z = rw (← (a .left), words-none s p (ap length (sym ew) ∙ z), append-nil) (a .wrote)
 
@@ -244,7 +243,7 @@ module _ (kind : NameType) (s o₀ o : List ℕ) (p : ℕ) (j : Joining kind s o
       pub join-next : d ≡ true → Joining kind s o₀ o q
       join-next z = record { same = j .same; is = now-is ∙ ap joinedBySpace (pick-true _ _ _ z) }
 
-      pub join-here : d ≡ false → (o₁ o₂ : List ℕ) (n r : ℕ) → Put o o₁ 0 n k → Put o₁ o₂ n r (behind kind (wordsOf (drop q s))) → Put o₀ o₂ 0 r (joinedWords kind s)
+      pub join-here : d ≡ false → (o₁ o₂ : List ℕ) (n r : ℕ) → Put o o₁ 0 n k → Put o₁ o₂ n r (joinedBehind kind (wordsOf (drop q s))) → Put o₀ o₂ 0 r (joinedWords kind s)
       join-here z o₁ o₂ n r x y = rw (now-is ∙ ap joinedBySpace (pick-false _ _ _ z) ∙ join-led k _, ← (j .same)) (put-then x y)
 
-pub ruleset join-laws = (slice-room, put-long, put-place, part-start, part-next, part-all, free-start, free-in, free-here, free-next, free-end, kept-by, drops-by, prefix-of-kind, name-joined, word-less, word-out, word-in, add-start, add-next, add-end, join-start, join-long, join-none, join-next, join-here)
+pub ruleset join-laws = (slice-room, put-long, put-place, part-start, part-next, part-all, free-start, free-in, free-here, free-next, free-end, kept-by, drops-by, prefix-of-kind, name-joined, word-less, word-out, word-in, add-start, add-next, add-end, join-start, join-long, join-none, join-next, join-here, needs)

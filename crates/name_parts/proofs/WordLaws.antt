@@ -9,6 +9,7 @@ use native.Mathlib.Omega.{arith}
 use lib.Dec.{eqb, eqb·suc-zero, eqb·suc-suc}
 use lib.ListN.{length, getD, take, drop, drop-of-length-le, length-drop}
 use lib.Seq.{drop-cons, drop-drop, take-nil}
+use borrow.Author.Needs.{needs}
 use borrow.Author.Tests.{eq-eqb, ne-eqb}
 use Rattle.base.specs.Pick.{pick}
 use Rattle.name_parts.specs.Words.{wordsOf, wordAt, spaces, letters, wordStart, wordEnd, pastWord, oneWord}
@@ -91,4 +92,4 @@ one-by s w v q ew h eq ev =
     let next = words-next s 0 (λ z. h (ap length ew ∙ z)) in
     none-by s q _ (ap length (sym ev)) ∙ sym (ap (λ (ws : List (List ℕ)). eqb (length ws) 1) next ∙ eqb·suc-suc (length (wordsOf (drop (pastWord s 0) s))) 0 ∙ ap (λ (k : ℕ). eqb (length (wordsOf (drop k s))) 0) (sym eq))
 
-pub ruleset word-laws = (start-space, start-here, end-more, end-here, start-end, end-end, end-from, end-within, word-in, word-out, past-by, one-none, one-by)
+pub ruleset word-laws = (start-space, start-here, end-more, end-here, start-end, end-end, end-from, end-within, word-in, word-out, past-by, one-none, one-by, needs)

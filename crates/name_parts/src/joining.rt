@@ -7,7 +7,8 @@ ghost use lib.ListN.{length, drop};
 ghost use Rattle.base.specs.Pick.{pick};
 ghost use Rattle.writing.specs.Contracts.{Put, cap};
 ghost use Rattle.name_parts.specs.Words.{wordsOf};
-ghost use Rattle.name_parts.specs.Joining.{spaced, joinedName, afterApostrophe, keptOf, dropsOut, remaining, joinedBySpace, joinedWords};
+ghost use Rattle.name_parts.specs.Joining.{spaced, joinedName, afterApostrophe, keptOf, dropsOut, joinedWords};
+ghost use Rattle.name_parts.specs.Contracts.{joinedBehind};
 use crate::words::next_word;
 use crate::words::past_word;
 use prefixes::NameType;
@@ -89,7 +90,7 @@ fn drops_out(kind: NameType, w: &[u8]) -> bool
 // What remains of a word, behind those already joined: an empty text stands for them.
 fn add_word(kind: NameType, w: &[u8], to: &mut [u8], at: usize) -> usize
     requires { ⌜ at ≤ cap ⌝ }
-    ensures { λ r. ⌜ Put (now (to .entry)) (now (to .exit)) at r (joinedBySpace (mathlib.Core.List.[] ∷ remaining kind (now (w .entry) ∷ mathlib.Core.List.[]))) ⌝ }
+    ensures { λ r. ⌜ Put (now (to .entry)) (now (to .exit)) at r (joinedBehind kind (now (w .entry) ∷ mathlib.Core.List.[])) ⌝ }
 {
     let k = kept_of(kind, w);
     if drops_out(kind, k) {
@@ -102,7 +103,7 @@ fn add_word(kind: NameType, w: &[u8], to: &mut [u8], at: usize) -> usize
 // The same of all words at or after a place.
 fn add_words(kind: NameType, s: &[u8], from: usize, to: &mut [u8], at: usize) -> usize
     requires { ⌜ at ≤ cap ⌝ }
-    ensures { λ r. ⌜ Put (now (to .entry)) (now (to .exit)) at r (joinedBySpace (mathlib.Core.List.[] ∷ remaining kind (wordsOf (drop from (now (s .entry)))))) ⌝ }
+    ensures { λ r. ⌜ Put (now (to .entry)) (now (to .exit)) at r (joinedBehind kind (wordsOf (drop from (now (s .entry))))) ⌝ }
 {
     let mut p = from;
     let mut n = at;

@@ -10,6 +10,7 @@ use lib.Dec.{eqb, ltb, lit<}
 use lib.Pow.{shl-exact, pow-pos}
 use lib.ListN.{length, getD, take, drop, length-take, length-drop}
 use lib.Seq.{drop-drop}
+use borrow.Author.Needs.{needs}
 use borrow.Author.Tests.{le-leb, lt-leb, lt-ltb, le-ltb, eq-eqb, ne-eqb}
 use Rattle.base.specs.Pick.{pick, and}
 use Rattle.strings.specs.declared.Next.{Next}
@@ -22,7 +23,7 @@ use Rattle.lang.proofs.Shortcuts.{may-not}
 use Rattle.strings.specs.Reading.{Read, cut, got, andRead, readByte, readNumber, readText, readMany, placeIn}
 use Rattle.pack.specs.Packs.{Guess, guess, readGuess, readGuesses, all, guessGood, guessesGood}
 use Rattle.pack.specs.Guessing.{narrowedBy, narrowedByAll, leftOver, allListed, guessed}
-use Rattle.pack.specs.Contracts.{judge, endIn, allFrom, guessesFrom, placedGuess, guessStandsAt, guessesAt, guessedAt}
+use Rattle.pack.specs.Contracts.{endIn, allFrom, guessesFrom, placedGuess, guessStandsAt, guessesAt, guessedAt}
 use Rattle.strings.specs.Contracts.{ByteIs, numberAt, stringAt, behind, readSome}
 use Rattle.strings.specs.declared.Number.{Number}
 use Rattle.strings.specs.declared.Number.the-variants as number
@@ -31,9 +32,9 @@ use Rattle.pack.specs.declared.sections.Section.the-variants.{End, Bad}
 use Rattle.pack.specs.declared.guessing.GuessAt.{GuessAt}
 use Rattle.pack.specs.declared.guessing.GuessAt.the-variants as guesses
 use Rattle.pack.proofs.Readers.{guess-ends}
-use Rattle.strings.proofs.Readers.{EndOf, end-here, place-drop, then-inv, many-length, byte-ends, number-ends, byte-some, byte-none, count-of, count-cut, mask-of, mask-cut, text-is, text-cut, TextThen, reads-on, text-then, some-one, some-cut}
+use Rattle.strings.proofs.Readers.{EndOf, end-here, place-drop, then-inv, byte-ends, number-ends, byte-some, byte-none, count-of, count-cut, mask-of, mask-cut, text-is, text-cut, TextThen, reads-on, text-then, some-one, some-cut}
 use Rattle.base.proofs.Arms.{clash}
-use Rattle.pack.proofs.Judging.{Faulty, runs-out, fails, section-ends, section-faulty, judge-fine, judge-faulty, judge-same, walk-on, walk-off, walk-end}
+use Rattle.pack.proofs.Judging.{runs-out, fails, section-ends, section-faulty, judge-fine, judge-faulty, walk-on, walk-off, walk-end, counted-cut, counted-much, counted-many}
 use Rattle.base.proofs.PickLaws.{and-first, and-second}
 
 -- ---- a guessing rule at a place
@@ -66,7 +67,7 @@ module _ (s : List ℕ) (at : ℕ) (h : at < length s) (y : Number) (g : y ≡ n
           omega (arith, place-drop s e (w .fits), length-take (e - a) (drop a s), length-drop a s, w .fits, w .size) in
           rw (byte-some s at h, mask-reads, w .reads) (cc)
 
-pub ruleset guess-at-laws = (guess-none, guess-cut-mask, guess-cut-text, guess-whole)
+pub ruleset guess-at-laws = (guess-none, guess-cut-mask, guess-cut-text, guess-whole, needs)
 
 -- what stands there
 pub record GuessIs (s : List ℕ) (at b m a e : ℕ) : Type 0 where
@@ -154,7 +155,7 @@ pub listed-some : (n : ℕ) → n < 32 → (1 * 2 ^ n) % 2 ^ 32 - 1 ≡ allListe
 unfolding allListed
 listed-some n h = let e : min 32 n ≡ n = omega arith in ap (λ (k : ℕ). k - 1) (one-bit n h) ∙ sym (ap (λ (k : ℕ). 2 ^ k - 1) e)
 
-pub ruleset listed-laws = (listed-full, listed-room, listed-some)
+pub ruleset listed-laws = (listed-full, listed-room, listed-some, needs)
 
 listed-is : (n x : ℕ) → n ≤ 32 → x ≡ allListed (min 32 n) → x ≡ 2 ^ n - 1
 unfolding allListed
@@ -191,7 +192,7 @@ module _ (n b m : ℕ) (p : List ℕ) where
       unfolding guessGood and
       guess-all u v f = rw (le-leb b 1 h, not-zero m e, low o, sym q ∙ v) f
 
-pub ruleset guess-test-laws = (guess-accept, guess-zero, guess-unlisted, guess-no-text, guess-all)
+pub ruleset guess-test-laws = (guess-accept, guess-zero, guess-unlisted, guess-no-text, guess-all, needs)
 
 -- ---- one after the other
 
@@ -218,7 +219,7 @@ module _ (s : List ℕ) (at n : ℕ) (x : GuessAt) (g : x ≡ guessStandsAt s at
           let w = guess-is s at x g b m a e q in
           sym (judge-fine _ _ _ _ _ _ (w .reads) (sym k ∙ v) ∙ ap End (place-drop s e (w .fits)))
 
-pub ruleset next-guess-laws = (next-guess-cut, guess-order, guess-fits, next-guess-bad, next-guess-good)
+pub ruleset next-guess-laws = (next-guess-cut, guess-order, guess-fits, next-guess-bad, next-guess-good, needs)
 
 pub record Guessing (s : List ℕ) (n start count at left : ℕ) : Type 0 where
   pub within : at ≤ length s
@@ -247,7 +248,7 @@ module _ {s : List ℕ} {n start count at left : ℕ} (w : Guessing s n start co
   unfolding guessesFrom pick
   guessing-done h = sym (w .is ∙ walk-end s readGuess (λ (u : Unit {0}) y. guessGood n y) (λ u y. u) (λ u. true) tt left at h (w .within))
 
-pub ruleset guessing-laws = (guessing-start, guessing-next, guessing-bad, guessing-done)
+pub ruleset guessing-laws = (guessing-start, guessing-next, guessing-bad, guessing-done, needs)
 
 -- ---- the section
 
@@ -264,34 +265,24 @@ section-not : (n : ℕ) (gs : List Guess) → 4096 < length gs → guessesGood n
 unfolding guessesGood
 section-not n gs h = and-first _ _ (lt-leb _ _ h)
 
-much-by : (n : ℕ) (l : List ℕ) (k : ℕ) (x : Read (List Guess)) → readMany readGuess k l ≡ x → 4096 < k → Faulty (guessesGood n) x
-much-by n l k cut e h = runs-out refl
-much-by n l k (got gs q) e h = let long : 4096 < length gs = omega (arith, many-length readGuess k l gs q e) in fails gs q refl (section-not n gs long)
-
 module _ (s : List ℕ) (n at : ℕ) (r : Number) (p : r ≡ numberAt 2 s at) where
   pub guesses-cut : r ≡ number.Cut → Bad ≡ endIn s (guessesGood n) (readGuesses (drop at s))
-  unfolding endIn readGuesses andRead judge
-  guesses-cut q = rw (count-cut s at r p q) refl
+  unfolding readGuesses
+  guesses-cut = counted-cut s readGuess (guessesGood n) (guessesFrom n) 4096 (section-not n) (section-is n) at r p
 
   module _ (k d : ℕ) (q : r ≡ number.Of k d) where
-    guesses-reads : readGuesses (drop at s) ≡ readMany readGuess k (drop d s)
-    unfolding readGuesses andRead
-    guesses-reads = rw (count-of s at r k d p q .reads) refl
-
     pub guesses-much : 4096 < k → Bad ≡ endIn s (guessesGood n) (readGuesses (drop at s))
-    unfolding endIn
-    guesses-much h = sym (ap (endIn s (guessesGood n)) guesses-reads ∙ judge-faulty _ _ _ _ (much-by n _ k _ refl h))
+    unfolding readGuesses
+    guesses-much = counted-much s readGuess (guessesGood n) (guessesFrom n) 4096 (section-not n) (section-is n) at r p k d q
 
     pub guesses-start : d ≤ length s
     guesses-start = count-of s at r k d p q .fits
 
     pub guesses-many : (x : Section) → k ≤ 4096 → x ≡ endIn s (guessesFrom n) (readMany readGuess k (drop d s)) → x ≡ endIn s (guessesGood n) (readGuesses (drop at s))
-    unfolding endIn
-    guesses-many x h e =
-        e ∙ sym (ap (endIn s (guessesGood n)) guesses-reads
-        ∙ judge-same _ _ _ _ _ (λ gs t g. let few : length gs ≤ 4096 = omega (arith, many-length readGuess k (drop d s) gs t g) in section-is n gs few))
+    unfolding readGuesses
+    guesses-many = counted-many s readGuess (guessesGood n) (guessesFrom n) 4096 (section-not n) (section-is n) at r p k d q
 
-pub ruleset guesses-laws = (guesses-cut, guesses-much, guesses-start, guesses-many)
+pub ruleset guesses-laws = (guesses-cut, guesses-much, guesses-start, guesses-many, needs)
 
 -- ---- guessing: the rules from a place on narrow what is left
 
@@ -323,7 +314,7 @@ module _ {s name : List ℕ} {start count whole at left mask : ℕ} (w : Narrowi
   unfolding narrowedByAll readSome
   narrowing-done h = let none : left ≡ 0 = omega arith in sym (w .is ∙ ap (λ (n : ℕ). narrowedByAll name (readSome readGuess n (drop at s)) mask) none)
 
-pub ruleset narrowing-laws = (narrowing-start, guess-order, guess-fits, narrowing-next, narrowing-cut, narrowing-done)
+pub ruleset narrowing-laws = (narrowing-start, guess-order, guess-fits, narrowing-next, narrowing-cut, narrowing-done, needs)
 
 module _ (s name : List ℕ) (place n whole : ℕ) (r : Number) (p : r ≡ numberAt 2 s place) (l : whole ≡ allListed (min 32 n)) (x : LanguageSet) where
   pub guessed-none : r ≡ number.Cut → x ≡ leftOver whole → x ≡ guessedAt s place n name
@@ -334,4 +325,4 @@ module _ (s name : List ℕ) (place n whole : ℕ) (r : Number) (p : r ≡ numbe
   unfolding guessedAt guessed guessesAt behind
   guessed-many k d m q f e = e ∙ rw (count-of s place r k d p q .reads) (ap leftOver (f ∙ ap (narrowedByAll name (readSome readGuess k (drop d s))) l))
 
-pub ruleset guessed-laws = (guessed-none, guessed-many)
+pub ruleset guessed-laws = (guessed-none, guessed-many, needs)

@@ -7,11 +7,14 @@ use native.Mathlib.Nat.{not-suc-le-zero}
 use native.Mathlib.Omega.{arith}
 use lib.ListN.{length, drop}
 use Rattle.base.specs.Pick.{pick}
-use Rattle.strings.specs.Reading.{Read, cut, got, andRead, readMany, placeIn}
+use Rattle.strings.specs.Reading.{Read, cut, got, andRead, readNumber, readMany, placeIn}
+use Rattle.strings.specs.Contracts.{numberAt}
+use Rattle.strings.specs.declared.Number.{Number}
+use Rattle.strings.specs.declared.Number.the-variants as number
 use Rattle.pack.specs.Contracts.{judge, endIn, allFrom}
 use Rattle.pack.specs.declared.sections.Section.{Section}
 use Rattle.pack.specs.declared.sections.Section.the-variants.{End, Bad}
-use Rattle.strings.proofs.Readers.{EndOf, Ends, end-then, end-is, end-within, place-drop}
+use Rattle.strings.proofs.Readers.{EndOf, Ends, end-then, end-is, end-within, place-drop, many-length, count-of, count-cut}
 use Rattle.base.proofs.Arms.{clash}
 use Rattle.base.proofs.PickLaws.{pick-true, pick-false, pick-same, pick-and}
 
@@ -125,3 +128,29 @@ module _ {A S : Type 0} (s : List ℕ) (f : List ℕ → Read A) (ok : S → A �
   unfolding readMany endIn judge allFrom
   walk-end st zero at h w = ap (λ (e : ℕ). pick (last st) (End e) Bad) (place-drop s at w)
   walk-end st (suc n) at h w = absurd (not-suc-le-zero h)
+
+-- ---- a count of two bytes, at most `most`, and as many of a kind: `each` is the test of a list that is not too long
+
+module _ {A : Type 0} (s : List ℕ) (f : List ℕ → Read A) (whole each : List A → Bool) (most : ℕ)
+    (over : (xs : List A) → most < length xs → whole xs ≡ false) (under : (xs : List A) → length xs ≤ most → whole xs ≡ each xs)
+    (at : ℕ) (r : Number) (p : r ≡ numberAt 2 s at) where
+  much-by : (l : List ℕ) (n : ℕ) (x : Read (List A)) → readMany f n l ≡ x → most < n → Faulty whole x
+  much-by l n cut e h = runs-out refl
+  much-by l n (got xs q) e h = fails xs q refl (over xs (omega (arith, many-length f n l xs q e)))
+
+  pub counted-cut : r ≡ number.Cut → Bad ≡ endIn s whole (andRead (readNumber 2 (drop at s)) (λ m t. readMany f m t))
+  unfolding endIn andRead judge
+  counted-cut q = rw (count-cut s at r p q) refl
+
+  module _ (n d : ℕ) (q : r ≡ number.Of n d) where
+    counted-reads : andRead (readNumber 2 (drop at s)) (λ m t. readMany f m t) ≡ readMany f n (drop d s)
+    unfolding andRead
+    counted-reads = rw (count-of s at r n d p q .reads) refl
+
+    pub counted-much : most < n → Bad ≡ endIn s whole (andRead (readNumber 2 (drop at s)) (λ m t. readMany f m t))
+    unfolding endIn
+    counted-much h = sym (ap (endIn s whole) counted-reads ∙ judge-faulty _ _ _ _ (much-by _ n _ refl h))
+
+    pub counted-many : (x : Section) → n ≤ most → x ≡ endIn s each (readMany f n (drop d s)) → x ≡ endIn s whole (andRead (readNumber 2 (drop at s)) (λ m t. readMany f m t))
+    unfolding endIn
+    counted-many x h e = e ∙ sym (ap (endIn s whole) counted-reads ∙ judge-same _ _ _ _ _ (λ xs t g. under xs (omega (arith, many-length f n (drop d s) xs t g))))

@@ -19,16 +19,16 @@ use Rattle.languages.specs.declared.sets.LanguageSet.{LanguageSet}
 use Rattle.languages.specs.declared.sets.LanguageSet.the-variants.{Any}
 use Rattle.languages.proofs.Laws.{without-below, any-below, mask-below}
 use Rattle.strings.proofs.Laws.{strings-none, strings-all, strings-one}
-use Rattle.regex_optim.specs.Contexts.{leftForm, rightForm, kindOf}
 use Rattle.letters.specs.Reading.{firstIll}
 use Rattle.letters.specs.declared.utf8.Found.the-variants.{Nothing}
 use Rattle.rule.specs.Matching.{ruleText}
 use Rattle.rule.proofs.Formed.{text-formed}
 use Rattle.phonemes.specs.Expressions.{checkedOf}
-use Rattle.phonemes.specs.declared.answers.Expression.{Expression}
-use Rattle.phonemes.specs.declared.answers.Expression.the-variants.{Good, Malformed, Stranger}
+use Rattle.phonemes.specs.declared.answers.Expression.the-variants.{Good}
 use Rattle.lang.specs.Patterns.{matchesOf}
-use Rattle.pack.specs.Packs.{Guess, Rule, Pack, Verdict, accepted, refused, readNames, readGuess, readGuesses, readRule, readList, all, isForm, isGood, ruleGood, listGood, namesGood, guessesGood, section, namesIn, listCount, listSections, endSection, packOf, stringsLength}
+use Rattle.pack.specs.Packs.{Guess, Pack, Verdict, accepted, refused, readNames, readGuess, readGuesses, readRule, readList, all, listGood, namesGood, guessesGood, section, namesIn, listCount, listSections, endSection, packOf, stringsLength}
+use Rattle.rule_lines.proofs.Laws.{good-texts, good-pattern, good-expression}
+use Rattle.rule_lines.specs.Rules.{Rule, ruleGood}
 use Rattle.pack.specs.PlaceContracts.{surveyedOf, foundIn, placesOf, SurveyIs, placedRule, placedFrom, ruleStandsAt, countIn, ruleCount, listAt}
 use Rattle.strings.specs.Contracts.{behind, readSome, numberIn, numberAt}
 use Rattle.pack.specs.Guessing.{narrowedBy, narrowedByAll, leftOver, allListed, guessed}
@@ -193,40 +193,23 @@ pub record GoodRule (nm : List ℕ) (r : Rule) : Type 0 where
   pub right-formed : firstIll (r .right) ≡ Nothing
   pub expression-formed : firstIll (r .expression) ≡ Nothing
   pub pattern-some : 0 < length (r .pattern)
-  pub left-form : isForm (kindOf (leftForm (r .left))) ≡ true
-  pub right-form : isForm (kindOf (rightForm (r .right))) ≡ true
   pub alternatives : ℕ
   pub expression : checkedOf nm (r .expression) ≡ Good alternatives
 
-good-count : (x : Expression) → isGood x ≡ true → (n : ℕ) × (x ≡ Good n)
-unfolding isGood
-good-count (Good n) e = (n, refl)
-good-count Malformed e = clash (cc)
-good-count Stranger e = clash (cc)
-
 pub good-rule : (nm : List ℕ) (r : Rule) → ruleGood nm r ≡ true → GoodRule nm r
-unfolding ruleGood
 good-rule nm r e =
-    let a = and-inv _ _ e in
-    let t₁ = and-inv _ _ (a .0) in
-    let t₂ = and-inv _ _ (t₁ .1) in
-    let t₃ = and-inv _ _ (t₂ .1) in
-    let b = and-inv _ _ (a .1) in
-    let c = and-inv _ _ (b .1) in
-    let d = and-inv _ _ (c .1) in
-    let n = good-count (checkedOf nm (r .expression)) (d .1) in
+    let t = good-texts nm r e in
+    let n = good-expression nm r e in
     record {
-      pattern-text = t₁ .0;
-      left-text = t₂ .0;
-      right-text = t₃ .0;
-      expression-text = t₃ .1;
-      pattern-formed = text-formed (r .pattern) (t₁ .0);
-      left-formed = text-formed (r .left) (t₂ .0);
-      right-formed = text-formed (r .right) (t₃ .0);
-      expression-formed = text-formed (r .expression) (t₃ .1);
-      pattern-some = ltb-true _ _ (b .0);
-      left-form = c .0;
-      right-form = d .0;
+      pattern-text = t .pattern;
+      left-text = t .left;
+      right-text = t .right;
+      expression-text = t .expression;
+      pattern-formed = text-formed (r .pattern) (t .pattern);
+      left-formed = text-formed (r .left) (t .left);
+      right-formed = text-formed (r .right) (t .right);
+      expression-formed = text-formed (r .expression) (t .expression);
+      pattern-some = good-pattern nm r e;
       alternatives = n .0;
       expression = n .1;
     }

@@ -1,31 +1,21 @@
--- A rule by its places, the test of one, and the loop over a list. Assumes nothing.
+-- A rule by its places, and the loop over a list. Assumes nothing.
 use mathlib.Core.Path.{_≡_, refl, sym, ap, ap₂, subst, _∙_}
 use mathlib.Core.Bool.{Bool, true, false}
 use mathlib.Core.List.{List, [], _∷_}
 use Prim.Native.Nat.{ℕ, _+_, _-_, _≤_, _<_, zero-le}
 use native.Mathlib.Omega.{arith}
-use lib.Dec.{eqb, leb}
+use lib.Dec.{leb}
 use lib.ListN.{length, take, drop, length-take, length-drop}
 use borrow.Author.Tests.{le-leb, lt-leb}
 use Rattle.base.specs.Pick.{pick, and}
-use Rattle.regex_optim.specs.Contexts.{Form, kindOf}
-use Rattle.texts.specs.Parts.{opening, withoutCaret, withoutDollar, firstIs, lastIs, has}
-use Rattle.regex_optim.specs.Contracts.{literalKind}
-use Rattle.regex_optim.specs.declared.OptimizedRegex.{OptimizedRegex}
-use Rattle.regex_optim.specs.declared.OptimizedRegex.the-variants.{AllStringsMatcher, IsEmpty, Equals, StartsWith, EndsWith}
-use Rattle.regex_optim.proofs.Laws.{kind-by-literal, left-is, right-is}
-use Rattle.rule.specs.Matching.{ruleText, firstCode}
-use Rattle.phonemes.specs.Expressions.{round, unround, checkedOf}
-use Rattle.rule.proofs.Bare.{Clear, bare-text, bare-clear, clear-has, clear-tail, clear-front}
-use Rattle.phonemes.proofs.Bare.{clear-good, clear-malformed}
-use Rattle.phonemes.specs.declared.answers.Expression.{Expression}
-use Rattle.phonemes.specs.declared.answers.Expression.the-variants.{Good, Malformed, Stranger}
+use Rattle.rule.specs.Matching.{firstCode}
 use Rattle.strings.specs.declared.Next.{Next}
 use Rattle.strings.specs.declared.Next.the-variants as next
 use Rattle.strings.specs.Reading.{Read, cut, got, andRead, readText, readMany, placeIn}
-use Rattle.pack.specs.Packs.{Rule, rule, readRule, readList, all, isForm, isGood, ruleGood, orderedByCode, listGood}
+use Rattle.pack.specs.Packs.{readRule, readList, all, orderedByCode, listGood}
+use Rattle.rule_lines.specs.Rules.{Rule, rule, ruleGood}
 use Rattle.pack.specs.PlaceContracts.{placedFrom, placedRule, ruleStandsAt, countIn, ruleCount}
-use Rattle.pack.specs.Contracts.{judge, endIn, allFrom, patternGood, leftGood, rightGood, expressionGood, ruleFits, rulesFrom, ruledAs, ruledIn}
+use Rattle.pack.specs.Contracts.{judge, endIn, allFrom, ruleFits, rulesFrom, ruledAs, ruledIn}
 use Rattle.strings.specs.Contracts.{numberAt, stringAt}
 use Rattle.strings.specs.declared.Number.{Number}
 use Rattle.strings.specs.declared.Number.the-variants as number
@@ -36,11 +26,10 @@ use Rattle.pack.specs.declared.rules.RuleAt.the-variants as rules
 use Rattle.pack.specs.declared.rules.Ruled.{Ruled}
 use Rattle.pack.specs.declared.rules.Ruled.the-variants as ruled
 use Rattle.pack.proofs.Readers.{rule-ends}
-use Rattle.strings.proofs.Readers.{end-here, end-then, end-is, end-within, place-drop, many-length, count-of, count-cut, TextIs, text-is, text-cut, TextRead, TextThen, reads-on, text-then}
+use Rattle.strings.proofs.Readers.{end-here, end-then, end-is, end-within, place-drop, count-of, count-cut, TextIs, text-is, text-cut, TextRead, TextThen, reads-on, text-then}
 use Rattle.base.proofs.Arms.{clash}
-use Rattle.pack.proofs.Judging.{Faulty, runs-out, fails, Judged, fine, faulty, judged, judge-faulty, judge-same, walk-on, walk-off, walk-end}
-use Rattle.base.proofs.PickLaws.{pick-true, pick-false, pick-all, and-yes, and-first, and-second}
-use Rattle.rule.specs.Contracts.{bare}
+use Rattle.pack.proofs.Judging.{Faulty, runs-out, Judged, fine, faulty, judged, judge-faulty, walk-on, walk-off, walk-end, counted-cut, counted-much, counted-many}
+use Rattle.base.proofs.PickLaws.{pick-true, pick-false, and-yes, and-first, and-second}
 
 -- ---- the strings of a rule, one after the other
 
@@ -215,120 +204,6 @@ unfolding ruleCount countIn
 rules-none s at r p q = sym (ap countIn (count-cut s at r p q))
 
 pub ruleset count-laws = (rules-many, rules-none)
-
--- ---- the test of a rule
-
-pub form-yes : (x y : OptimizedRegex) → isForm y ≡ true → x ≡ y → true ≡ isForm x
-form-yes x y p e = sym (ap isForm e ∙ p)
-
-pub form-no : (x y : OptimizedRegex) → isForm y ≡ false → x ≡ y → false ≡ isForm x
-form-no x y p e = sym (ap isForm e ∙ p)
-
-pub ruleset form-laws = (form-yes, form-no)
-
-pub form-told : (x y : OptimizedRegex) (u : Bool) → x ≡ y → u ≡ isForm x → u ≡ isForm y
-form-told x y u e f = f ∙ ap isForm e
-
--- without `[` a context is a literal, which is always in the forms
-Formed : OptimizedRegex → Type 0
-Formed x = isForm x ≡ true
-
-literal-left : (n : ℕ) (s : Bool) → Formed (literalKind n s true)
-unfolding Formed literalKind isForm pick
-literal-left n true = pick-all Formed (eqb n 0) IsEmpty Equals refl refl
-literal-left n false = pick-all Formed (eqb n 0) AllStringsMatcher EndsWith refl refl
-
-literal-right : (n : ℕ) (e : Bool) → Formed (literalKind n true e)
-unfolding Formed literalKind isForm pick
-literal-right n true = pick-all Formed (eqb n 0) IsEmpty Equals refl refl
-literal-right n false = pick-all Formed (eqb n 0) AllStringsMatcher StartsWith refl refl
-
-module _ (c : List ℕ) (t : Bool) (p : t ≡ bare c) (q : t ≡ true) where
-  clear : Clear c
-  clear = bare-clear c (sym p ∙ q)
-
-  text : ruleText c ≡ true
-  text = bare-text c (sym p ∙ q)
-
-  pub left-bare : true ≡ leftGood c
-  unfolding leftGood Formed withoutCaret
-  left-bare =
-      let none : has opening (withoutCaret c) ≡ false = clear-has (pick-all Clear _ _ _ (clear-tail clear) clear) in
-      sym (and-yes _ _ text (ap (λ (x : Form). isForm (kindOf x)) (left-is c) ∙ ap isForm (sym (kind-by-literal _ _ _ _ (sym none) _ refl refl)) ∙ literal-left _ _))
-
-  pub right-bare : true ≡ rightGood c
-  unfolding rightGood Formed withoutDollar
-  right-bare =
-      let none : has opening (withoutDollar c) ≡ false = clear-has (pick-all Clear _ _ _ (clear-front clear) clear) in
-      sym (and-yes _ _ text (ap (λ (x : Form). isForm (kindOf x)) (right-is c) ∙ ap isForm (sym (kind-by-literal _ _ _ _ (sym none) _ refl refl)) ∙ literal-right _ _))
-
-  -- of an expression only the round brackets matter
-  bare-good : (names : List ℕ) (b : Bool) → pick (firstIs round c) (lastIs unround c) true ≡ b → b ≡ expressionGood names c
-  unfolding expressionGood isGood
-  bare-good names true e = sym (and-yes _ _ text (ap isGood (clear-good names c clear e)))
-  bare-good names false e = sym (and-second _ _ text (ap isGood (clear-malformed names c clear e)))
-
-  module _ (names : List ℕ) (f : Bool) (g : f ≡ firstIs round c) where
-    pub bare-round : (u : Bool) → f ≡ true → u ≡ lastIs unround c → u ≡ expressionGood names c
-    bare-round u v h = bare-good names u (pick-true _ _ _ (sym g ∙ v) ∙ sym h)
-
-    pub bare-plain : f ≡ false → true ≡ expressionGood names c
-    bare-plain v = bare-good names true (pick-false _ _ _ (sym g ∙ v))
-
-module _ (names e : List ℕ) (x : Expression) (p : x ≡ checkedOf names e) where
-  pub expression-good : (n : ℕ) → x ≡ Good n → true ≡ isGood (checkedOf names e)
-  unfolding isGood
-  expression-good n q = sym (ap isGood (sym p ∙ q))
-
-  pub expression-malformed : x ≡ Malformed → false ≡ isGood (checkedOf names e)
-  unfolding isGood
-  expression-malformed q = sym (ap isGood (sym p ∙ q))
-
-  pub expression-stranger : x ≡ Stranger → false ≡ isGood (checkedOf names e)
-  unfolding isGood
-  expression-stranger q = sym (ap isGood (sym p ∙ q))
-
--- the tests string by string, a, b, c and d of the texts
-and-false : (a : Bool) → and a false ≡ false
-unfolding and
-and-false true = refl
-and-false false = refl
-
-by-string : (a n b f c g d h : Bool) → and (and a (and b (and c d))) (and n (and f (and g h))) ≡ and (and n a) (and (and b f) (and (and c g) (and d h)))
-unfolding and
-by-string false true b f c g d h = refl
-by-string false false b f c g d h = refl
-by-string true false b f c g d h = and-false (and b (and c d))
-by-string true true false f c g d h = refl
-by-string true true true false c g d h = and-false (and c d)
-by-string true true true true false g d h = refl
-by-string true true true true true false d h = and-false d
-by-string true true true true true true false h = refl
-by-string true true true true true true true h = refl
-
-good-is : (names : List ℕ) (r : Rule) → ruleGood names r ≡ and (patternGood (r .pattern)) (and (leftGood (r .left)) (and (rightGood (r .right)) (expressionGood names (r .expression))))
-unfolding ruleGood patternGood leftGood rightGood expressionGood
-good-is names r = by-string _ _ _ _ _ _ _ _
-
-module _ (names p l r e : List ℕ) (t : Bool) (g : t ≡ patternGood p) where
-  pub rule-pattern : t ≡ false → false ≡ ruleGood names (rule p l r e)
-  rule-pattern q = sym (good-is names (rule p l r e) ∙ and-first _ _ (sym g ∙ q))
-
-  module _ (u : Bool) (k : u ≡ leftGood l) (q : t ≡ true) where
-    pub rule-left : u ≡ false → false ≡ ruleGood names (rule p l r e)
-    rule-left o = sym (good-is names (rule p l r e) ∙ and-second _ _ (sym g ∙ q) (and-first _ _ (sym k ∙ o)))
-
-    module _ (v : Bool) (m : v ≡ rightGood r) (o : u ≡ true) where
-      pub rule-right : v ≡ false → false ≡ ruleGood names (rule p l r e)
-      rule-right w = sym (good-is names (rule p l r e) ∙ and-second _ _ (sym g ∙ q) (and-second _ _ (sym k ∙ o) (and-first _ _ (sym m ∙ w))))
-
-      pub rule-all : (x : Bool) → v ≡ true → x ≡ expressionGood names e → x ≡ ruleGood names (rule p l r e)
-      unfolding and
-      rule-all x w y = y ∙ sym (good-is names (rule p l r e) ∙ rw (sym g ∙ q, sym k ∙ o, sym m ∙ w) refl)
-
-pub ruleset rule-laws = (rule-pattern, rule-left, rule-right, rule-all)
-
-pub ruleset rule-test-laws = (form-told, left-bare, right-bare, expression-good, expression-malformed, expression-stranger, bare-round, bare-plain)
 
 -- ---- a rule behind another
 
@@ -506,31 +381,21 @@ list-not : (names : List ℕ) (rs : List Rule) → 4096 < length rs → listGood
 unfolding listGood
 list-not names rs h = and-first _ _ (lt-leb _ _ h)
 
-much-by : (names l : List ℕ) (n : ℕ) (x : Read (List Rule)) → readMany readRule n l ≡ x → 4096 < n → Faulty (listGood names) x
-much-by names l n cut e h = runs-out refl
-much-by names l n (got rs q) e h = let long : 4096 < length rs = omega (arith, many-length readRule n l rs q e) in fails rs q refl (list-not names rs long)
-
 module _ (s names : List ℕ) (at : ℕ) (r : Number) (p : r ≡ numberAt 2 s at) where
   pub list-cut : r ≡ number.Cut → Bad ≡ endIn s (listGood names) (readList (drop at s))
-  unfolding endIn readList andRead judge
-  list-cut q = rw (count-cut s at r p q) refl
+  unfolding readList
+  list-cut = counted-cut s readRule (listGood names) (rulesFrom names 0) 4096 (list-not names) (list-is names) at r p
 
   module _ (n d : ℕ) (q : r ≡ number.Of n d) where
-    list-reads : readList (drop at s) ≡ readMany readRule n (drop d s)
-    unfolding readList andRead
-    list-reads = rw (count-of s at r n d p q .reads) refl
-
     pub list-much : 4096 < n → Bad ≡ endIn s (listGood names) (readList (drop at s))
-    unfolding endIn
-    list-much h = sym (ap (endIn s (listGood names)) list-reads ∙ judge-faulty _ _ _ _ (much-by names _ n _ refl h))
+    unfolding readList
+    list-much = counted-much s readRule (listGood names) (rulesFrom names 0) 4096 (list-not names) (list-is names) at r p n d q
 
     pub list-starts : d ≤ length s
     list-starts = count-of s at r n d p q .fits
 
     pub list-many : (x : Section) → n ≤ 4096 → x ≡ endIn s (rulesFrom names 0) (readMany readRule n (drop d s)) → x ≡ endIn s (listGood names) (readList (drop at s))
-    unfolding endIn
-    list-many x h e =
-        e ∙ sym (ap (endIn s (listGood names)) list-reads
-        ∙ judge-same _ _ _ _ _ (λ rs t g. let few : length rs ≤ 4096 = omega (arith, many-length readRule n (drop d s) rs t g) in list-is names rs few))
+    unfolding readList
+    list-many = counted-many s readRule (listGood names) (rulesFrom names 0) 4096 (list-not names) (list-is names) at r p n d q
 
 pub ruleset list-laws = (list-cut, list-much, list-starts, list-many)

@@ -9,6 +9,7 @@ use native.Mathlib.Omega.{arith}
 use lib.Dec.{eqb}
 use lib.ListN.{length, getD, take, drop, set, length-drop, length-set}
 use lib.Seq.{sets, set-out}
+use borrow.Author.Needs.{needs}
 use borrow.Author.Tests.{le-leb, lt-leb, leb-true, eq-eqb, ne-eqb}
 use Rattle.base.specs.Pick.{pick, and}
 use Rattle.letters.specs.Order.{orderOf, sameText, isLess, increasing}
@@ -20,7 +21,8 @@ use Rattle.languages.proofs.Laws.{name-some}
 use Rattle.strings.specs.declared.Next.{Next}
 use Rattle.strings.specs.declared.Next.the-variants as next
 use Rattle.strings.specs.Reading.{Read, cut, got, andRead, readByte, readText, readMany, placeIn, isNil}
-use Rattle.pack.specs.Packs.{Rule, Pack, Verdict, accepted, refused, readNames, readGuesses, readList, all, holds, any, namesGood, guessesGood, listGood, section, namesIn, listCount, listSections, endSection, packOf, verdictOf, stringsLength}
+use Rattle.pack.specs.Packs.{Pack, Verdict, accepted, refused, readNames, readGuesses, readList, all, holds, any, namesGood, guessesGood, listGood, section, namesIn, listCount, listSections, endSection, packOf, verdictOf, stringsLength}
+use Rattle.rule_lines.specs.Rules.{Rule}
 use Rattle.pack.specs.PlaceContracts.{surveyedOf, behindRule, foundIn, placesOf, SurveyIs}
 use Rattle.pack.specs.Contracts.{judge, endIn, allFrom, past, follows, metBy, namesFrom, listsEnd, ListsAre, ended, restOf, restPlaces, RestIs}
 use Rattle.strings.specs.Contracts.{ByteIs, stringAt}
@@ -53,7 +55,7 @@ pub name-greater : (p x : List ℕ) (o : Order) → o ≡ orderOf p x → o ≡ 
 unfolding follows isLess and
 name-greater p x o e q = rw (sym e ∙ q) refl
 
-pub ruleset follows-laws = (name-less, name-equal, name-greater)
+pub ruleset follows-laws = (name-less, name-equal, name-greater, needs)
 
 unfoldable shift : List ℕ → List (List ℕ) → Bool
 shift p [] = true
@@ -194,7 +196,7 @@ module _ {s : List ℕ} {from at left : ℕ} {met : Bool} (w : Naming s from at 
   unfolding namesFrom
   naming-lacks h q = sym (w .is ∙ walk-end s readText _ _ _ _ left at h (w .within) ∙ pick-false _ _ _ q)
 
-pub ruleset naming-laws = (names-none, names-much, naming-start, naming-cut, name-order, name-fits, naming-bad, naming-next, naming-done, naming-lacks)
+pub ruleset naming-laws = (names-none, names-much, naming-start, naming-cut, name-order, name-fits, naming-bad, naming-next, naming-done, naming-lacks, needs)
 
 -- ---- the lists, one after the other
 
@@ -270,7 +272,7 @@ module _ {s names : List ℕ} {start count : ℕ} {table : List ℕ} {at left k 
         buffer = sym (w .stored ∙ ap (λ (n : ℕ). sets table′ k (foundIn s names n (drop at s))) none);
       }
 
-pub ruleset found-laws = (found-start, found-next, found-fault, found-done)
+pub ruleset found-laws = (found-start, found-next, found-fault, found-done, needs)
 
 -- ---- the list count, the lists and the end
 
@@ -313,7 +315,7 @@ module _ (s names : List ℕ) (n at : ℕ) (table : List ℕ) where
       unfolding ended
       rest-more p q f = rest-by _ (sym (ap (ended s) q ∙ pick-false _ _ _ (ne-eqb _ _ f)))
 
-pub ruleset rest-laws = (rest-none, rest-count, rest-fault, rest-ends, rest-more)
+pub ruleset rest-laws = (rest-none, rest-count, rest-fault, rest-ends, rest-more, needs)
 
 -- ---- the sections of the pack
 
@@ -502,7 +504,7 @@ module _ (s table : List ℕ) (x₁ : Section) (e₁ : x₁ ≡ endIn s namesGoo
             unfolding told
             survey-accepted q = survey-by _ (sym (ap (told (front .value)) q ∙ ap₂ (λ (i j : ℕ). surveyed.Accepted i j) count (sym (names-end s g front))))
 
-pub ruleset survey-laws = (survey-names, survey-first, survey-fits, survey-few, survey-guesses, survey-counted, survey-refused, survey-accepted)
+pub ruleset survey-laws = (survey-names, survey-first, survey-fits, survey-few, survey-guesses, survey-counted, survey-refused, survey-accepted, needs)
 
 -- ---- the verdict alone
 
@@ -523,4 +525,4 @@ module _ (s table : List ℕ) (x : Surveyed) (table′ : List ℕ) (w : SurveyIs
   pub check-refused : (p : ℕ) → x ≡ surveyed.Refused p → checked.Refused p ≡ verdictOf (packOf s)
   check-refused p q = refused-by (packOf s) p (sym (surveyed-one _ _ (w .result)) ∙ q)
 
-pub ruleset check-laws = (check-accepted, check-refused)
+pub ruleset check-laws = (check-accepted, check-refused, needs)

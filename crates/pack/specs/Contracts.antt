@@ -1,20 +1,19 @@
 -- What the functions of the walk answer, in terms of what is read.
 use Prim.{Unit}
 use mathlib.Core.Path.{_≡_}
-use Prim.Native.Nat.{ℕ, zero, suc, _-_, _<_, min}
+use Prim.Native.Nat.{ℕ, zero, suc, _-_, min}
 use mathlib.Core.Bool.{Bool, true}
 use mathlib.Core.List.{List, [], _∷_}
-use lib.Dec.{eqb, leb, ltb}
-use lib.ListN.{length, getD, drop}
+use lib.Dec.{eqb, leb}
+use lib.ListN.{length, drop}
 use lib.Seq.{sets}
 use Rattle.base.specs.Pick.{pick, and}
 use Rattle.letters.specs.Order.{orderOf, sameText, isLess}
 use Rattle.languages.specs.Names.{languageName}
-use Rattle.regex_optim.specs.Contexts.{leftForm, rightForm, kindOf}
-use Rattle.rule.specs.Matching.{ruleText, firstCode}
-use Rattle.phonemes.specs.Expressions.{checkedOf}
+use Rattle.rule.specs.Matching.{firstCode}
 use Rattle.strings.specs.Reading.{Read, cut, got, readByte, readNumber, placeIn}
-use Rattle.pack.specs.Packs.{Guess, Rule, readGuess, readList, any, guessGood, isForm, isGood, ruleGood, listGood, listCount}
+use Rattle.pack.specs.Packs.{Guess, readGuess, readList, any, guessGood, listGood, listCount}
+use Rattle.rule_lines.specs.Rules.{Rule, ruleGood}
 use Rattle.pack.specs.PlaceContracts.{foundIn}
 use Rattle.strings.specs.Contracts.{behind, readSome}
 use Rattle.strings.specs.declared.Number.{Number}
@@ -83,19 +82,7 @@ placedGuess s (got g r) = guesses.At (g .accept) (g .mask) (placeIn s r - length
 unfoldable pub guessStandsAt : List ℕ → ℕ → GuessAt
 guessStandsAt s at = placedGuess s (readGuess (drop at s))
 
--- ---- rules: string by string, and the first character of the rule before
-
-unfoldable pub patternGood : List ℕ → Bool
-patternGood p = and (ltb 0 (length p)) (ruleText p)
-
-unfoldable pub leftGood : List ℕ → Bool
-leftGood l = and (ruleText l) (isForm (kindOf (leftForm l)))
-
-unfoldable pub rightGood : List ℕ → Bool
-rightGood r = and (ruleText r) (isForm (kindOf (rightForm r)))
-
-unfoldable pub expressionGood : List ℕ → List ℕ → Bool
-expressionGood names e = and (ruleText e) (isGood (checkedOf names e))
+-- ---- rules, and the first character of the rule before
 
 unfoldable pub ruleFits : List ℕ → ℕ → Rule → Bool
 ruleFits names least r = and (leb least (firstCode (r .pattern))) (ruleGood names r)

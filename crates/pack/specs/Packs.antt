@@ -7,13 +7,8 @@ use lib.ListN.{length, take, drop}
 use Rattle.base.specs.Pick.{pick, and}
 use Rattle.letters.specs.Order.{sameText, increasing}
 use Rattle.languages.specs.Names.{languageName}
-use Rattle.regex_optim.specs.Contexts.{leftForm, rightForm, kindOf}
-use Rattle.regex_optim.specs.declared.OptimizedRegex.{OptimizedRegex}
-use Rattle.regex_optim.specs.declared.OptimizedRegex.the-variants.{AllStringsMatcher, IsEmpty, Equals, StartsWith, EndsWith, EqualsChar, StartsWithChar, EndsWithChar, Outside}
 use Rattle.rule.specs.Matching.{ruleText, firstCode}
-use Rattle.phonemes.specs.Expressions.{checkedOf}
-use Rattle.phonemes.specs.declared.answers.Expression.{Expression}
-use Rattle.phonemes.specs.declared.answers.Expression.the-variants.{Good, Malformed, Stranger}
+use Rattle.rule_lines.specs.Rules.{Rule, rule, ruleGood}
 use Rattle.lang.specs.Patterns.{inForms}
 use Rattle.strings.specs.Reading.{Read, cut, got, andRead, readByte, readNumber, readText, readMany, placeIn, isNil}
 use Rattle.pack.specs.declared.sections.Checked.{Checked}
@@ -26,12 +21,6 @@ pub record Guess : Type 0 where
   pub mask : ℕ
   pub pattern : List ℕ
 
-pub record Rule : Type 0 where
-  pub pattern : List ℕ
-  pub left : List ℕ
-  pub right : List ℕ
-  pub expression : List ℕ
-
 pub record Pack : Type 0 where
   pub names : List (List ℕ)
   pub guesses : List Guess
@@ -39,9 +28,6 @@ pub record Pack : Type 0 where
 
 abbrev pub guess : ℕ → ℕ → List ℕ → Guess
 guess a m p = record { accept = a; mask = m; pattern = p }
-
-abbrev pub rule : List ℕ → List ℕ → List ℕ → List ℕ → Rule
-rule p l r e = record { pattern = p; left = l; right = r; expression = e }
 
 -- ---- reading the sections
 
@@ -91,37 +77,13 @@ guessGood n g = and (leb (g .accept) 1) (and (not (eqb (g .mask) 0)) (and (ltb (
 unfoldable pub guessesGood : ℕ → List Guess → Bool
 guessesGood n gs = and (leb (length gs) 4096) (all (guessGood n) gs)
 
-unfoldable pub isForm : OptimizedRegex → Bool
-isForm AllStringsMatcher = true
-isForm IsEmpty = true
-isForm Equals = true
-isForm StartsWith = true
-isForm EndsWith = true
-isForm EqualsChar = true
-isForm StartsWithChar = true
-isForm EndsWithChar = true
-isForm Outside = false
-
-unfoldable pub isGood : Expression → Bool
-isGood (Good n) = true
-isGood Malformed = false
-isGood Stranger = false
-
--- "Every rule above applies": the texts, a pattern that is not empty, both contexts in the forms, the expression well formed and its names
--- listed. `names` is the bytes of the names, each behind its length byte
-unfoldable pub ruleGood : List ℕ → Rule → Bool
-ruleGood names r =
-    and (and (ruleText (r .pattern)) (and (ruleText (r .left)) (and (ruleText (r .right)) (ruleText (r .expression)))))
-    (and (ltb 0 (length (r .pattern)))
-    (and (isForm (kindOf (leftForm (r .left)))) (and (isForm (kindOf (rightForm (r .right)))) (isGood (checkedOf names (r .expression))))))
-
 -- "by first character and then file order"
 unfoldable pub orderedByCode : List Rule → Bool
 orderedByCode [] = true
 orderedByCode (x ∷ []) = true
 orderedByCode (x ∷ y ∷ l) = and (leb (firstCode (x .pattern)) (firstCode (y .pattern))) (orderedByCode (y ∷ l))
 
--- at most 4,096 rules
+-- at most 4,096 rules, and "Every rule above applies" to each; `names` is the bytes of the names, each behind its length byte
 unfoldable pub listGood : List ℕ → List Rule → Bool
 listGood names rs = and (leb (length rs) 4096) (and (all (ruleGood names) rs) (orderedByCode rs))
 

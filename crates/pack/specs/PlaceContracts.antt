@@ -8,7 +8,8 @@ use lib.ListN.{length, drop}
 use lib.Seq.{sets}
 use Rattle.base.specs.Pick.{pick}
 use Rattle.strings.specs.Reading.{Read, cut, got, readByte, readNumber, placeIn}
-use Rattle.pack.specs.Packs.{Rule, Verdict, accepted, refused, readNames, readGuesses, readRule, readList, namesGood, guessesGood, listGood, namesIn, listCount, packOf, stringsLength}
+use Rattle.pack.specs.Packs.{Verdict, accepted, refused, readNames, readGuesses, readRule, readList, namesGood, guessesGood, listGood, namesIn, listCount, packOf, stringsLength}
+use Rattle.rule_lines.specs.Rules.{Rule}
 use Rattle.pack.specs.Numbers.{surveyedNumbers}
 use Rattle.pack.specs.declared.sections.Surveyed.{Surveyed}
 use Rattle.pack.specs.declared.sections.Surveyed.the-variants as surveyed

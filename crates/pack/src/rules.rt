@@ -2,14 +2,12 @@
 ghost use mathlib.Core.Path.{_≡_};
 ghost use Prim.Native.Nat.{_≤_};
 ghost use lib.ListN.{length, drop};
-ghost use Rattle.phonemes.specs.Expressions.{checkedOf};
 ghost use Rattle.strings.specs.Reading.{readMany};
-ghost use Rattle.pack.specs.Packs.{rule, readRule, readList, isForm, isGood, ruleGood, listGood};
+ghost use Rattle.pack.specs.Packs.{readRule, readList, listGood};
+ghost use Rattle.rule_lines.specs.Rules.{rule};
 ghost use Rattle.pack.specs.PlaceContracts.{ruleStandsAt, ruleCount};
-ghost use Rattle.pack.specs.Contracts.{endIn, patternGood, leftGood, rightGood, expressionGood, ruledAs, ruledIn, rulesFrom};
+ghost use Rattle.pack.specs.Contracts.{endIn, ruledAs, ruledIn, rulesFrom};
 use crate::sections::Section;
-use phonemes::Expression;
-use regex_optim::OptimizedRegex;
 use strings::Next;
 use strings::Number;
 
@@ -84,107 +82,6 @@ pub fn rule_count(pack: &[u8], place: usize) -> usize
     }
 }
 
-// Whether a pattern is a text that a rule may hold, and not empty.
-fn pattern_good(pattern: &[u8]) -> bool
-    ensures { λ r. ⌜ r ≡ patternGood (now (pattern .entry)) ⌝ }
-{
-    if 0 < pattern.len() {
-        rule::is_rule_text(pattern)
-    } else {
-        false
-    }
-}
-
-// Whether a context is in one of the forms (15 otherwise).
-fn is_form(form: OptimizedRegex) -> bool
-    ensures { λ r. ⌜ r ≡ isForm form ⌝ }
-{
-    match form {
-        OptimizedRegex::AllStringsMatcher => true,
-        OptimizedRegex::IsEmpty => true,
-        OptimizedRegex::Equals => true,
-        OptimizedRegex::StartsWith => true,
-        OptimizedRegex::EndsWith => true,
-        OptimizedRegex::EqualsChar => true,
-        OptimizedRegex::StartsWithChar => true,
-        OptimizedRegex::EndsWithChar => true,
-        OptimizedRegex::Outside => false,
-    }
-}
-
-// Whether a left context is a text in one of the forms; a bare one is.
-fn left_good(left: &[u8]) -> bool
-    ensures { λ r. ⌜ r ≡ leftGood (now (left .entry)) ⌝ }
-{
-    if rule::is_bare(left) {
-        true
-    } else if rule::is_rule_text(left) {
-        is_form(regex_optim::left_form(left))
-    } else {
-        false
-    }
-}
-
-// Whether a right context is.
-fn right_good(right: &[u8]) -> bool
-    ensures { λ r. ⌜ r ≡ rightGood (now (right .entry)) ⌝ }
-{
-    if rule::is_bare(right) {
-        true
-    } else if rule::is_rule_text(right) {
-        is_form(regex_optim::right_form(right))
-    } else {
-        false
-    }
-}
-
-// Whether an expression is well formed and its names are listed.
-fn expression_listed(names: &[u8], expression: &[u8]) -> bool
-    ensures { λ r. ⌜ r ≡ isGood (checkedOf (now (names .entry)) (now (expression .entry))) ⌝ }
-{
-    match phonemes::check_expression(expression, names) {
-        Expression::Good(_) => true,
-        Expression::Malformed => false,
-        Expression::Stranger => false,
-    }
-}
-
-// Whether an expression is a text as well; of a bare one only the round brackets matter.
-fn expression_good(names: &[u8], expression: &[u8]) -> bool
-    ensures { λ r. ⌜ r ≡ expressionGood (now (names .entry)) (now (expression .entry)) ⌝ }
-{
-    if rule::is_bare(expression) {
-        if texts::first_is(expression, b'(') {
-            texts::last_is(expression, b')')
-        } else {
-            true
-        }
-    } else if rule::is_rule_text(expression) {
-        expression_listed(names, expression)
-    } else {
-        false
-    }
-}
-
-// Whether a rule of these strings keeps the rules of the files ("Every rule above applies").
-fn rule_good(names: &[u8], pattern: &[u8], left: &[u8], right: &[u8], expression: &[u8]) -> bool
-    ensures { λ r. ⌜ r ≡ ruleGood (now (names .entry)) (rule (now (pattern .entry)) (now (left .entry)) (now (right .entry)) (now (expression .entry))) ⌝ }
-{
-    if pattern_good(pattern) {
-        if left_good(left) {
-            if right_good(right) {
-                expression_good(names, expression)
-            } else {
-                false
-            }
-        } else {
-            false
-        }
-    } else {
-        false
-    }
-}
-
 // A rule of these strings that ends at `end`, whose first character is `least` or behind it.
 fn rule_behind(
     names: &[u8],
@@ -201,7 +98,7 @@ fn rule_behind(
     if code < least {
         return Ruled::Bad;
     }
-    if rule_good(names, pattern, left, right, expression) {
+    if rule_lines::rule_good(names, pattern, left, right, expression) {
         Ruled::Next { end, code }
     } else {
         Ruled::Bad

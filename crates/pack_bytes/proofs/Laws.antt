@@ -13,7 +13,8 @@ use borrow.Author.Tests.{le-leb, leb-true, ltb-true, eq-eqb}
 use Rattle.base.specs.Pick.{pick}
 use Rattle.languages.specs.Names.{isLetter, allLetters, languageName}
 use Rattle.strings.specs.Reading.{Read, got, andRead, readByte, readMore, readNumber, readText, readMany, isNil}
-use Rattle.pack.specs.Packs.{Guess, Rule, Pack, Verdict, accepted, readNames, readGuess, readGuesses, readRule, readList, all, namesGood, guessGood, guessesGood, listGood, section, namesIn, listCount, listSections, endSection, packOf}
+use Rattle.pack.specs.Packs.{Guess, Pack, Verdict, accepted, readNames, readGuess, readGuesses, readRule, readList, all, namesGood, guessGood, guessesGood, listGood, section, namesIn, listCount, listSections, endSection, packOf}
+use Rattle.rule_lines.specs.Rules.{Rule}
 use Rattle.pack_bytes.specs.Bytes.{textBytes, countBytes, maskBytes, namesBytes, guessBytes, ruleBytes, listBytes, packBytes}
 use Rattle.base.proofs.PickLaws.{pick-true, and-inv}
 use Rattle.held.specs.Met.{bytesOfAll}

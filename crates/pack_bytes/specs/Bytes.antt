@@ -2,7 +2,8 @@
 use mathlib.Core.List.{List, [], _∷_, _++_}
 use Prim.Native.Nat.{ℕ, _/_, _%_}
 use lib.ListN.{length}
-use Rattle.pack.specs.Packs.{Guess, Rule, Pack}
+use Rattle.pack.specs.Packs.{Guess, Pack}
+use Rattle.rule_lines.specs.Rules.{Rule}
 use Rattle.held.specs.Met.{bytesOfAll}
 
 -- "Strings follow their length byte."

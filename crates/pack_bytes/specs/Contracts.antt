@@ -2,7 +2,8 @@
 use mathlib.Core.List.{List, _∷_, []}
 use Prim.Native.Nat.{ℕ, _%_, _≤_, _<_}
 use lib.ListN.{length}
-use Rattle.pack.specs.Packs.{Pack, namesGood, guessesGood, listCount, listGood, Rule}
+use Rattle.pack.specs.Packs.{Pack, namesGood, guessesGood, listCount, listGood}
+use Rattle.rule_lines.specs.Rules.{Rule}
 use mathlib.Core.Path.{_≡_}
 use mathlib.Core.Bool.{true}
 use Rattle.pack_bytes.specs.Bytes.{namesBytes}

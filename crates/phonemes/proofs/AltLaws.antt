@@ -9,6 +9,7 @@ use lib.ListN.{length, getD, take, drop, length-drop}
 use lib.Seq.{length-take-le}
 use mir.Syntax.{w64}
 use mir.Val.{Fits}
+use borrow.Author.Needs.{needs}
 use Rattle.texts.specs.Parts.{firstIs}
 use Rattle.phonemes.specs.Expressions.{round, bar, cutAt, inside, extra}
 use Rattle.phonemes.specs.Contracts.{cutEnd, hasExtra, nthCut, pieceFrom, nthFrom, alternativeOf}
@@ -173,4 +174,4 @@ module _ (names e : List ℕ) (i : ℕ) (f : Bool) (p : f ≡ firstIs round e) w
       unfolding nthFrom pieceFrom
       alt-extra y r z k l m = m ∙ sym (behind ∙ ap₂ (nthFrom (length t + 2) names) z (extra-yes t y k l))
 
-pub ruleset alternative-laws = (part-order, part-fits, part-next, part-room, alt-single, alt-single-past, alt-part, alt-past, alt-none, alt-extra)
+pub ruleset alternative-laws = (part-order, part-fits, part-next, part-room, alt-single, alt-single-past, alt-part, alt-past, alt-none, alt-extra, needs)

@@ -10,6 +10,7 @@ use lib.ListN.{length, take, drop, length-drop}
 use lib.Seq.{drop-drop, length-take-le, take-all}
 use mir.Syntax.{w64}
 use mir.Val.{Fits}
+use borrow.Author.Needs.{needs}
 use Rattle.base.specs.Pick.{pick, and}
 use Rattle.base.proofs.Bits.{or-assoc}
 use Rattle.languages.specs.Names.{languageBit}
@@ -118,7 +119,7 @@ module _ (b : ℕ) (t : List ℕ) (from : ℕ) (h : from ≤ length t) where
         let p = place in
         cut-one ∙ ap (λ (l : List (List ℕ)). take (to - from) (drop from t) ∷ l) (rest-none b (drop from t) (rw length-drop (omega arith)))
 
-pub ruleset cut-laws = (end-is, end-fits, cut-order, cut-fits, cut-less)
+pub ruleset cut-laws = (end-is, end-fits, cut-order, cut-fits, cut-less, needs)
 
 -- ---- the names between two brackets, as far as place from: mask has the bits of those before
 
@@ -164,7 +165,7 @@ module _ {names joined : List ℕ} {from mask : ℕ} (w : Naming names joined fr
   unfolding withBits
   naming-stop q = sym (name-by Unlisted _ q (cut-one plus joined from (w .within) to e))
 
-pub ruleset naming-laws = (naming-start, naming-next, naming-done, naming-stop, cut-laws)
+pub ruleset naming-laws = (naming-start, naming-next, naming-done, naming-stop, cut-laws, needs)
 
 -- ---- the parts of an expression, as far as place from: count and known tell of those before
 
@@ -199,7 +200,7 @@ module _ {names t : List ℕ} {more from count : ℕ} {known : Bool} (w : Judgin
     unfolding judgedPieces
     judging-done r h s = s ∙ sym (piece-by [] (cut-last bar t from (w .within) to e h))
 
-pub ruleset judging-laws = (judging-start, judging-stop, judging-next, judging-done, cut-laws)
+pub ruleset judging-laws = (judging-start, judging-stop, judging-next, judging-done, cut-laws, needs)
 
 -- ---- the i-th part, as far as place from: left parts are still to be passed
 
@@ -239,4 +240,4 @@ module _ {t : List ℕ} {i from left : ℕ} (w : Finding t i from left) (to : �
   unfolding nthCut
   finding-past z h = sym (w .is ∙ ap (nthCut from left) (cut-last bar t from (w .within) to e h) ∙ later-is left [] z)
 
-pub ruleset finding-laws = (finding-start, finding-found, finding-next, finding-past, cut-laws)
+pub ruleset finding-laws = (finding-start, finding-found, finding-next, finding-past, cut-laws, needs)

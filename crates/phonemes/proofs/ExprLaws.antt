@@ -10,6 +10,7 @@ use lib.ListN.{length, take, drop, drop-of-length-le, length-drop}
 use lib.Seq.{length-take-le}
 use mir.Syntax.{w64}
 use mir.Val.{Fits}
+use borrow.Author.Needs.{needs}
 use borrow.Author.Tests.{lt-ltb, le-ltb}
 use Rattle.base.specs.Pick.{pick, and}
 use Rattle.languages.specs.declared.names.Listed.{Listed}
@@ -109,7 +110,7 @@ piece-is names a start p s e f = ap₂ (λ (n : ℕ) (x : LanguageSet). At start
 pub piece-fits : (b : ℕ) (a : List ℕ) (start p : ℕ) → p ≡ placeOf b a → start + length a < 2 ^ 64 → Fits w64 (start + p)
 piece-fits b a start p e h = record { fits = omega (arith, e, place-most b a) }
 
-pub ruleset piece-laws = (inside-none, inside-some, box-open, box-some, formed-box, formed-plain, mask-box, mask-plain, set-plain, set-box, set-stranger, listed-yes, listed-no, piece-is, piece-fits)
+pub ruleset piece-laws = (inside-none, inside-some, box-open, box-some, formed-box, formed-plain, mask-box, mask-plain, set-plain, set-box, set-stranger, listed-yes, listed-no, piece-is, piece-fits, needs)
 
 -- ---- an expression is judged as its pieces are, one after the other
 
@@ -216,4 +217,4 @@ module _ (names e : List ℕ) (g : Bool) (p : g ≡ formedPiece e) where
   unfolding judgedPieces
   single-malformed q = sym (pick-false _ _ _ (sym p ∙ q))
 
-pub ruleset check-laws = (single-good, single-malformed, check-single, check-open, check-extra, check-bars)
+pub ruleset check-laws = (single-good, single-malformed, check-single, check-open, check-extra, check-bars, needs)

@@ -7,6 +7,7 @@ use native.Mathlib.Omega.{arith}
 use lib.Dec.{eqb}
 use lib.ListN.{length, getD, take, drop, length-drop, length-take}
 use lib.Seq.{drop-cons}
+use borrow.Author.Needs.{needs}
 use Rattle.letters.specs.Order.{sameText}
 use Rattle.texts.specs.Parts.{prefixOf}
 use Rattle.texts.proofs.Laws.{first-some, first-none}
@@ -104,4 +105,4 @@ pub prefix-by : (kind k : NameType) (v : List ℕ) (b : Bool) → kind ≡ k →
 unfolding isPrefix
 prefix-by kind k v b e p = rw e p
 
-pub ruleset prefix-laws = (fits-space, fits-end, fits-not, walk-start, part-order, part-fits, skip-order, walk-less, fit-next, fit-here, among-next, among-here, fit-cut, among-cut, split-apostrophe, split-prefix, prefix-by)
+pub ruleset prefix-laws = (fits-space, fits-end, fits-not, walk-start, part-order, part-fits, skip-order, walk-less, fit-next, fit-here, among-next, among-here, fit-cut, among-cut, split-apostrophe, split-prefix, prefix-by, needs)

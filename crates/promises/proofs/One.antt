@@ -43,6 +43,7 @@ use Rattle.regex_optim.proofs as regex_optim
 use Rattle.lang.proofs as lang
 use Rattle.rule.proofs as rule
 use Rattle.phonemes.proofs as phonemes
+use Rattle.rule_lines.proofs as rule_lines
 use Rattle.pack.proofs as pack
 use Rattle.rules_parser.proofs as rules_parser
 use Rattle.pack_bytes.proofs as pack_bytes
@@ -268,6 +269,14 @@ phonemes-alternative κs a = (tt, λ x y v w p q. (one p q, refl))
 
 pub rule-is-bare : Settled rule.is_bare.ended rule.is_bare.Reads.Asked rule.is_bare.Reads.Learnt
 rule-is-bare κs a = (tt, λ x y v w p q. (one p q, refl))
+
+-- ---- rule_lines
+
+pub «rule_lines-rule-fault» : Settled rule_lines.rule_fault.ended rule_lines.rule_fault.Reads.Asked rule_lines.rule_fault.Reads.Learnt
+«rule_lines-rule-fault» κs a = (tt, λ x y v w p q. (one p q, refl))
+
+pub «rule_lines-rule-good» : Settled rule_lines.rule_good.ended rule_lines.rule_good.Reads.Asked rule_lines.rule_good.Reads.Learnt
+«rule_lines-rule-good» κs a = (tt, λ x y v w p q. (one p q, refl))
 
 -- ---- pack
 

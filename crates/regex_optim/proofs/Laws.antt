@@ -6,6 +6,7 @@ use Prim.Native.Nat.{ℕ, suc, _-_, _≤_, _<_, zero-le}
 use native.Mathlib.Omega.{arith}
 use lib.Dec.{eqb, ltb, eqb·suc-zero}
 use lib.ListN.{length, take, drop}
+use borrow.Author.Needs.{needs}
 use borrow.Author.Tests.{lt-ltb, le-ltb, eq-eqb, ne-eqb}
 use Rattle.base.specs.Pick.{pick, and}
 use Rattle.letters.specs.Utf8.{decodeAt}
@@ -75,7 +76,7 @@ pub else-absent : (a b : Letter) (r s : Letter) → r ≡ a → r ≡ Absent →
 unfolding orElse
 else-absent a b r s e q f = f ∙ sym (ap (λ (y : Letter). orElse y b) (sym e ∙ q))
 
-pub ruleset char-laws = (first-code, first-ill, first-end, back-short, back-code, back-other, back-ill, back-end, whole-by)
+pub ruleset char-laws = (first-code, first-ill, first-end, back-short, back-code, back-other, back-ill, back-end, whole-by, needs)
 
 -- ---- parts of a context
 
@@ -263,6 +264,6 @@ pub char-absent : (hit : Bool) (l : List ℕ) (a : Letter) → a ≡ Absent → 
 unfolding charFits
 char-absent hit l a e = sym (ap (charFits hit l) e)
 
-pub ruleset part-laws = (inner-none, inner-some, has-by, boxed-not, boxed-open, boxed-by, else-code, else-absent)
+pub ruleset part-laws = (inner-none, inner-some, has-by, boxed-not, boxed-open, boxed-by, else-code, else-absent, needs)
 
-pub ruleset form-laws = (kind-by-literal, kind-by-box, kind-by-none, fits-by-literal, fits-by-box, fits-by-none, left-kind, right-kind, left-fit, right-fit, box-fit, char-member, char-other, char-absent)
+pub ruleset form-laws = (kind-by-literal, kind-by-box, kind-by-none, fits-by-literal, fits-by-box, fits-by-none, left-kind, right-kind, left-fit, right-fit, box-fit, char-member, char-other, char-absent, needs)

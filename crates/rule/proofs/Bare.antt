@@ -8,6 +8,7 @@ use native.Mathlib.Omega.{arith}
 use lib.Dec.{eqb, ltb, leb·suc-suc}
 use lib.ListN.{length, getD, drop, drop-of-length-le}
 use lib.Seq.{drop-cons}
+use borrow.Author.Needs.{needs}
 use borrow.Author.Tests.{le-ltb, ne-eqb, ltb-false, eqb-false, leb-true}
 use Rattle.base.specs.Pick.{pick, and}
 use Rattle.letters.specs.Utf8.{decodeAt}
@@ -104,7 +105,7 @@ pub bare-text : (s : List ℕ) → bare s ≡ true → ruleText s ≡ true
 unfolding bare
 bare-text s e = visible-text opening s e
 
-pub ruleset bare-laws = (seeing-start, seeing-next, seeing-stop, seeing-end, bare-by, text-by)
+pub ruleset bare-laws = (seeing-start, seeing-next, seeing-stop, seeing-end, bare-by, text-by, needs)
 
 -- ---- it has no `[`, and neither has a part of it
 

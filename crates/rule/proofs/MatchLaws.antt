@@ -2,21 +2,20 @@
 use mathlib.Core.Path.{_≡_, refl, sym, ap, _∙_}
 use mathlib.Core.Bool.{Bool, true, false}
 use mathlib.Core.List.{List, [], _∷_}
-use Prim.Native.Nat.{ℕ, _+_, _-_, _^_, _≤_, _<_}
+use Prim.Native.Nat.{ℕ, _+_, _-_, _≤_, _<_}
 use native.Mathlib.Nat.{sub-zero, add-sub-cancel-left}
 use native.Mathlib.Omega.{arith}
 use lib.Dec.{eqb}
 use lib.ListN.{length, take, drop, length-drop}
 use lib.Seq.{take-all}
-use mir.Syntax.{w64}
-use mir.Val.{Fits}
+use borrow.Author.Needs.{needs}
 use borrow.Author.Tests.{lt-ltb, le-ltb}
 use Rattle.base.specs.Pick.{and}
 use Rattle.letters.specs.Utf8.{decodeAt}
 use Rattle.letters.specs.Order.{sameText}
 use Rattle.letters.specs.declared.utf8.Step.{Step}
 use Rattle.letters.specs.declared.utf8.Step.the-variants.{Char, Ill, End}
-use Rattle.letters.proofs.ReadingLaws.{Walk, walk-start, walk-on, walk-stop, walk-ill, walk-end, step-less, step-end}
+use Rattle.letters.proofs.ReadingLaws.{Walk, walk-start, walk-on, walk-stop, walk-ill, walk-end, step-laws}
 use Rattle.texts.specs.Parts.{prefixOf}
 use Rattle.texts.proofs.Laws.{prefix-short}
 use Rattle.regex_optim.specs.Contexts.{leftForm, rightForm, fits}
@@ -30,9 +29,6 @@ module _ {s : List ℕ} {p : ℕ} (w : Walk Bool plainIn s p) (r : Step) (e : r 
   unfolding plainIn
   plain-on k n t q i h = walk-on w k n (sym e ∙ q) (λ m. pick-true _ _ _ (sym i ∙ h))
 
-  pub plain-fits : (k n : ℕ) → r ≡ Char k n → length s < 2 ^ 64 → Fits w64 (p + n)
-  plain-fits k n q h = record { fits = omega (arith, step-end s p k n r e q) }
-
   pub plain-stop : (k n : ℕ) (t : Bool) → r ≡ Char k n → t ≡ plainCode k → t ≡ false → false ≡ ruleText s
   unfolding plainIn ruleText
   plain-stop k n t q i h = sym (walk-stop w k n false (sym e ∙ q) (λ m. pick-false _ _ _ (sym i ∙ h)))
@@ -45,7 +41,7 @@ module _ {s : List ℕ} {p : ℕ} (w : Walk Bool plainIn s p) (r : Step) (e : r 
   unfolding plainIn ruleText
   plain-end q = sym (walk-end w (sym e ∙ q))
 
-pub ruleset plain-laws = (walk-start, plain-on, plain-fits, plain-stop, plain-ill, plain-end, step-less)
+pub ruleset plain-laws = (walk-start, plain-on, plain-stop, plain-ill, plain-end, step-laws, needs)
 
 -- ---- the first character
 
@@ -62,7 +58,7 @@ module _ (s : List ℕ) (r : Step) (e : r ≡ decodeAt s 0) where
   unfolding firstCode codeIn
   code-end q = sym (ap codeIn (sym e ∙ q))
 
-pub ruleset code-laws = (code-char, code-ill, code-end)
+pub ruleset code-laws = (code-char, code-ill, code-end, needs)
 
 -- ---- a rule at a place of a text
 
@@ -107,4 +103,4 @@ module _ (p l r t : List ℕ) (at : ℕ) where
             and-rest _ _ x (sym here ∙ q) (and-rest _ _ x (sym behind ∙ o) (b ∙ ap (λ (n : ℕ). fits (leftForm l) (take n t)) (sub-zero at)))
             ∙ sym match-in
 
-pub ruleset match-laws = (match-past, match-short, match-other, match-right, match-left)
+pub ruleset match-laws = (match-past, match-short, match-other, match-right, match-left, needs)

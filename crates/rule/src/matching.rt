@@ -5,7 +5,7 @@ ghost use Rattle.rule.specs.Contracts.{visible, allVisible, bare};
 use letters::Step;
 
 // Whether a rule's string may hold the code point: no control, no double quote.
-fn is_plain(code: u32) -> bool
+fn may_hold(code: u32) -> bool
     ensures { λ r. ⌜ r ≡ plainCode code ⌝ }
 {
     if code < 0x20 {
@@ -52,7 +52,7 @@ fn reads_as_text(s: &[u8]) -> bool
     loop {
         match letters::decode(s, p) {
             Step::Char { code, len } => {
-                if is_plain(code) {
+                if may_hold(code) {
                     p += len;
                 } else {
                     return false;

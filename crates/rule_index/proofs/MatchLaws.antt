@@ -13,7 +13,8 @@ use Rattle.base.proofs.PickLaws.{pick-true, pick-false, pick-all, and-yes, and-
 use Rattle.rule.specs.Matching.{ruleMatches}
 use Rattle.phonemes.proofs.Laws.{match-end}
 use Rattle.strings.specs.Reading.{cut, got}
-use Rattle.pack.specs.Packs.{Rule, readRule}
+use Rattle.pack.specs.Packs.{readRule}
+use Rattle.rule_lines.specs.Rules.{Rule}
 use Rattle.pack.specs.PlaceContracts.{ruleStandsAt}
 use Rattle.strings.specs.Contracts.{behind}
 use Rattle.pack.specs.declared.rules.RuleAt.{RuleAt}

@@ -15,7 +15,8 @@ use Rattle.base.proofs.PickLaws.{pick-true, pick-false, pick-all, and-first}
 use Rattle.texts.specs.Parts.{prefixOf}
 use Rattle.rule.specs.Matching.{ruleMatches}
 use Rattle.strings.specs.Reading.{Read, got, placeIn}
-use Rattle.pack.specs.Packs.{Rule, readRule, stringsLength}
+use Rattle.pack.specs.Packs.{readRule, stringsLength}
+use Rattle.rule_lines.specs.Rules.{Rule}
 use Rattle.pack.specs.PlaceContracts.{ruleStandsAt, ruleCount, listAt}
 use Rattle.strings.specs.Contracts.{behind}
 use Rattle.pack.specs.declared.rules.RuleAt.{RuleAt}

@@ -14,7 +14,8 @@ use Rattle.base.specs.Pick.{pick, and}
 use Rattle.base.proofs.One.{one}
 use Rattle.base.proofs.PickLaws.{pick-true, pick-false, and-yes, and-first, and-second}
 use Rattle.texts.specs.Parts.{prefixOf}
-use Rattle.pack.specs.Packs.{Rule, Pack, Verdict, accepted, refused, listCount, packOf, stringsLength}
+use Rattle.pack.specs.Packs.{Pack, Verdict, accepted, refused, listCount, packOf, stringsLength}
+use Rattle.rule_lines.specs.Rules.{Rule}
 use Rattle.pack.specs.PlaceContracts.{placesOf, surveyedOf, listAt, SurveyIs}
 use Rattle.pack.specs.Numbers.{surveyedNumbers}
 use Rattle.pack.specs.declared.sections.Surveyed.{Surveyed}

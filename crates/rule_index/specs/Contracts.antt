@@ -6,7 +6,8 @@ use mathlib.Core.List.{List, [], _∷_}
 use lib.Dec.{eqb, ltb}
 use lib.ListN.{length, getD, set, take, drop}
 use Rattle.base.specs.Pick.{pick, and}
-use Rattle.pack.specs.Packs.{Rule, Pack, Verdict, accepted, refused, readRule, packOf, listCount}
+use Rattle.pack.specs.Packs.{Pack, Verdict, accepted, refused, readRule, packOf, listCount}
+use Rattle.rule_lines.specs.Rules.{Rule}
 use Rattle.strings.specs.Reading.{placeIn}
 use Rattle.pack.specs.PlaceContracts.{surveyedOf, placesOf}
 use Rattle.strings.specs.Contracts.{behind}
@@ -58,6 +59,14 @@ MatchIs s word place none (By step start end) = ⊥
 MatchIs s word place none Nothing = Unit {0}
 MatchIs s word place (by r) (By step start end) = RuleIn s word place r step start end
 MatchIs s word place (by r) Nothing = ⊥
+
+-- the first that matches of the rules between two places
+abbrev pub FirstBetween : List ℕ → ℕ → ℕ → List ℕ → ℕ → Matched → Type 0
+FirstBetween s start stop word place r = MatchIs s word place (firstMatch (rulesBetween stop s start stop) word place) r
+
+-- the promise of `first_match`
+abbrev pub FirstMatch : List ℕ → List (List ℕ) → ℕ → List ℕ → ℕ → Matched → Type 0
+FirstMatch s table list word place r = MatchIs s word place (matcher s table list word place) r
 
 -- what is seen of an answer: the step, and the expression that stands at its place
 pub data Seen : Type 0 where

@@ -3,7 +3,7 @@ use Prim.Native.Nat.{ℕ}
 use mathlib.Core.List.{List, [], _∷_}
 use Rattle.base.specs.Pick.{pick}
 use Rattle.rule.specs.Matching.{ruleMatches}
-use Rattle.pack.specs.Packs.{Rule}
+use Rattle.rule_lines.specs.Rules.{Rule}
 
 pub data Match : Type 0 where
   none : Match

@@ -2,8 +2,7 @@
 ghost use mathlib.Core.Path.{_≡_};
 ghost use Prim.Native.Nat.{_≤_, _<_, _-_, max};
 ghost use lib.ListN.{length};
-ghost use Rattle.rule_index.specs.Matching.{firstMatch};
-ghost use Rattle.rule_index.specs.Contracts.{rulesBetween, matcher, MatchIs};
+ghost use Rattle.rule_index.specs.Contracts.{FirstBetween, FirstMatch};
 use crate::indexing::KINDS;
 use crate::indexing::LISTS;
 use crate::indexing::Table;
@@ -36,7 +35,7 @@ fn step_of(from: usize, to: usize) -> usize
 // The first rule that matches, of those that stand from one place to another.
 fn first_between(pack: &[u8], start: usize, stop: usize, word: &[u8], place: usize) -> Matched
     requires { ⌜ place < length (now word) ⌝ }
-    ensures { λ r. ⌜ MatchIs (now (pack .entry)) (now (word .entry)) place (firstMatch (rulesBetween stop (now (pack .entry)) start stop) (now (word .entry)) place) r ⌝ }
+    ensures { λ r. ⌜ FirstBetween (now (pack .entry)) start stop (now (word .entry)) place r ⌝ }
 {
     let mut at = start;
     while at < stop {
@@ -76,7 +75,7 @@ fn first_between(pack: &[u8], start: usize, stop: usize, word: &[u8], place: usi
 
 // The first rule of a list that matches at a place of a word; none where there is no such list or no such place.
 pub fn first_match(pack: &[u8], table: &Table, list: usize, word: &[u8], place: usize) -> Matched
-    ensures { λ r. ⌜ MatchIs (now (pack .entry)) (now (word .entry)) place (matcher (now (pack .entry)) (now (table .entry)) list (now (word .entry)) place) r ⌝ }
+    ensures { λ r. ⌜ FirstMatch (now (pack .entry)) (now (table .entry)) list (now (word .entry)) place r ⌝ }
 {
     if LISTS <= list {
         return Matched::Nothing;

@@ -5,14 +5,13 @@ use mathlib.Core.Logic.{⊎-elim}
 use mathlib.Core.List.{List, [], _∷_, _++_}
 use Prim.Native.Nat.{ℕ, _-_, _%_, _≤_}
 use native.Mathlib.Omega.{arith}
-use lib.Dec.{eqb, ltb}
 use lib.ListN.{length, take, drop}
-use borrow.Author.Tests.{ltb-false, leb-true, le-leb}
-use Rattle.base.specs.Pick.{pick}
+use borrow.Author.Tests.{leb-true, le-leb}
 use Rattle.refusals.specs.declared.Refusal.{Refusal}
-use Rattle.refusals.specs.declared.Refusal.the-variants.{FileMissing, PatternEmpty, TooMuch}
+use Rattle.refusals.specs.declared.Refusal.the-variants.{FileMissing, TooMuch}
 use Rattle.base.proofs.Arms.{clash}
-use Rattle.pack.specs.Packs.{Rule, orderedByCode}
+use Rattle.pack.specs.Packs.{orderedByCode}
+use Rattle.rule_lines.specs.Rules.{Rule}
 use Rattle.pack_bytes.specs.Bytes.{textBytes, countBytes, ruleBytes, listBytes}
 use Rattle.pack_bytes.specs.Contracts as bytes
 use Rattle.bundles.specs.Bundles.{File, Found, missing, found, fileNamed}
@@ -28,9 +27,7 @@ use Rattle.held.proofs.Finished.{From, finished-from, length-kept}
 use Rattle.held.proofs.Keys.{finished-keys}
 use Rattle.held.proofs.Reading.{listed-entries}
 use Rattle.rule_lists.specs.Outcomes.{Loading, fine, notLoaded, andLoad}
-use Rattle.rule_lists.specs.declared.lines.Fault.{Fault}
-use Rattle.rule_lists.specs.declared.lines.Fault.the-variants.{Is, Without}
-use Rattle.rule_lists.specs.Lines.{lengthFault, faultElse, ruleFault, linesOf}
+use Rattle.rule_lists.specs.Lines.{linesOf}
 use Rattle.rule_lists.specs.TableContracts.{KeptIs, keysOf, Low}
 use Rattle.rule_lists.specs.Contracts.{keptAs, CollectIs, WrittenIs}
 use Rattle.rule_lists.specs.WritingContracts.{rulePut, SomeKept, RowsPut}
@@ -39,46 +36,28 @@ use Rattle.rule_lists.specs.declared.walk.Collected.{Collected}
 use Rattle.rule_lists.specs.declared.walk.Collected.the-variants as collected
 use Rattle.rule_lists.specs.declared.list_writing.Written.the-variants.{Done, Refused}
 use Rattle.rule_lists.proofs.TableLaws.{kept-rows, kept-low, keys-rows}
+use Rattle.rule_lines.proofs.Laws.{good-short}
 use Rattle.rule_lists.proofs.WalkLaws.{GoodRead, each-read, each-finished, within-all}
 use Rattle.base.proofs.PickLaws.{pick-inv, and-yes}
 use Rattle.bundles.specs.Contracts.{filesOf}
 use Rattle.pack_bytes.specs.Contracts.{textPut}
 
--- ---- a rule without a fault is written as a pack has it: its strings fit their length bytes
-
-or-first : (a b : Fault) → faultElse a b ≡ Without → a ≡ Without
-unfolding faultElse
-or-first Without b e = refl
-or-first (Is w) b e = e
-
-some-length : (p : ℕ) (x : Fault) → pick (eqb p 0) (Is PatternEmpty) x ≡ Without → x ≡ Without
-some-length p x e = ⊎-elim (λ w. clash (cc (w .1))) (λ w. w .1) (pick-inv (eqb p 0) (Is PatternEmpty) x Without e)
-
-short-length : (p : ℕ) (x : Fault) → pick (ltb 255 p) (Is TooMuch) x ≡ Without → (p ≤ 255) × (x ≡ Without)
-short-length p x e = ⊎-elim (λ w. clash (cc (w .1))) (λ w. (ltb-false 255 p (w .0), w .1)) (pick-inv (ltb 255 p) (Is TooMuch) x Without e)
+-- ---- a good rule is written as a pack has it: its strings fit their length bytes
 
 text-short : (t : List ℕ) → length t ≤ 255 → textPut t ≡ textBytes t
 unfolding textPut textBytes
 text-short t h = let e : length t % 256 ≡ length t = omega arith in ap (λ (n : ℕ). n ∷ t) e
 
-lengths-short : (p l r e : ℕ) → lengthFault p l r e ≡ Without → (p ≤ 255) × (l ≤ 255) × (r ≤ 255) × (e ≤ 255)
-unfolding lengthFault
-lengths-short p l r e h =
-    let a = short-length p _ (some-length p _ h) in
-    let b = short-length l _ (a .1) in
-    let c = short-length r _ (b .1) in
-    (a .0, b .0, c .0, short-length e Without (c .1) .0)
-
-rule-short : (names : List ℕ) (r : Rule) → ruleFault names r ≡ Without → rulePut r ≡ ruleBytes r
-unfolding rulePut ruleBytes ruleFault
-rule-short names r e =
-    let w = lengths-short (length (r .pattern)) (length (r .left)) (length (r .right)) (length (r .expression)) (or-first _ _ e) in
-    ap₂ _++_ (text-short (r .pattern) (w .0)) (ap₂ _++_ (text-short (r .left) (w .1)) (ap₂ _++_ (text-short (r .right) (w .2)) (text-short (r .expression) (w .3))))
+rule-short : (names : List ℕ) (r : Rule) → GoodRead names r → rulePut r ≡ ruleBytes r
+unfolding rulePut ruleBytes
+rule-short names r g =
+    let w = good-short names r g in
+    ap₂ _++_ (text-short (r .pattern) (w .pattern)) (ap₂ _++_ (text-short (r .left) (w .left)) (ap₂ _++_ (text-short (r .right) (w .right)) (text-short (r .expression) (w .expression))))
 
 rules-short : (names : List ℕ) (rs : List Rule) → bytes.Each (GoodRead names) rs → bytesOfAll rulePut rs ≡ bytesOfAll ruleBytes rs
 unfolding bytesOfAll
 rules-short names [] bytes.none = refl
-rules-short names (r ∷ rs) (bytes.more h e) = ap₂ _++_ (rule-short names r (h .fault)) (rules-short names rs e)
+rules-short names (r ∷ rs) (bytes.more h e) = ap₂ _++_ (rule-short names r h) (rules-short names rs e)
 
 -- ---- what is told of a file
 

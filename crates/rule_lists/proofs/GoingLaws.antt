@@ -12,7 +12,7 @@ use Rattle.base.specs.Pick.{pick}
 use Rattle.refusals.specs.declared.Refusal.{Refusal}
 use Rattle.refusals.specs.declared.Refusal.the-variants.{FileMissing, IncludeTooDeep}
 use Rattle.rule.specs.Matching.{firstCode}
-use Rattle.pack.specs.Packs.{Rule}
+use Rattle.rule_lines.specs.Rules.{Rule, ruleFault}
 use Rattle.bundles.specs.Bundles.{Found, missing, found, fileNamed}
 use Rattle.rules_parser.specs.Fields.{partOf}
 use Rattle.rules_parser.specs.Files.{itemAt}
@@ -25,9 +25,9 @@ use Rattle.rules_parser.specs.declared.files.Item.the-variants as item
 use Rattle.rules_parser.proofs.Laws.{passed-goes, passed-in, passed-lines, tells-goes, tells-in, items-start, items-end, items-passed, items-tells, items-wrong}
 use Rattle.held.specs.Met.{end, rule, file, entries}
 use Rattle.held.specs.Files.{Line, passed, is-rule, include, badLine, FileRead, wasRead, notRead, before, onRead, onContent, readLines, follow}
-use Rattle.rule_lists.specs.declared.lines.Fault.{Fault}
-use Rattle.rule_lists.specs.declared.lines.Fault.the-variants.{Is, Without}
-use Rattle.rule_lists.specs.Lines.{ruleFault, ruleIn, judgedRule, lineOf, linesOf}
+use Rattle.rule_lines.specs.declared.Fault.{Fault}
+use Rattle.rule_lines.specs.declared.Fault.the-variants.{Is, Without}
+use Rattle.rule_lists.specs.Lines.{ruleIn, judgedRule, lineOf, linesOf}
 use Rattle.rule_lists.specs.TableContracts.{RowReads, SpotIs}
 use Rattle.rule_lists.specs.Contracts.{Known, ruled, tally, stateOf, StateHolds, Ready, RuledIs, not, openingIn, openingOf, EntersIs, Told, readFrom, WalkIs, rowBy, rowTold, rowIn, rowAt}
 use Rattle.rule_lists.specs.declared.lines.Row.{Row}

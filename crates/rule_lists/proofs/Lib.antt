@@ -8,4 +8,3 @@ pub mod RuledLaws
 pub mod TableLaws
 pub mod WalkLaws
 pub mod WritingLaws
-pub mod GoodLaws

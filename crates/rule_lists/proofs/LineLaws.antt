@@ -2,21 +2,12 @@
 use mathlib.Core.Path.{_≡_, refl, sym, ap, ap₂, _∙_}
 use mathlib.Core.Bool.{Bool}
 use mathlib.Core.List.{List}
-use Prim.Native.Nat.{ℕ, _≤_, _<_}
-use lib.Dec.{ltb}
-use borrow.Author.Tests.{ne-eqb, lt-ltb, le-ltb}
-use Rattle.base.specs.Pick.{pick}
+use Prim.Native.Nat.{ℕ}
 use Rattle.refusals.specs.declared.Refusal.{Refusal}
-use Rattle.refusals.specs.declared.Refusal.the-variants.{LineUnreadable, ExpressionWrong, OutsideForms, NameUnlisted, TooMuch}
-use Rattle.pack.specs.Packs.{rule}
-use Rattle.regex_optim.specs.declared.OptimizedRegex.{OptimizedRegex}
-use Rattle.regex_optim.specs.declared.OptimizedRegex.the-variants.{AllStringsMatcher, IsEmpty, Equals, StartsWith, EndsWith, EqualsChar, StartsWithChar, EndsWithChar, Outside}
+use Rattle.refusals.specs.declared.Refusal.the-variants.{LineUnreadable}
+use Rattle.rule_lines.specs.Rules.{rule, ruleFault}
 use Rattle.rule.specs.Matching.{firstCode}
-use Rattle.phonemes.specs.declared.answers.Expression.{Expression}
-use Rattle.phonemes.specs.declared.answers.Expression.the-variants.{Good, Malformed, Stranger}
 use Rattle.rules_parser.specs.Fields.{partOf}
-use Rattle.regex_optim.proofs.NumberLaws.{form-one}
-use Rattle.phonemes.proofs.NumberLaws.{expression-one}
 use Rattle.rules_parser.proofs.NumberLaws.{item-one}
 use Rattle.rules_parser.specs.Files.{itemAt}
 use Rattle.rules_parser.specs.declared.fields.Text.{Text}
@@ -25,115 +16,11 @@ use Rattle.rules_parser.specs.declared.lines.Told.{Told}
 use Rattle.rules_parser.specs.declared.lines.Told.the-variants as told
 use Rattle.rules_parser.specs.declared.files.Item.{Item}
 use Rattle.rules_parser.specs.declared.files.Item.the-variants as item
-use Rattle.rule_lists.specs.declared.lines.Fault.{Fault}
-use Rattle.rule_lists.specs.declared.lines.Fault.the-variants.{Is, Without}
-use Rattle.rule_lists.specs.Lines.{lengthFault, contextFault, expressionFault, faultElse, ruleFault}
+use Rattle.rule_lines.specs.declared.Fault.{Fault}
+use Rattle.rule_lines.specs.declared.Fault.the-variants.{Is, Without}
 use Rattle.rule_lists.specs.declared.lines.Row.{Row}
 use Rattle.rule_lists.specs.declared.lines.Row.the-variants as row
-use Rattle.base.proofs.PickLaws.{pick-true, pick-false}
 use Rattle.rule_lists.specs.Contracts.{rowBy, rowTold, rowIn, rowAt}
-
--- ---- the faults of a rule
-
-module _ (f : OptimizedRegex) where
-  pub fault-all : f ≡ AllStringsMatcher → Without ≡ contextFault f
-  unfolding contextFault
-  fault-all h = rw h refl
-
-  pub fault-empty : f ≡ IsEmpty → Without ≡ contextFault f
-  unfolding contextFault
-  fault-empty h = rw h refl
-
-  pub fault-equals : f ≡ Equals → Without ≡ contextFault f
-  unfolding contextFault
-  fault-equals h = rw h refl
-
-  pub fault-starts : f ≡ StartsWith → Without ≡ contextFault f
-  unfolding contextFault
-  fault-starts h = rw h refl
-
-  pub fault-ends : f ≡ EndsWith → Without ≡ contextFault f
-  unfolding contextFault
-  fault-ends h = rw h refl
-
-  pub fault-equals-char : f ≡ EqualsChar → Without ≡ contextFault f
-  unfolding contextFault
-  fault-equals-char h = rw h refl
-
-  pub fault-starts-char : f ≡ StartsWithChar → Without ≡ contextFault f
-  unfolding contextFault
-  fault-starts-char h = rw h refl
-
-  pub fault-ends-char : f ≡ EndsWithChar → Without ≡ contextFault f
-  unfolding contextFault
-  fault-ends-char h = rw h refl
-
-  pub fault-outside : f ≡ Outside → Is OutsideForms ≡ contextFault f
-  unfolding contextFault
-  fault-outside h = rw h refl
-
-module _ (e : Expression) where
-  pub fault-good : (n : ℕ) → e ≡ Good n → Without ≡ expressionFault e
-  unfolding expressionFault
-  fault-good n h = rw h refl
-
-  pub fault-malformed : e ≡ Malformed → Is ExpressionWrong ≡ expressionFault e
-  unfolding expressionFault
-  fault-malformed h = rw h refl
-
-  pub fault-stranger : e ≡ Stranger → Is NameUnlisted ≡ expressionFault e
-  unfolding expressionFault
-  fault-stranger h = rw h refl
-
--- the last two ways out of length_fault, deeper than `search` goes
-module _ (p l r e : ℕ) (h : (p ≡ 0 → ⊥)) (i : p ≤ 255) (j : l ≤ 255) (k : r ≤ 255) where
-  rest : lengthFault p l r e ≡ pick (ltb 255 e) (Is TooMuch) Without
-  unfolding lengthFault
-  rest = pick-false _ _ _ (ne-eqb p 0 h) ∙ pick-false _ _ _ (le-ltb 255 p i) ∙ pick-false _ _ _ (le-ltb 255 l j) ∙ pick-false _ _ _ (le-ltb 255 r k)
-
-  pub fault-long : 255 < e → Is TooMuch ≡ lengthFault p l r e
-  fault-long m = sym (rest ∙ pick-true _ _ _ (lt-ltb 255 e m))
-
-  pub fault-none : e ≤ 255 → Without ≡ lengthFault p l r e
-  fault-none m = sym (rest ∙ pick-false _ _ _ (le-ltb 255 e m))
-
--- each fault by what was answered for it
-pub or-first : (a a′ b : Fault) (w : Refusal) → a ≡ a′ → a ≡ Is w → Is w ≡ faultElse a′ b
-unfolding faultElse
-or-first a a′ b w e h = ap (λ (x : Fault). faultElse x b) (sym h ∙ e)
-
-pub or-next : (a a′ b x : Fault) → a ≡ a′ → a ≡ Without → x ≡ b → x ≡ faultElse a′ b
-unfolding faultElse
-or-next a a′ b x e z h = h ∙ ap (λ (y : Fault). faultElse y b) (sym z ∙ e)
-
-pub context-by : (x : Fault) (f g : OptimizedRegex) → x ≡ contextFault f → f ≡ g → x ≡ contextFault g
-context-by x f g e h = e ∙ ap contextFault h
-
-pub expression-by : (x : Fault) (f g : Expression) → x ≡ expressionFault f → f ≡ g → x ≡ expressionFault g
-expression-by x f g e h = e ∙ ap expressionFault h
-
-pub ruleset fault-laws = (
-  fault-all,
-  fault-empty,
-  fault-equals,
-  fault-starts,
-  fault-ends,
-  fault-equals-char,
-  fault-starts-char,
-  fault-ends-char,
-  fault-outside,
-  fault-good,
-  fault-malformed,
-  fault-stranger,
-  form-one,
-  expression-one,
-  fault-long,
-  fault-none,
-  or-first,
-  or-next,
-  context-by,
-  expression-by,
-)
 
 -- ---- the rule of four texts
 

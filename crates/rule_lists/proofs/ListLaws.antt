@@ -14,7 +14,7 @@ use Rattle.strings.specs.declared.Next.the-variants as next
 use Rattle.strings.proofs.Laws.{string-whole, strings-all, none-left, one-left, part-order, part-fits, walk-less}
 use Rattle.prefixes.specs.declared.prefixes.NameType.{NameType}
 use Rattle.prefixes.specs.declared.prefixes.NameType.the-variants.{Ashkenazi, Generic, Sephardic}
-use Rattle.pack.specs.Packs.{Rule}
+use Rattle.rule_lines.specs.Rules.{Rule}
 use Rattle.pack_bytes.specs.Bytes.{listBytes}
 use Rattle.pack_bytes.proofs.Laws.{bytes-append}
 use Rattle.bundles.specs.Bundles.{File}

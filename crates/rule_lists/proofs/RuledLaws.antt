@@ -4,7 +4,7 @@ use mathlib.Core.Bool.{Bool, true, false}
 use mathlib.Core.List.{List}
 use Prim.Native.Nat.{ℕ, _≤_}
 use native.Mathlib.Omega.{arith}
-use Rattle.pack.specs.Packs.{Rule}
+use Rattle.rule_lines.specs.Rules.{Rule}
 use Rattle.held.specs.Contracts.{staysIn}
 use Rattle.rule_lists.specs.TableContracts.{Notes, StaysIs, Keeps, SpotIs}
 use Rattle.rule_lists.specs.Contracts.{Known, ruled, stateOf, StateHolds, Ready, RuledIs}

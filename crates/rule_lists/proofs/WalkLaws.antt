@@ -14,8 +14,9 @@ use Rattle.refusals.specs.declared.Refusal.the-variants.{FileMissing, IncludeTo
 use Rattle.letters.specs.Utf8.{within, lowSecond, highSecond, code2, code3, code4, decode2, decode3, decode4, decodeBytes, decodeAt}
 use Rattle.letters.specs.declared.utf8.Step.{Step}
 use Rattle.letters.specs.declared.utf8.Step.the-variants.{Char, Ill, End}
-use Rattle.rule.specs.Matching.{ruleText, codeIn, firstCode}
-use Rattle.pack.specs.Packs.{Rule}
+use Rattle.rule.specs.Matching.{codeIn, firstCode}
+use Rattle.rule_lines.specs.Rules.{Rule, ruleFault, ruleGood}
+use Rattle.rule_lines.proofs.Laws.{Texts, texts-good}
 use Rattle.pack_bytes.specs.Contracts as bytes
 use Rattle.bundles.specs.Bundles.{File, Found, missing, found, fileNamed}
 use Rattle.rules_parser.specs.declared.lines.FileKind.the-variants.{Rules}
@@ -26,8 +27,8 @@ use Rattle.held.specs.Contracts.{noted, kept, Each, Within}
 use Rattle.held.proofs.Finished.{length-kept, length-noted}
 use Rattle.held.proofs.Reading.{listed-entries}
 use Rattle.rule_lists.specs.Outcomes as outcome
-use Rattle.rule_lists.specs.declared.lines.Fault.the-variants.{Without}
-use Rattle.rule_lists.specs.Lines.{ruleFault, linesOf}
+use Rattle.rule_lines.specs.declared.Fault.the-variants.{Without}
+use Rattle.rule_lists.specs.Lines.{linesOf}
 use Rattle.rule_lists.specs.TableContracts.{RowReads, KeptIs}
 use Rattle.rule_lists.specs.Contracts.{Known, known, ruled, tally, stateOf, Room, StateHolds, Ready, Told, readFrom, WalkIs, keptAs, CollectIs, rowAt}
 use Rattle.rule_lists.proofs.TableLaws.{noted-none, kept-none}
@@ -88,21 +89,17 @@ first-under r = code-under _ (pick-under _ _ _ (λ e. bytes-under _ _ _ _) tt)
 
 -- ---- every rule that is read
 
-pub record GoodRead (names : List ℕ) (r : Rule) : Type 0 where
-  pub fault : ruleFault names r ≡ Without
-  pub pattern : ruleText (r .pattern) ≡ true
-  pub left : ruleText (r .left) ≡ true
-  pub right : ruleText (r .right) ≡ true
-  pub expression : ruleText (r .expression) ≡ true
+-- a pack may hold it
+abbrev pub GoodRead : List ℕ → Rule → Type 0
+GoodRead names r = ruleGood names r ≡ true
 
 reads-good : (names s : List ℕ) (p : ℕ) (r : Rule) → ruleFault names r ≡ Without → RowReads s p r → GoodRead names r
-reads-good names s p r e w = subst (GoodRead names) (w .is) (record {
-  fault = rw (w .is) e;
+reads-good names s p r e w = texts-good names r (subst Texts (w .is) (record {
   pattern = rule-pattern s p _ _ _ _ _ (w .says);
   left = rule-left s p _ _ _ _ _ (w .says);
   right = rule-right s p _ _ _ _ _ (w .says);
   expression = rule-expression s p _ _ _ _ _ (w .says);
-})
+})) e
 
 -- the rules among lines, up to one that is refused
 LinesGood : List ℕ → List (Line Rule) → Type 0

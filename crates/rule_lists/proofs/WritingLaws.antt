@@ -9,7 +9,7 @@ use lib.ListN.{length, getD, take}
 use lib.Seq.{getD-take, take-suc}
 use Rattle.writing.specs.Contracts.{Put, cap}
 use Rattle.writing.proofs.Laws.{slice-room, put-none, put-then, put-long, put-place}
-use Rattle.pack.specs.Packs.{Rule}
+use Rattle.rule_lines.specs.Rules.{Rule}
 use Rattle.pack_bytes.specs.Bytes.{countBytes}
 use Rattle.held.specs.Contracts.{atPlace, keyBytes}
 use Rattle.rules_parser.specs.Fields.{partOf}

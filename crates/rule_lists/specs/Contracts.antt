@@ -7,14 +7,14 @@ use lib.ListN.{length, take, drop}
 use Rattle.base.specs.Pick.{pick}
 use Rattle.refusals.specs.declared.Refusal.{Refusal}
 use Rattle.refusals.specs.declared.Refusal.the-variants.{FileMissing, IncludeTooDeep, LineUnreadable}
-use Rattle.pack.specs.Packs.{Rule}
+use Rattle.rule_lines.specs.Rules.{Rule, ruleFault}
 use Rattle.bundles.specs.Bundles.{Found, missing, found, fileNamed}
 use Rattle.bundles.specs.Contracts.{Stands, filesOf}
 use Rattle.held.specs.Met as met
 use Rattle.held.specs.Files as files
 use Rattle.held.specs.Contracts.{noteIn, staysIn, noted, kept}
 use Rattle.rule_lists.specs.Outcomes.{Loading, fine, notLoaded}
-use Rattle.rule_lists.specs.Lines.{linesOf, ruleFault, ruleIn}
+use Rattle.rule_lists.specs.Lines.{linesOf, ruleIn}
 use Rattle.rule_lists.specs.TableContracts.{NotedIs, KeptIs, SpotIs}
 use Rattle.rule_lists.specs.declared.tables.Spot.{Spot}
 use Rattle.rule_lists.specs.declared.walk.Task.{Task}
@@ -30,9 +30,9 @@ use Rattle.rule_lists.specs.Lists.{filesFor, firstCodeOf}
 use Rattle.rule_lists.specs.declared.lines.Row.the-variants as row
 use Rattle.rules_parser.specs.declared.files.Item.the-variants as item
 use Rattle.rules_parser.specs.declared.lines.Told.the-variants as told
-use Rattle.rule_lists.specs.declared.lines.Fault.{Fault}
+use Rattle.rule_lines.specs.declared.Fault.{Fault}
 use Rattle.rule_lists.specs.declared.lines.Row.{Row}
-use Rattle.rule_lists.specs.declared.lines.Fault.the-variants.{Without, Is}
+use Rattle.rule_lines.specs.declared.Fault.the-variants.{Without, Is}
 use Rattle.rules_parser.specs.declared.fields.Text.{Text}
 use Rattle.rule.specs.Matching.{firstCode}
 use Rattle.rules_parser.specs.Fields.{partOf}

@@ -1,17 +1,8 @@
--- The lines of a rule file, and the faults of a rule (01, What the desk gets: "in a line 12, 13, 18, 15 (left, then right), 14, 16").
+-- The lines of a rule file (01, Rule files and includes).
 use Prim.Native.Nat.{ℕ}
 use mathlib.Core.List.{List, map}
-use lib.Dec.{eqb, ltb}
-use lib.ListN.{length}
-use Rattle.base.specs.Pick.{pick}
-use Rattle.refusals.specs.declared.Refusal.the-variants.{LineUnreadable, PatternEmpty, ExpressionWrong, OutsideForms, NameUnlisted, TooMuch}
-use Rattle.regex_optim.specs.Contexts.{leftForm, rightForm, kindOf}
-use Rattle.regex_optim.specs.declared.OptimizedRegex.{OptimizedRegex}
-use Rattle.regex_optim.specs.declared.OptimizedRegex.the-variants.{AllStringsMatcher, IsEmpty, Equals, StartsWith, EndsWith, EqualsChar, StartsWithChar, EndsWithChar, Outside}
-use Rattle.phonemes.specs.Expressions.{checkedOf}
-use Rattle.phonemes.specs.declared.answers.Expression.{Expression}
-use Rattle.phonemes.specs.declared.answers.Expression.the-variants.{Good, Malformed, Stranger}
-use Rattle.pack.specs.Packs.{Rule, rule}
+use Rattle.refusals.specs.declared.Refusal.the-variants.{LineUnreadable}
+use Rattle.rule_lines.specs.Rules.{Rule, rule, ruleFault}
 use Rattle.held.specs.Files.{Line, passed, is-rule, include, badLine}
 use Rattle.rules_parser.specs.Fields.{partOf}
 use Rattle.rules_parser.specs.Files.{itemsOf}
@@ -20,46 +11,8 @@ use Rattle.rules_parser.specs.declared.lines.FileKind.the-variants.{Rules}
 use Rattle.rules_parser.specs.declared.lines.Told.the-variants as told
 use Rattle.rules_parser.specs.declared.files.Item.{Item}
 use Rattle.rules_parser.specs.declared.files.Item.the-variants as item
-use Rattle.rule_lists.specs.declared.lines.Fault.{Fault}
-use Rattle.rule_lists.specs.declared.lines.Fault.the-variants.{Is, Without}
-
--- ---- the faults of a rule, each its refusal, or none
-
--- "pattern empty"; "string over 255 bytes"
-unfoldable pub lengthFault : ℕ → ℕ → ℕ → ℕ → Fault
-lengthFault p l r e =
-    pick (eqb p 0) (Is PatternEmpty) (pick (ltb 255 p) (Is TooMuch) (pick (ltb 255 l) (Is TooMuch) (pick (ltb 255 r) (Is TooMuch) (pick (ltb 255 e) (Is TooMuch) Without))))
-
--- "context .. outside the forms"
-unfoldable pub contextFault : OptimizedRegex → Fault
-contextFault AllStringsMatcher = Without
-contextFault IsEmpty = Without
-contextFault Equals = Without
-contextFault StartsWith = Without
-contextFault EndsWith = Without
-contextFault EqualsChar = Without
-contextFault StartsWithChar = Without
-contextFault EndsWithChar = Without
-contextFault Outside = Is OutsideForms
-
--- "phoneme expression wrong"; "language name not in the list"
-unfoldable pub expressionFault : Expression → Fault
-expressionFault (Good n) = Without
-expressionFault Malformed = Is ExpressionWrong
-expressionFault Stranger = Is NameUnlisted
-
--- the first fault, else the second
-unfoldable pub faultElse : Fault → Fault → Fault
-faultElse Without b = b
-faultElse (Is w) b = Is w
-
-unfoldable pub ruleFault : List ℕ → Rule → Fault
-ruleFault names r =
-    faultElse (lengthFault (length (r .pattern)) (length (r .left)) (length (r .right)) (length (r .expression)))
-    (faultElse (contextFault (kindOf (leftForm (r .left))))
-    (faultElse (contextFault (kindOf (rightForm (r .right)))) (expressionFault (checkedOf names (r .expression)))))
-
--- ---- a line
+use Rattle.rule_lines.specs.declared.Fault.{Fault}
+use Rattle.rule_lines.specs.declared.Fault.the-variants.{Is, Without}
 
 -- the rule of four texts of a file
 abbrev pub ruleIn : List ℕ → Text → Text → Text → Text → Rule

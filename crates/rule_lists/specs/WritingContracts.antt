@@ -4,7 +4,7 @@ use Prim.Native.Nat.{ℕ, _+_, _-_, _*_, _≤_}
 use mathlib.Core.List.{List, [], _++_}
 use lib.ListN.{length, getD, take, drop}
 use Rattle.writing.specs.Contracts.{Put}
-use Rattle.pack.specs.Packs.{Rule}
+use Rattle.rule_lines.specs.Rules.{Rule}
 use Rattle.pack_bytes.specs.Bytes.{countBytes}
 use Rattle.held.specs.Contracts.{keyBytes}
 use Rattle.rules_parser.specs.Files.{itemAt}

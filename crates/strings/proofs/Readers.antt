@@ -9,6 +9,7 @@ use native.Mathlib.Omega.{arith}
 use lib.Dec.{leb, ltb}
 use lib.ListN.{length, getD, take, drop, drop-of-length-le, length-drop, length-take, List·getD-eq-default}
 use lib.Seq.{drop-cons, drop-drop}
+use borrow.Author.Needs.{needs}
 use borrow.Author.Tests.{lt-leb, le-leb, ltb-true, ltb-false, leb-true, leb-false}
 use Rattle.base.specs.Pick.{pick}
 use Rattle.strings.specs.declared.Next.{Next}
@@ -129,6 +130,9 @@ more-some : (k h : ℕ) (s : List ℕ) (at : ℕ) → at < length s → readMore
 unfolding readMore
 more-some k h s at l = rw (add-one, drop-cons s at 0) refl
 
+more-at : (k h : ℕ) (s : List ℕ) (at next b : ℕ) → next ≡ at + 1 → b ≡ getD s at 0 → at < length s → readMore (suc k) h (drop at s) ≡ readMore k (h * 256 + b) (drop next s)
+more-at k h s at next b e q l = rw (e, q) (more-some k h s at l)
+
 more-none : (k h : ℕ) (s : List ℕ) (at : ℕ) → length s ≤ at → readMore (suc k) h (drop at s) ≡ cut
 unfolding readMore
 more-none k h s at l = rw (drop-of-length-le s l) refl
@@ -214,10 +218,8 @@ count-past s at h = sym (ap (numberIn s) (more-cut 1 0 s at (omega arith)))
 pub count-some : (s : List ℕ) (at a b : ℕ) → 2 ≤ length s → at ≤ length s - 2 → ByteIs s at a → ByteIs s (at + 1) b → number.Of (a * 256 + b) (at + 2) ≡ numberAt 2 s at
 unfolding numberAt readNumber numberIn readMore
 count-some s at a b l h p q =
-    let e : a * 256 + b ≡ (0 * 256 + getD s at 0) * 256 + getD s (at + 1) 0 = omega (arith, p .is, q .is) in
-    let two : at + 1 + 1 ≡ at + 2 = omega arith in
-    let place : at + 2 ≡ placeIn s (drop (at + 1 + 1) s) = sym (place-drop s (at + 1 + 1) (omega arith) ∙ two) in
-    ap₂ (λ (x y : ℕ). number.Of x y) e place ∙ sym (ap (numberIn s) (more-some 1 0 s at (omega arith) ∙ more-some 0 _ s (at + 1) (omega arith)))
+    ap₂ (λ (n e : ℕ). number.Of n e) (omega arith) (sym (place-drop s (at + 2) (omega arith)))
+    ∙ sym (ap (numberIn s) (more-at 1 0 s at _ a refl (p .is) (omega arith) ∙ more-at 0 _ s _ (at + 2) b (omega arith) (q .is) (omega arith)))
 
 pub mask-short : (s : List ℕ) (at : ℕ) → length s < 4 → number.Cut ≡ numberAt 4 s at
 unfolding numberAt readNumber numberIn
@@ -231,17 +233,11 @@ pub mask-some : (s : List ℕ) (at a b c d : ℕ) → 4 ≤ length s → at ≤ 
     → number.Of (((a * 256 + b) * 256 + c) * 256 + d) (at + 4) ≡ numberAt 4 s at
 unfolding numberAt readNumber numberIn readMore
 mask-some s at a b c d l h p q x y =
-    let e : ((a * 256 + b) * 256 + c) * 256 + d ≡ (((0 * 256 + getD s at 0) * 256 + getD s (at + 1) 0) * 256 + getD s (at + 2) 0) * 256 + getD s (at + 3) 0 =
-    omega (arith, p .is, q .is, x .is, y .is) in
-    let two : at + 1 + 1 ≡ at + 2 = omega arith in
-    let three : at + 2 + 1 ≡ at + 3 = omega arith in
-    let four : at + 3 + 1 ≡ at + 4 = omega arith in
-    let place : at + 4 ≡ placeIn s (drop (at + 3 + 1) s) = sym (place-drop s (at + 3 + 1) (omega arith) ∙ four) in
-    ap₂ (λ (x y : ℕ). number.Of x y) e place ∙ sym (ap (numberIn s) (more-some 3 0 s at (omega arith) ∙ more-some 2 _ s (at + 1) (omega arith)
-    ∙ ap (λ (m : ℕ). readMore 2 ((0 * 256 + getD s at 0) * 256 + getD s (at + 1) 0) (drop m s)) two ∙ more-some 1 _ s (at + 2) (omega arith)
-    ∙ ap (λ (m : ℕ). readMore 1 (((0 * 256 + getD s at 0) * 256 + getD s (at + 1) 0) * 256 + getD s (at + 2) 0) (drop m s)) three ∙ more-some 0 _ s (at + 3) (omega arith)))
+    ap₂ (λ (n e : ℕ). number.Of n e) (omega arith) (sym (place-drop s (at + 4) (omega arith)))
+    ∙ sym (ap (numberIn s) (more-at 3 0 s at _ a refl (p .is) (omega arith) ∙ more-at 2 _ s _ (at + 2) b (omega arith) (q .is) (omega arith)
+    ∙ more-at 1 _ s _ (at + 3) c (omega arith) (x .is) (omega arith) ∙ more-at 0 _ s _ (at + 4) d (omega arith) (y .is) (omega arith)))
 
-pub ruleset number-laws = (byte-in, byte-out, count-short, count-past, count-some, mask-short, mask-past, mask-some)
+pub ruleset number-laws = (byte-in, byte-out, count-short, count-past, count-some, mask-short, mask-past, mask-some, needs)
 
 -- ---- a text at a place
 

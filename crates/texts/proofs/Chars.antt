@@ -5,6 +5,7 @@ use mathlib.Core.List.{List, [], _∷_}
 use Prim.Native.Nat.{ℕ, suc, _+_}
 use lib.Dec.{eqb, ltb, leb·suc-suc, leb·zero}
 use lib.ListN.{length, drop}
+use borrow.Author.Needs.{needs}
 use borrow.Author.Tests.{eq-eqb, ne-eqb}
 use Rattle.base.specs.Pick.{pick}
 use Rattle.base.proofs.PickLaws.{pick-true, pick-false}
@@ -12,7 +13,7 @@ use Rattle.letters.specs.Utf8.{decodeAt}
 use Rattle.letters.specs.Reading.{codesOf}
 use Rattle.letters.specs.declared.utf8.Step.{Step}
 use Rattle.letters.specs.declared.utf8.Step.the-variants.{Char, Ill, End}
-use Rattle.letters.proofs.ReadingLaws.{step-less, ill-less}
+use Rattle.letters.proofs.ReadingLaws.{step-laws}
 use Rattle.letters.proofs.CodesLaws.{codes-char, codes-ill, codes-end}
 use Rattle.texts.specs.Parts.{placeOf, has}
 
@@ -53,4 +54,4 @@ module _ {k : ℕ} {l : List ℕ} {p : ℕ} (w : Seeking k l p) (r : Step) (e : 
   pub seeking-none : r ≡ End → false ≡ has k (codesOf l)
   seeking-none q = sym (w .is ∙ ap (has k) (codes-end l p (sym e ∙ q)) ∙ has-nil k)
 
-pub ruleset seeking-laws = (seeking-start, seeking-next, seeking-found, seeking-past, seeking-none, step-less, ill-less)
+pub ruleset seeking-laws = (seeking-start, seeking-next, seeking-found, seeking-past, seeking-none, step-laws, needs)

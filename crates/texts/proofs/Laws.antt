@@ -10,6 +10,7 @@ use native.Mathlib.Omega.{arith}
 use lib.Dec.{eqb}
 use lib.ListN.{length, getD, take, drop, drop-of-length-le, length-drop}
 use lib.Seq.{drop-cons, take-all, take-length}
+use borrow.Author.Needs.{needs}
 use borrow.Author.Tests.{lt-ltb, le-ltb, eq-eqb, ne-eqb}
 use Rattle.base.specs.Pick.{pick, and}
 use Rattle.texts.specs.Parts.{tail, front, firstIs, lastIs, placeOf, prefixOf, suffixOf, caret, dollar, withoutCaret, withoutDollar}
@@ -91,7 +92,7 @@ module _ (c : List ℕ) (t : Bool) where
   unfolding withoutDollar
   dollar-none e q = sym (pick-false _ _ _ (sym e ∙ q))
 
-pub ruleset anchor-laws = (first-some-by, last-some-by, caret-off, caret-none, dollar-off, dollar-none)
+pub ruleset anchor-laws = (first-some-by, last-some-by, caret-off, caret-none, dollar-off, dollar-none, needs)
 
 -- ---- where a byte stands
 
@@ -182,4 +183,4 @@ unfolding suffixOf
 suffix-by t s r h e =
     e ∙ ap (prefixOf t) (take-all (length s - (length s - length t)) (drop (length s - length t) s) (rw length-drop (omega arith))) ∙ sym (pick-false _ _ _ (le-ltb _ _ h))
 
-pub ruleset parts-laws = (first-some, first-none, last-some, last-none, looking-start, looking-next, looking-found, looking-none, prefix-short, matching-start, matching-in, matching-next, matching-stop, matching-done, suffix-short, suffix-by)
+pub ruleset parts-laws = (first-some, first-none, last-some, last-none, looking-start, looking-next, looking-found, looking-none, prefix-short, matching-start, matching-in, matching-next, matching-stop, matching-done, suffix-short, suffix-by, needs)

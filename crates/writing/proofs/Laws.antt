@@ -5,6 +5,7 @@ use Prim.Native.Nat.{ℕ, suc, _+_, _*_, _≤_, _<_, min}
 use native.Mathlib.Decide.{decLe}
 use native.Mathlib.Numerals.{add-one}
 use native.Mathlib.Omega.{arith}
+use borrow.Author.Needs.{needs}
 use lib.ListN.{length, getD, take, set, length-set, length-append}
 use lib.Seq.{sets, set-out, take-suc, take-all, take-at, sets-eq, length-sets}
 use Rattle.base.proofs.Stores.{sets-then}
@@ -67,4 +68,4 @@ module _ (o o₁ : List ℕ) (at p i : ℕ) (s : List ℕ) (x : Put o o₁ at p 
   pub put-all : length s ≤ i → Put o o₁ at p s
   put-all h = rw (take-all i s h) at x
 
-pub ruleset writing-laws = (slice-room, put-long, put-past, put-last, put-start, put-more, put-all)
+pub ruleset writing-laws = (slice-room, put-long, put-past, put-last, put-start, put-more, put-all, needs)

@@ -1,5 +1,4 @@
 use native.Mathlib.Omega.{arith}
-use borrow.Author.Needs.{needs}
 use Rattle.strings.proofs.Readers.{number-laws, byte-in}
 use Rattle.strings.proofs.byte_at.Statement.{statement}
 use Rattle.strings.proofs.byte_at.Tie as tie
@@ -8,4 +7,4 @@ returns : tie.Need-returns
 returns c = byte-in _ _ (omega (arith, c .shared-slice-known .given (c .before .before .args .at)))
 
 pub byte-at-spec : {M : Type 1} → statement M
-byte-at-spec = tie.close (tie.spec (λ c. search (number-laws, needs)) (λ c. omega (arith, c .shared-slice-known .given (c .before .before .args .at))) returns (λ c. search (number-laws, needs)))
+byte-at-spec = tie.close (tie.spec (λ c. search number-laws) (λ c. omega (arith, c .shared-slice-known .given (c .before .before .args .at))) returns (λ c. search number-laws))

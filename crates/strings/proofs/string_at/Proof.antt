@@ -19,5 +19,5 @@ returns-3 c = search cases
 
 pub string-at-spec : {M : Type 1} → statement M
 string-at-spec =
-    tie.close
-    (tie.spec returns (λ c. search needs) (λ c. omega (arith, c .shared-slice-known .given (c .before .before .args .at))) (λ c. search needs) (λ c. search needs) (λ c. search needs) returns-2 returns-3)
+    tie.close (tie.spec returns (λ c. search needs) (λ c. omega (arith, c .shared-slice-known .given (c .before .before .args .at)))
+    (λ c. search needs) (λ c. search needs) (λ c. search needs) returns-2 returns-3)

@@ -1,6 +1,5 @@
 use Prim.Native.Nat.{_-_}
 use lib.ListN.{length}
-use borrow.Author.Needs.{needs}
 use Rattle.texts.proofs.Laws.{parts-laws, Looking}
 use Rattle.texts.proofs.find_byte.Statement.{statement}
 use Rattle.texts.proofs.find_byte.Tie as tie
@@ -13,14 +12,5 @@ abbrev μ-loop : tie.MeasureT-loop
 
 pub find-byte-spec : {M : Type 1} → statement M
 find-byte-spec =
-    tie.close
-    (tie.spec
-    Inv-loop
-    μ-loop
-    (λ c. search (parts-laws, needs))
-    (λ c. search (parts-laws, needs))
-    (λ c. search (parts-laws, needs))
-    (λ c. search (parts-laws, needs))
-    (λ c. search (parts-laws, needs))
-    (λ c. search (parts-laws, needs))
-    (λ c. search (parts-laws, needs)))
+    tie.close (tie.spec Inv-loop μ-loop (λ c. search parts-laws) (λ c. search parts-laws) (λ c. search parts-laws) (λ c. search parts-laws)
+    (λ c. search parts-laws) (λ c. search parts-laws) (λ c. search parts-laws))

@@ -1,6 +1,5 @@
 use Prim.Native.Nat.{_-_}
 use lib.ListN.{length}
-use borrow.Author.Needs.{needs}
 use Rattle.texts.proofs.Laws.{parts-laws, Matching}
 use Rattle.texts.proofs.starts_with.Statement.{statement}
 use Rattle.texts.proofs.starts_with.Tie as tie
@@ -13,16 +12,5 @@ abbrev μ-loop : tie.MeasureT-loop
 
 pub starts-with-spec : {M : Type 1} → statement M
 starts-with-spec =
-    tie.close
-    (tie.spec
-    Inv-loop
-    μ-loop
-    (λ c. search (parts-laws, needs))
-    (λ c. search (parts-laws, needs))
-    (λ c. search (parts-laws, needs))
-    (λ c. search (parts-laws, needs))
-    (λ c. search (parts-laws, needs))
-    (λ c. search (parts-laws, needs))
-    (λ c. search (parts-laws, needs))
-    (λ c. search (parts-laws, needs))
-    (λ c. search (parts-laws, needs)))
+    tie.close (tie.spec Inv-loop μ-loop (λ c. search parts-laws) (λ c. search parts-laws) (λ c. search parts-laws) (λ c. search parts-laws)
+    (λ c. search parts-laws) (λ c. search parts-laws) (λ c. search parts-laws) (λ c. search parts-laws) (λ c. search parts-laws))

@@ -1,7 +1,6 @@
 use Prim.Native.Nat.{_-_}
 use lib.ListN.{length, take}
 use Rattle.writing.specs.Contracts.{Put}
-use borrow.Author.Needs.{needs}
 use Rattle.writing.proofs.Laws.{writing-laws}
 use Rattle.writing.proofs.copy.Statement.{statement}
 use Rattle.writing.proofs.copy.Tie as tie
@@ -14,16 +13,6 @@ abbrev μ-loop : tie.MeasureT-loop
 
 pub copy-spec : {M : Type 1} → statement M
 copy-spec =
-    tie.close
-    (tie.spec
-    Inv-loop
-    μ-loop
-    (λ c κs. search (writing-laws, needs))
-    (λ c. search (writing-laws, needs))
-    (λ c. search (writing-laws, needs))
-    (λ c κs. search (writing-laws, needs))
-    (λ c. search (writing-laws, needs))
-    (λ c. search (writing-laws, needs))
-    (λ c. search (writing-laws, needs))
-    (λ c. search (writing-laws, needs))
-    (λ c. search (writing-laws, needs)))
+    tie.close (tie.spec Inv-loop μ-loop (λ c κs. search writing-laws) (λ c. search writing-laws) (λ c. search writing-laws)
+    (λ c κs. search writing-laws) (λ c. search writing-laws) (λ c. search writing-laws) (λ c. search writing-laws) (λ c. search writing-laws)
+    (λ c. search writing-laws))

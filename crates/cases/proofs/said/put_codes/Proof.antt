@@ -1,8 +1,7 @@
 use Prim.Native.Nat.{_≤_, _-_}
 use mathlib.Core.Path.{_≡_}
 use lib.ListN.{length}
-use native.Mathlib.Omega.{arith}
-use Rattle.letters.proofs.ReadingLaws.{step-less, step-end}
+use Rattle.letters.proofs.ReadingLaws.{step-laws, step-end}
 use borrow.Author.Needs.{needs}
 use Rattle.cases.proofs.said.put_codes.Statement.{statement}
 use Rattle.cases.proofs.said.put_codes.Tie as tie
@@ -12,9 +11,6 @@ Inv-loop s out₀ used used₀ p₀ out used' p = (p ≤ length s) × (length ou
 
 abbrev μ-loop : tie.MeasureT-loop
 μ-loop s out₀ used used₀ p₀ out used' p = length s - p
-
-add-p : tie.Need-add-p Inv-loop μ-loop
-add-p c = omega (arith, step-end _ _ _ _ _ (c .before .before .before .before .before .before .before .decode .ensures) (c .before .before .before .before .before .code .given .1))
 
 pub put-codes-spec : {M : Type 1} → statement M
 put-codes-spec =
@@ -28,8 +24,8 @@ put-codes-spec =
     (λ c. search needs)
     (λ c. search needs)
     (λ c κs. search needs)
-    add-p
-    (λ c. search (step-less, needs))
+    (λ c. search (step-laws, needs))
+    (λ c. search (step-laws, needs))
     (λ c. search (step-end, needs))
     (λ c. search needs)
     (λ c. search needs))

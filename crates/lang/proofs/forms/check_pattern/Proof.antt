@@ -1,8 +1,7 @@
-use borrow.Author.Needs.{needs}
 use Rattle.lang.proofs.FormLaws.{forms-laws}
 use Rattle.lang.proofs.forms.check_pattern.Statement.{statement}
 use Rattle.lang.proofs.forms.check_pattern.Tie as tie
 
 pub check-pattern-spec : {M : Type 1} → statement M
 check-pattern-spec =
-    tie.close (tie.spec (λ c κs. search (forms-laws, needs)) (λ c κs. search (forms-laws, needs)) (λ c κs. search (forms-laws, needs)) (λ c. search (forms-laws, needs)) (λ c. search (forms-laws, needs)))
+    tie.close (tie.spec (λ c κs. search forms-laws) (λ c κs. search forms-laws) (λ c κs. search forms-laws) (λ c. search forms-laws) (λ c. search forms-laws))

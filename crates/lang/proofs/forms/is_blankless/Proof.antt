@@ -4,4 +4,4 @@ use Rattle.lang.proofs.forms.is_blankless.Statement.{statement}
 use Rattle.lang.proofs.forms.is_blankless.Tie as tie
 
 pub is-blankless-spec : {M : Type 1} → statement M
-is-blankless-spec = tie.close (tie.spec (λ c κs. search needs) (λ c κs. search needs) (λ c. search (blank-laws, needs)) (λ c. search (blank-laws, needs)))
+is-blankless-spec = tie.close (tie.spec (λ c κs. search needs) (λ c κs. search needs) (λ c. search blank-laws) (λ c. search blank-laws))

@@ -1,5 +1,5 @@
-use Rattle.lang.specs.Patterns.{framed}
 use borrow.Author.Needs.{needs}
+use Rattle.lang.specs.Patterns.{framed}
 use Rattle.lang.proofs.FormLaws.{framed-laws}
 use Rattle.lang.proofs.forms.is_framed.Statement.{statement}
 use Rattle.lang.proofs.forms.is_framed.Tie as tie
@@ -27,13 +27,5 @@ returns-5 c = search (framed-laws, cases) depth 9
 
 pub is-framed-spec : {M : Type 1} → statement M
 is-framed-spec =
-    tie.close
-    (tie.spec
-    (λ c κs. search (framed-laws, needs))
-    (λ c κs. search (framed-laws, needs))
-    (λ c κs. search (framed-laws, needs))
-    returns
-    returns-2
-    returns-3
-    returns-4
+    tie.close (tie.spec (λ c κs. search (framed-laws, needs)) (λ c κs. search (framed-laws, needs)) (λ c κs. search (framed-laws, needs)) returns returns-2 returns-3 returns-4
     returns-5)

@@ -21,6 +21,4 @@ unfolding beginsWithOther
 returns-4 c = search (cases, needs)
 
 pub begins-with-other-spec : {M : Type 1} → statement M
-begins-with-other-spec =
-    tie.close
-    (tie.spec (λ c. search (cases, needs)) (λ c. search (cases, needs)) returns returns-2 returns-3 returns-4)
+begins-with-other-spec = tie.close (tie.spec (λ c. search (cases, needs)) (λ c. search (cases, needs)) returns returns-2 returns-3 returns-4)

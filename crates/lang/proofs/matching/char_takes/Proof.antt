@@ -1,9 +1,8 @@
-use borrow.Author.Needs.{needs}
 use Rattle.lang.proofs.Fits.{takes-laws}
 use Rattle.lang.proofs.matching.char_takes.Statement.{statement}
 use Rattle.lang.proofs.matching.char_takes.Tie as tie
 
 pub char-takes-spec : {M : Type 1} → statement M
 char-takes-spec =
-    tie.close
-    (tie.spec (λ c κs. search (takes-laws, needs)) (λ c. search (takes-laws, needs)) (λ c. search (takes-laws, needs)) (λ c. search (takes-laws, needs)) (λ c. search (takes-laws, needs)) (λ c. search (takes-laws, needs)) (λ c. search (takes-laws, needs)))
+    tie.close (tie.spec (λ c κs. search takes-laws) (λ c. search takes-laws) (λ c. search takes-laws) (λ c. search takes-laws)
+    (λ c. search takes-laws) (λ c. search takes-laws) (λ c. search takes-laws))

@@ -1,7 +1,6 @@
-use borrow.Author.Needs.{needs}
 use Rattle.lang.proofs.PieceLaws.{box-laws}
 use Rattle.lang.proofs.pieces.box_len.Statement.{statement}
 use Rattle.lang.proofs.pieces.box_len.Tie as tie
 
 pub box-len-spec : {M : Type 1} → statement M
-box-len-spec = tie.close (tie.spec (λ c κs. search (box-laws, needs)) (λ c. search (box-laws, needs)) (λ c. search (box-laws, needs)) (λ c. search (box-laws, needs)))
+box-len-spec = tie.close (tie.spec (λ c κs. search box-laws) (λ c. search box-laws) (λ c. search box-laws) (λ c. search box-laws))

@@ -1,5 +1,4 @@
 use native.Mathlib.Omega.{arith}
-use borrow.Author.Needs.{needs}
 use Rattle.lang.proofs.PieceLaws.{length-fits, front-laws}
 use Rattle.lang.proofs.pieces.piece_len.Statement.{statement}
 use Rattle.lang.proofs.pieces.piece_len.Tie as tie
@@ -9,14 +8,5 @@ add-result c = omega (arith, length-fits _ _ (c .before .before .before .first-i
 
 pub piece-len-spec : {M : Type 1} → statement M
 piece-len-spec =
-    tie.close
-    (tie.spec
-    (λ c κs. search (front-laws, needs))
-    (λ c. search (front-laws, needs))
-    (λ c. search (front-laws, needs))
-    (λ c. search (front-laws, needs))
-    (λ c κs. search (front-laws, needs))
-    add-result
-    (λ c κs. search (front-laws, needs))
-    (λ c. search (front-laws, needs))
-    (λ c. search (front-laws, needs)))
+    tie.close (tie.spec (λ c κs. search front-laws) (λ c. search front-laws) (λ c. search front-laws) (λ c. search front-laws)
+    (λ c κs. search front-laws) add-result (λ c κs. search front-laws) (λ c. search front-laws) (λ c. search front-laws))

@@ -1,9 +1,8 @@
-use borrow.Author.Needs.{needs}
 use Rattle.lang.proofs.Signs.{sign-laws}
 use Rattle.lang.proofs.pieces.stands_for_itself.Statement.{statement}
 use Rattle.lang.proofs.pieces.stands_for_itself.Tie as tie
 
 pub stands-for-itself-spec : {M : Type 1} → statement M
 stands-for-itself-spec =
-    tie.close
-    (tie.spec (λ c. search (sign-laws, needs)) (λ c. search (sign-laws, needs)) (λ c. search (sign-laws, needs)) (λ c. search (sign-laws, needs)) (λ c. search (sign-laws, needs)) (λ c. search (sign-laws, needs)) (λ c. search (sign-laws, needs)) (λ c. search (sign-laws, needs)))
+    tie.close (tie.spec (λ c. search sign-laws) (λ c. search sign-laws) (λ c. search sign-laws) (λ c. search sign-laws) (λ c. search sign-laws)
+    (λ c. search sign-laws) (λ c. search sign-laws) (λ c. search sign-laws))

@@ -1,6 +1,5 @@
 use Prim.Native.Nat.{_-_}
 use lib.ListN.{length}
-use borrow.Author.Needs.{needs}
 use Rattle.lang.proofs.Shortcuts.{Signing, signing-laws}
 use Rattle.lang.proofs.signatures.signature.Statement.{statement}
 use Rattle.lang.proofs.signatures.signature.Tie as tie
@@ -13,15 +12,5 @@ abbrev μ-loop : tie.MeasureT-loop
 
 pub signature-spec : {M : Type 1} → statement M
 signature-spec =
-    tie.close
-    (tie.spec
-    Inv-loop
-    μ-loop
-    (λ c. search (signing-laws, needs))
-    (λ c. search (signing-laws, needs))
-    (λ c. search (signing-laws, needs))
-    (λ c. search (signing-laws, needs))
-    (λ c. search (signing-laws, needs))
-    (λ c. search (signing-laws, needs))
-    (λ c. search (signing-laws, needs))
-    (λ c. search (signing-laws, needs)))
+    tie.close (tie.spec Inv-loop μ-loop (λ c. search signing-laws) (λ c. search signing-laws) (λ c. search signing-laws) (λ c. search signing-laws)
+    (λ c. search signing-laws) (λ c. search signing-laws) (λ c. search signing-laws) (λ c. search signing-laws))

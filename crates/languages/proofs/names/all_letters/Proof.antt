@@ -1,7 +1,6 @@
 use Prim.Native.Nat.{_-_}
 use lib.ListN.{length}
 use Rattle.languages.proofs.NameLaws.{Letters, letters-laws}
-use borrow.Author.Needs.{needs}
 use Rattle.languages.proofs.names.all_letters.Statement.{statement}
 use Rattle.languages.proofs.names.all_letters.Tie as tie
 
@@ -13,15 +12,5 @@ abbrev μ-loop : tie.MeasureT-loop
 
 pub all-letters-spec : {M : Type 1} → statement M
 all-letters-spec =
-    tie.close
-    (tie.spec
-    Inv-loop
-    μ-loop
-    (λ c. search (letters-laws, needs))
-    (λ c. search (letters-laws, needs))
-    (λ c κs. search (letters-laws, needs))
-    (λ c. search (letters-laws, needs))
-    (λ c. search (letters-laws, needs))
-    (λ c. search (letters-laws, needs))
-    (λ c. search (letters-laws, needs))
-    (λ c. search (letters-laws, needs)))
+    tie.close (tie.spec Inv-loop μ-loop (λ c. search letters-laws) (λ c. search letters-laws) (λ c κs. search letters-laws) (λ c. search letters-laws)
+    (λ c. search letters-laws) (λ c. search letters-laws) (λ c. search letters-laws) (λ c. search letters-laws))

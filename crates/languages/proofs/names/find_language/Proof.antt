@@ -1,7 +1,6 @@
 use Prim.Native.Nat.{_-_}
 use Rattle.languages.proofs.NumberLaws.{listed-told}
 use Rattle.languages.proofs.NameLaws.{Seen, find-laws}
-use borrow.Author.Needs.{needs}
 use Rattle.languages.proofs.names.find_language.Statement.{statement}
 use Rattle.languages.proofs.names.find_language.Tie as tie
 
@@ -13,22 +12,7 @@ abbrev μ-loop : tie.MeasureT-loop
 
 pub find-language-spec : {M : Type 1} → statement M
 find-language-spec =
-    tie.close
-    (tie.spec
-    Inv-loop
-    μ-loop
-    (λ c. search (find-laws, needs))
-    (λ c κs. search (find-laws, needs))
-    (λ c. search (find-laws, needs))
-    (λ c. search (find-laws, needs))
-    (λ c. search (find-laws, needs))
-    (λ c. search (find-laws, needs))
-    (λ c κs. search (find-laws, needs))
-    (λ c. search (find-laws, needs))
-    (λ c. search (listed-told, find-laws, needs))
-    (λ c. search (find-laws, needs))
-    (λ c. search (find-laws, needs))
-    (λ c. search (find-laws, needs))
-    (λ c. search (find-laws, needs))
-    (λ c. search (listed-told, find-laws, needs))
-    (λ c. search (listed-told, find-laws, needs)))
+    tie.close (tie.spec Inv-loop μ-loop (λ c. search find-laws) (λ c κs. search find-laws) (λ c. search find-laws) (λ c. search find-laws)
+    (λ c. search find-laws) (λ c. search find-laws) (λ c κs. search find-laws) (λ c. search find-laws) (λ c. search (listed-told, find-laws))
+    (λ c. search find-laws) (λ c. search find-laws) (λ c. search find-laws) (λ c. search find-laws) (λ c. search (listed-told, find-laws))
+    (λ c. search (listed-told, find-laws)))

@@ -21,13 +21,4 @@ unfolding languageName
 returns-4 c = search cases
 
 pub is-language-name-spec : {M : Type 1} → statement M
-is-language-name-spec =
-    tie.close
-    (tie.spec
-    returns
-    returns-2
-    (λ c. search needs)
-    (λ c κs. search needs)
-    returns-3
-    (λ c κs. search needs)
-    returns-4)
+is-language-name-spec = tie.close (tie.spec returns returns-2 (λ c. search needs) (λ c κs. search needs) returns-3 (λ c κs. search needs) returns-4)

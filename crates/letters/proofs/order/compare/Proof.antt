@@ -3,7 +3,6 @@ use lib.ListN.{length}
 use Rattle.letters.specs.Order.{orderOf}
 use Rattle.letters.specs.declared.order.Order.{Order}
 use Rattle.letters.proofs.OrderLaws.{Left, order-laws}
-use borrow.Author.Needs.{needs}
 use Rattle.letters.proofs.order.compare.Statement.{statement}
 use Rattle.letters.proofs.order.compare.Tie as tie
 
@@ -15,20 +14,6 @@ abbrev μ-loop : tie.MeasureT-loop
 
 pub compare-spec : {M : Type 1} → statement M
 compare-spec =
-    tie.close
-    (tie.spec
-    Inv-loop
-    μ-loop
-    (λ c. search (order-laws, needs))
-    (λ c. search (order-laws, needs))
-    (λ c. search (order-laws, needs))
-    (λ c. search (order-laws, needs))
-    (λ c. search (order-laws, needs))
-    (λ c. search (order-laws, needs))
-    (λ c. search (order-laws, needs))
-    (λ c. search (order-laws, needs))
-    (λ c. search (order-laws, needs))
-    (λ c. search (order-laws, needs))
-    (λ c. search (order-laws, needs))
-    (λ c. search (order-laws, needs))
-    (λ c. search (order-laws, needs)))
+    tie.close (tie.spec Inv-loop μ-loop (λ c. search order-laws) (λ c. search order-laws) (λ c. search order-laws) (λ c. search order-laws)
+    (λ c. search order-laws) (λ c. search order-laws) (λ c. search order-laws) (λ c. search order-laws) (λ c. search order-laws)
+    (λ c. search order-laws) (λ c. search order-laws) (λ c. search order-laws) (λ c. search order-laws))

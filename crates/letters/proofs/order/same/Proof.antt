@@ -3,7 +3,6 @@ use lib.ListN.{length}
 use mathlib.Core.Bool.{Bool}
 use Rattle.letters.specs.Order.{sameText}
 use Rattle.letters.proofs.OrderLaws.{Left, same-laws}
-use borrow.Author.Needs.{needs}
 use Rattle.letters.proofs.order.same.Statement.{statement}
 use Rattle.letters.proofs.order.same.Tie as tie
 
@@ -15,16 +14,5 @@ abbrev μ-loop : tie.MeasureT-loop
 
 pub same-spec : {M : Type 1} → statement M
 same-spec =
-    tie.close
-    (tie.spec
-    Inv-loop
-    μ-loop
-    (λ c. search (same-laws, needs))
-    (λ c. search (same-laws, needs))
-    (λ c. search (same-laws, needs))
-    (λ c. search (same-laws, needs))
-    (λ c. search (same-laws, needs))
-    (λ c. search (same-laws, needs))
-    (λ c. search (same-laws, needs))
-    (λ c. search (same-laws, needs))
-    (λ c. search (same-laws, needs)))
+    tie.close (tie.spec Inv-loop μ-loop (λ c. search same-laws) (λ c. search same-laws) (λ c. search same-laws) (λ c. search same-laws)
+    (λ c. search same-laws) (λ c. search same-laws) (λ c. search same-laws) (λ c. search same-laws) (λ c. search same-laws))

@@ -2,9 +2,7 @@ use Prim.Native.Nat.{_-_}
 use lib.ListN.{length}
 use Rattle.letters.specs.declared.utf8.Found.{Found}
 use Rattle.letters.specs.Reading.{illIn}
-use Rattle.letters.proofs.ReadingLaws.{Walk, step-end, ill-laws}
-use native.Mathlib.Omega.{arith}
-use borrow.Author.Needs.{needs}
+use Rattle.letters.proofs.ReadingLaws.{Walk, ill-laws}
 use Rattle.letters.proofs.utf8.first_ill.Statement.{statement}
 use Rattle.letters.proofs.utf8.first_ill.Tie as tie
 
@@ -14,22 +12,7 @@ Inv-loop s p₀ p = Walk Found illIn s p
 abbrev μ-loop : tie.MeasureT-loop
 μ-loop s p₀ p = length s - p
 
-add-p : tie.Need-add-p Inv-loop μ-loop
-add-p c = omega (arith, step-end _ _ _ _ _ (c .before .before .before .decode-long .ensures) (c .before .len .given .1))
-
 pub first-ill-spec : {M : Type 1} → statement M
 first-ill-spec =
-    tie.close
-    (tie.spec
-    Inv-loop
-    μ-loop
-    (λ c. search (ill-laws, needs))
-    (λ c κs. search (ill-laws, needs))
-    (λ c. search (ill-laws, needs))
-    add-p
-    (λ c. search (ill-laws, needs))
-    (λ c. search (ill-laws, needs))
-    (λ c. search (ill-laws, needs))
-    (λ c. search (ill-laws, needs))
-    (λ c. search (ill-laws, needs))
-    (λ c. search (ill-laws, needs)))
+    tie.close (tie.spec Inv-loop μ-loop (λ c. search ill-laws) (λ c κs. search ill-laws) (λ c. search ill-laws) (λ c. search ill-laws) (λ c. search ill-laws)
+    (λ c. search ill-laws) (λ c. search ill-laws) (λ c. search ill-laws) (λ c. search ill-laws) (λ c. search ill-laws))

@@ -1,4 +1,3 @@
-use borrow.Author.Needs.{needs}
 use Rattle.name_parts.proofs.JoinLaws.{Free, join-laws}
 use Rattle.name_parts.proofs.joining.after_apostrophe.Statement.{statement}
 use Rattle.name_parts.proofs.joining.after_apostrophe.Tie as tie
@@ -11,18 +10,6 @@ abbrev μ-loop : tie.MeasureT-loop
 
 pub after-apostrophe-spec : {M : Type 1} → statement M
 after-apostrophe-spec =
-    tie.close
-    (tie.spec
-    Inv-loop
-    μ-loop
-    (λ c. search (join-laws, needs))
-    (λ c. search (join-laws, needs))
-    (λ c. search (join-laws, needs))
-    (λ c. search (join-laws, needs))
-    (λ c. search (join-laws, needs))
-    (λ c. search (join-laws, needs))
-    (λ c. search (join-laws, needs))
-    (λ c. search (join-laws, needs))
-    (λ c. search (join-laws, needs))
-    (λ c. search (join-laws, needs))
-    (λ c. search (join-laws, needs)))
+    tie.close (tie.spec Inv-loop μ-loop (λ c. search join-laws) (λ c. search join-laws) (λ c. search join-laws) (λ c. search join-laws)
+    (λ c. search join-laws) (λ c. search join-laws) (λ c. search join-laws) (λ c. search join-laws) (λ c. search join-laws) (λ c. search join-laws)
+    (λ c. search join-laws))

@@ -1,6 +1,5 @@
 use Prim.Native.Nat.{_-_}
 use lib.ListN.{length}
-use borrow.Author.Needs.{needs}
 use Rattle.name_parts.proofs.JoinLaws.{Joining, join-here, join-kept, join-laws}
 use Rattle.name_parts.proofs.joining.join_words.Statement.{statement}
 use Rattle.name_parts.proofs.joining.join_words.Tie as tie
@@ -13,20 +12,6 @@ abbrev μ-loop : tie.MeasureT-loop
 
 pub join-words-spec : {M : Type 1} → statement M
 join-words-spec =
-    tie.close
-    (tie.spec
-    Inv-loop
-    μ-loop
-    (λ c. search (join-laws, needs))
-    (λ c κs. search (join-laws, needs))
-    (λ c. search (join-laws, needs))
-    (λ c. search (join-laws, needs))
-    (λ c κs. search (join-laws, needs))
-    (λ c κs. search (join-laws, needs))
-    (λ c κs. search (join-laws, needs))
-    (λ c. search (join-laws, needs))
-    (λ c. search (join-laws, needs))
-    (λ c κs. search (join-laws, needs))
-    (λ c κs. search (join-laws, needs))
-    (λ c. search join-kept)
-    (λ c. search join-here))
+    tie.close (tie.spec Inv-loop μ-loop (λ c. search join-laws) (λ c κs. search join-laws) (λ c. search join-laws) (λ c. search join-laws)
+    (λ c κs. search join-laws) (λ c κs. search join-laws) (λ c κs. search join-laws) (λ c. search join-laws) (λ c. search join-laws)
+    (λ c κs. search join-laws) (λ c κs. search join-laws) (λ c. search join-kept) (λ c. search join-here))

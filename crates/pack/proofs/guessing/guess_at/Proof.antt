@@ -1,21 +1,9 @@
-use borrow.Author.Needs.{needs}
 use Rattle.pack.proofs.GuessLaws.{guess-at-laws}
 use Rattle.pack.proofs.guessing.guess_at.Statement.{statement}
 use Rattle.pack.proofs.guessing.guess_at.Tie as tie
 
 pub guess-at-spec : {M : Type 1} → statement M
 guess-at-spec =
-    tie.close
-    (tie.spec
-    (λ c. search (guess-at-laws, needs))
-    (λ c. search (guess-at-laws, needs))
-    (λ c κs. search (guess-at-laws, needs))
-    (λ c. search (guess-at-laws, needs))
-    (λ c κs. search (guess-at-laws, needs))
-    (λ c. search (guess-at-laws, needs))
-    (λ c κs. search (guess-at-laws, needs))
-    (λ c. search (guess-at-laws, needs))
-    (λ c. search (guess-at-laws, needs))
-    (λ c. search (guess-at-laws, needs))
-    (λ c. search (guess-at-laws, needs))
-    (λ c. search (guess-at-laws, needs)))
+    tie.close (tie.spec (λ c. search guess-at-laws) (λ c. search guess-at-laws) (λ c κs. search guess-at-laws) (λ c. search guess-at-laws)
+    (λ c κs. search guess-at-laws) (λ c. search guess-at-laws) (λ c κs. search guess-at-laws) (λ c. search guess-at-laws) (λ c. search guess-at-laws)
+    (λ c. search guess-at-laws) (λ c. search guess-at-laws) (λ c. search guess-at-laws))

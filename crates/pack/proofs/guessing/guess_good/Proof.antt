@@ -1,17 +1,8 @@
-use borrow.Author.Needs.{needs}
 use Rattle.pack.proofs.GuessLaws.{guess-test-laws}
 use Rattle.pack.proofs.guessing.guess_good.Statement.{statement}
 use Rattle.pack.proofs.guessing.guess_good.Tie as tie
 
 pub guess-good-spec : {M : Type 1} → statement M
 guess-good-spec =
-    tie.close
-    (tie.spec
-    (λ c. search (guess-test-laws, needs))
-    (λ c. search (guess-test-laws, needs))
-    (λ c κs. search (guess-test-laws, needs))
-    (λ c. search (guess-test-laws, needs))
-    (λ c κs. search (guess-test-laws, needs))
-    (λ c κs. search (guess-test-laws, needs))
-    (λ c. search (guess-test-laws, needs))
-    (λ c. search (guess-test-laws, needs)))
+    tie.close (tie.spec (λ c. search guess-test-laws) (λ c. search guess-test-laws) (λ c κs. search guess-test-laws) (λ c. search guess-test-laws)
+    (λ c κs. search guess-test-laws) (λ c κs. search guess-test-laws) (λ c. search guess-test-laws) (λ c. search guess-test-laws))

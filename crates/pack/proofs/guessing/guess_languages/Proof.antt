@@ -1,4 +1,3 @@
-use borrow.Author.Needs.{needs}
 use Rattle.languages.proofs.NumberLaws.{set-told}
 use Rattle.pack.proofs.GuessLaws.{guessed-laws}
 use Rattle.pack.proofs.guessing.guess_languages.Statement.{statement}
@@ -6,14 +5,6 @@ use Rattle.pack.proofs.guessing.guess_languages.Tie as tie
 
 pub guess-languages-spec : {M : Type 1} → statement M
 guess-languages-spec =
-    tie.close
-    (tie.spec
-    (λ c κs. search (guessed-laws, needs))
-    (λ c κs. search (guessed-laws, needs))
-    (λ c. search (guessed-laws, needs))
-    (λ c κs. search (guessed-laws, needs))
-    (λ c κs. search (guessed-laws, needs))
-    (λ c. search (guessed-laws, needs))
-    (λ c κs. search (guessed-laws, needs))
-    (λ c. search (set-told, guessed-laws, needs))
-    (λ c. search (set-told, guessed-laws, needs)))
+    tie.close (tie.spec (λ c κs. search guessed-laws) (λ c κs. search guessed-laws) (λ c. search guessed-laws) (λ c κs. search guessed-laws)
+    (λ c κs. search guessed-laws) (λ c. search guessed-laws) (λ c κs. search guessed-laws) (λ c. search (set-told, guessed-laws))
+    (λ c. search (set-told, guessed-laws)))

@@ -1,16 +1,8 @@
-use borrow.Author.Needs.{needs}
 use Rattle.pack.proofs.GuessLaws.{guesses-laws}
 use Rattle.pack.proofs.guessing.guess_section.Statement.{statement}
 use Rattle.pack.proofs.guessing.guess_section.Tie as tie
 
 pub guess-section-spec : {M : Type 1} → statement M
 guess-section-spec =
-    tie.close
-    (tie.spec
-    (λ c κs. search (guesses-laws, needs))
-    (λ c. search (guesses-laws, needs))
-    (λ c. search (guesses-laws, needs))
-    (λ c κs. search (guesses-laws, needs))
-    (λ c. search (guesses-laws, needs))
-    (λ c. search (guesses-laws, needs))
-    (λ c. search (guesses-laws, needs)))
+    tie.close (tie.spec (λ c κs. search guesses-laws) (λ c. search guesses-laws) (λ c. search guesses-laws) (λ c κs. search guesses-laws)
+    (λ c. search guesses-laws) (λ c. search guesses-laws) (λ c. search guesses-laws))

@@ -1,4 +1,3 @@
-use borrow.Author.Needs.{needs}
 use Rattle.pack.proofs.GuessLaws.{Guessing, guessing-laws}
 use Rattle.pack.proofs.guessing.guesses_from.Statement.{statement}
 use Rattle.pack.proofs.guessing.guesses_from.Tie as tie
@@ -11,16 +10,6 @@ abbrev μ-loop : tie.MeasureT-loop
 
 pub guesses-from-spec : {M : Type 1} → statement M
 guesses-from-spec =
-    tie.close
-    (tie.spec
-    Inv-loop
-    μ-loop
-    (λ c. search (guessing-laws, needs))
-    (λ c κs. search (guessing-laws, needs))
-    (λ c. search (guessing-laws, needs))
-    (λ c. search (guessing-laws, needs))
-    (λ c. search (guessing-laws, needs))
-    (λ c. search (guessing-laws, needs))
-    (λ c. search (guessing-laws, needs))
-    (λ c. search (guessing-laws, needs))
-    (λ c. search (guessing-laws, needs)))
+    tie.close (tie.spec Inv-loop μ-loop (λ c. search guessing-laws) (λ c κs. search guessing-laws) (λ c. search guessing-laws)
+    (λ c. search guessing-laws) (λ c. search guessing-laws) (λ c. search guessing-laws) (λ c. search guessing-laws) (λ c. search guessing-laws)
+    (λ c. search guessing-laws))

@@ -1,7 +1,6 @@
-use borrow.Author.Needs.{needs}
 use Rattle.pack.proofs.GuessLaws.{listed-laws}
 use Rattle.pack.proofs.guessing.listed_mask.Statement.{statement}
 use Rattle.pack.proofs.guessing.listed_mask.Tie as tie
 
 pub listed-mask-spec : {M : Type 1} → statement M
-listed-mask-spec = tie.close (tie.spec (λ c. search (listed-laws, needs)) (λ c. search (listed-laws, needs)) (λ c. search (listed-laws, needs)) (λ c. search (listed-laws, needs)) (λ c. search (listed-laws, needs)))
+listed-mask-spec = tie.close (tie.spec (λ c. search listed-laws) (λ c. search listed-laws) (λ c. search listed-laws) (λ c. search listed-laws) (λ c. search listed-laws))

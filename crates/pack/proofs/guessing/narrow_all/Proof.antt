@@ -11,21 +11,7 @@ abbrev μ-loop : tie.MeasureT-loop
 
 pub narrow-all-spec : {M : Type 1} → statement M
 narrow-all-spec =
-    tie.close
-    (tie.spec
-    Inv-loop
-    μ-loop
-    (λ c κs. search needs)
-    (λ c. search (narrowing-laws, needs))
-    (λ c κs. search (narrowing-laws, needs))
-    (λ c. search (narrowing-laws, needs))
-    (λ c. search (narrowing-laws, needs))
-    (λ c. search (narrowing-laws, needs))
-    (λ c. search (narrowing-laws, needs))
-    (λ c κs. search (narrowing-laws, needs))
-    (λ c. search (narrowing-laws, needs))
-    (λ c. search (narrowing-laws, needs))
-    (λ c. search (narrowing-laws, needs))
-    (λ c. search (narrowing-laws, needs))
-    (λ c. search (narrowing-laws, needs))
-    (λ c. search (narrowing-laws, needs)))
+    tie.close (tie.spec Inv-loop μ-loop (λ c κs. search needs) (λ c. search narrowing-laws) (λ c κs. search narrowing-laws)
+    (λ c. search narrowing-laws) (λ c. search narrowing-laws) (λ c. search narrowing-laws) (λ c. search narrowing-laws)
+    (λ c κs. search narrowing-laws) (λ c. search narrowing-laws) (λ c. search narrowing-laws) (λ c. search narrowing-laws)
+    (λ c. search narrowing-laws) (λ c. search narrowing-laws) (λ c. search narrowing-laws))

@@ -1,19 +1,9 @@
-use borrow.Author.Needs.{needs}
 use Rattle.pack.proofs.GuessLaws.{next-guess-laws}
 use Rattle.pack.proofs.guessing.next_guess.Statement.{statement}
 use Rattle.pack.proofs.guessing.next_guess.Tie as tie
 
 pub next-guess-spec : {M : Type 1} → statement M
 next-guess-spec =
-    tie.close
-    (tie.spec
-    (λ c κs. search (next-guess-laws, needs))
-    (λ c. search (next-guess-laws, needs))
-    (λ c. search (next-guess-laws, needs))
-    (λ c. search (next-guess-laws, needs))
-    (λ c. search (next-guess-laws, needs))
-    (λ c κs. search (next-guess-laws, needs))
-    (λ c. search (next-guess-laws, needs))
-    (λ c. search (next-guess-laws, needs))
-    (λ c. search (next-guess-laws, needs))
-    (λ c. search (next-guess-laws, needs)))
+    tie.close (tie.spec (λ c κs. search next-guess-laws) (λ c. search next-guess-laws) (λ c. search next-guess-laws) (λ c. search next-guess-laws)
+    (λ c. search next-guess-laws) (λ c κs. search next-guess-laws) (λ c. search next-guess-laws) (λ c. search next-guess-laws)
+    (λ c. search next-guess-laws) (λ c. search next-guess-laws))

@@ -1,4 +1,3 @@
-use borrow.Author.Needs.{needs}
 use Rattle.pack.proofs.NumberLaws.{checked-told}
 use Rattle.pack.proofs.SectionLaws.{check-laws}
 use Rattle.pack.proofs.sections.check_pack.Statement.{statement}
@@ -6,5 +5,5 @@ use Rattle.pack.proofs.sections.check_pack.Tie as tie
 
 pub check-pack-spec : {M : Type 1} → statement M
 check-pack-spec =
-    tie.close
-    (tie.spec (λ c. search (check-laws, needs)) (λ c κs. search (check-laws, needs)) (λ c. search (check-laws, needs)) (λ c. search (check-laws, needs)) (λ c. search (checked-told, check-laws, needs)) (λ c. search (checked-told, check-laws, needs)))
+    tie.close (tie.spec (λ c. search check-laws) (λ c κs. search check-laws) (λ c. search check-laws) (λ c. search check-laws)
+    (λ c. search (checked-told, check-laws)) (λ c. search (checked-told, check-laws)))

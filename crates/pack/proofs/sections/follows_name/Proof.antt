@@ -1,17 +1,8 @@
-use borrow.Author.Needs.{needs}
 use Rattle.pack.proofs.SectionLaws.{follows-laws}
 use Rattle.pack.proofs.sections.follows_name.Statement.{statement}
 use Rattle.pack.proofs.sections.follows_name.Tie as tie
 
 pub follows-name-spec : {M : Type 1} → statement M
 follows-name-spec =
-    tie.close
-    (tie.spec
-    (λ c κs. search (follows-laws, needs))
-    (λ c. search (follows-laws, needs))
-    (λ c κs. search (follows-laws, needs))
-    (λ c. search (follows-laws, needs))
-    (λ c. search (follows-laws, needs))
-    (λ c. search (follows-laws, needs))
-    (λ c. search (follows-laws, needs))
-    (λ c. search (follows-laws, needs)))
+    tie.close (tie.spec (λ c κs. search follows-laws) (λ c. search follows-laws) (λ c κs. search follows-laws) (λ c. search follows-laws)
+    (λ c. search follows-laws) (λ c. search follows-laws) (λ c. search follows-laws) (λ c. search follows-laws))

@@ -1,4 +1,3 @@
-use borrow.Author.Needs.{needs}
 use Rattle.pack.proofs.SectionLaws.{Found, found-laws}
 use Rattle.pack.proofs.sections.lists_section.Statement.{statement}
 use Rattle.pack.proofs.sections.lists_section.Tie as tie
@@ -11,20 +10,6 @@ abbrev μ-loop : tie.MeasureT-loop
 
 pub lists-section-spec : {M : Type 1} → statement M
 lists-section-spec =
-    tie.close
-    (tie.spec
-    Inv-loop
-    μ-loop
-    (λ c. search (found-laws, needs))
-    (λ c κs. search (found-laws, needs))
-    (λ c. search (found-laws, needs))
-    (λ c κs. search (found-laws, needs))
-    (λ c. search (found-laws, needs))
-    (λ c. search (found-laws, needs))
-    (λ c. search (found-laws, needs))
-    (λ c. search (found-laws, needs))
-    (λ c. search (found-laws, needs))
-    (λ c. search (found-laws, needs))
-    (λ c. search (found-laws, needs))
-    (λ c. search (found-laws, needs))
-    (λ c. search (found-laws, needs)))
+    tie.close (tie.spec Inv-loop μ-loop (λ c. search found-laws) (λ c κs. search found-laws) (λ c. search found-laws) (λ c κs. search found-laws)
+    (λ c. search found-laws) (λ c. search found-laws) (λ c. search found-laws) (λ c. search found-laws) (λ c. search found-laws)
+    (λ c. search found-laws) (λ c. search found-laws) (λ c. search found-laws) (λ c. search found-laws))

@@ -1,4 +1,3 @@
-use borrow.Author.Needs.{needs}
 use Rattle.pack.proofs.SectionLaws.{Naming, naming-laws}
 use Rattle.pack.proofs.sections.names_section.Statement.{statement}
 use Rattle.pack.proofs.sections.names_section.Tie as tie
@@ -11,32 +10,9 @@ abbrev μ-loop : tie.MeasureT-loop
 
 pub names-section-spec : {M : Type 1} → statement M
 names-section-spec =
-    tie.close
-    (tie.spec
-    Inv-loop
-    μ-loop
-    (λ c. search (naming-laws, needs))
-    (λ c κs. search (naming-laws, needs))
-    (λ c. search (naming-laws, needs))
-    (λ c. search (naming-laws, needs))
-    (λ c κs. search (naming-laws, needs))
-    (λ c. search (naming-laws, needs))
-    (λ c. search (naming-laws, needs))
-    (λ c. search (naming-laws, needs))
-    (λ c. search (naming-laws, needs))
-    (λ c. search (naming-laws, needs))
-    (λ c. search (naming-laws, needs))
-    (λ c. search (naming-laws, needs))
-    (λ c κs. search (naming-laws, needs))
-    (λ c. search (naming-laws, needs))
-    (λ c. search (naming-laws, needs))
-    (λ c. search (naming-laws, needs))
-    (λ c κs. search (naming-laws, needs))
-    (λ c. search (naming-laws, needs))
-    (λ c. search (naming-laws, needs))
-    (λ c. search (naming-laws, needs))
-    (λ c. search (naming-laws, needs))
-    (λ c. search (naming-laws, needs))
-    (λ c. search (naming-laws, needs))
-    (λ c. search (naming-laws, needs))
-    (λ c. search (naming-laws, needs)))
+    tie.close (tie.spec Inv-loop μ-loop (λ c. search naming-laws) (λ c κs. search naming-laws) (λ c. search naming-laws) (λ c. search naming-laws)
+    (λ c κs. search naming-laws) (λ c. search naming-laws) (λ c. search naming-laws) (λ c. search naming-laws) (λ c. search naming-laws)
+    (λ c. search naming-laws) (λ c. search naming-laws) (λ c. search naming-laws) (λ c κs. search naming-laws) (λ c. search naming-laws)
+    (λ c. search naming-laws) (λ c. search naming-laws) (λ c κs. search naming-laws) (λ c. search naming-laws) (λ c. search naming-laws)
+    (λ c. search naming-laws) (λ c. search naming-laws) (λ c. search naming-laws) (λ c. search naming-laws) (λ c. search naming-laws)
+    (λ c. search naming-laws))

@@ -1,32 +1,12 @@
-use borrow.Author.Needs.{needs}
 use Rattle.phonemes.proofs.AltLaws.{alternative-laws}
 use Rattle.phonemes.proofs.phonemes.alternative.Statement.{statement}
 use Rattle.phonemes.proofs.phonemes.alternative.Tie as tie
 
 pub alternative-spec : {M : Type 1} → statement M
 alternative-spec =
-    tie.close
-    (tie.spec
-    (λ c κs. search (alternative-laws, needs))
-    (λ c κs. search (alternative-laws, needs))
-    (λ c κs. search (alternative-laws, needs))
-    (λ c. search (alternative-laws, needs))
-    (λ c. search (alternative-laws, needs))
-    (λ c. search (alternative-laws, needs))
-    (λ c. search (alternative-laws, needs))
-    (λ c. search (alternative-laws, needs))
-    (λ c κs. search (alternative-laws, needs))
-    (λ c. search (alternative-laws, needs))
-    (λ c κs. search (alternative-laws, needs))
-    (λ c. search (alternative-laws, needs))
-    (λ c. search (alternative-laws, needs))
-    (λ c. search (alternative-laws, needs))
-    (λ c. search (alternative-laws, needs))
-    (λ c κs. search (alternative-laws, needs))
-    (λ c. search (alternative-laws, needs))
-    (λ c κs. search (alternative-laws, needs))
-    (λ c. search (alternative-laws, needs))
-    (λ c. search (alternative-laws, needs))
-    (λ c. search (alternative-laws, needs))
-    (λ c. search (alternative-laws, needs))
-    (λ c. search (alternative-laws, needs)))
+    tie.close (tie.spec (λ c κs. search alternative-laws) (λ c κs. search alternative-laws) (λ c κs. search alternative-laws)
+    (λ c. search alternative-laws) (λ c. search alternative-laws) (λ c. search alternative-laws) (λ c. search alternative-laws)
+    (λ c. search alternative-laws) (λ c κs. search alternative-laws) (λ c. search alternative-laws) (λ c κs. search alternative-laws)
+    (λ c. search alternative-laws) (λ c. search alternative-laws) (λ c. search alternative-laws) (λ c. search alternative-laws)
+    (λ c κs. search alternative-laws) (λ c. search alternative-laws) (λ c κs. search alternative-laws) (λ c. search alternative-laws)
+    (λ c. search alternative-laws) (λ c. search alternative-laws) (λ c. search alternative-laws) (λ c. search alternative-laws))

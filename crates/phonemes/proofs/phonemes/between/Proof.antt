@@ -1,18 +1,8 @@
-use borrow.Author.Needs.{needs}
 use Rattle.phonemes.proofs.ExprLaws.{piece-laws}
 use Rattle.phonemes.proofs.phonemes.between.Statement.{statement}
 use Rattle.phonemes.proofs.phonemes.between.Tie as tie
 
 pub between-spec : {M : Type 1} → statement M
 between-spec =
-    tie.close
-    (tie.spec
-    (λ c. search (piece-laws, needs))
-    (λ c. search (piece-laws, needs))
-    (λ c. search (piece-laws, needs))
-    (λ c. search (piece-laws, needs))
-    (λ c. search (piece-laws, needs))
-    (λ c. search (piece-laws, needs))
-    (λ c. search (piece-laws, needs))
-    (λ c. search (piece-laws, needs))
-    (λ c. search (piece-laws, needs)))
+    tie.close (tie.spec (λ c. search piece-laws) (λ c. search piece-laws) (λ c. search piece-laws) (λ c. search piece-laws) (λ c. search piece-laws)
+    (λ c. search piece-laws) (λ c. search piece-laws) (λ c. search piece-laws) (λ c. search piece-laws))

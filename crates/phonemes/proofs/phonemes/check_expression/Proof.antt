@@ -1,4 +1,3 @@
-use borrow.Author.Needs.{needs}
 use Rattle.phonemes.proofs.NumberLaws.{expression-told}
 use Rattle.phonemes.proofs.ExprLaws.{check-laws}
 use Rattle.phonemes.proofs.phonemes.check_expression.Statement.{statement}
@@ -6,16 +5,6 @@ use Rattle.phonemes.proofs.phonemes.check_expression.Tie as tie
 
 pub check-expression-spec : {M : Type 1} → statement M
 check-expression-spec =
-    tie.close
-    (tie.spec
-    (λ c κs. search (check-laws, needs))
-    (λ c κs. search (check-laws, needs))
-    (λ c κs. search (check-laws, needs))
-    (λ c κs. search (check-laws, needs))
-    (λ c κs. search (check-laws, needs))
-    (λ c κs. search (check-laws, needs))
-    (λ c κs. search (check-laws, needs))
-    (λ c. search (expression-told, check-laws, needs))
-    (λ c. search (expression-told, check-laws, needs))
-    (λ c. search (expression-told, check-laws, needs))
-    (λ c. search (expression-told, check-laws, needs)))
+    tie.close (tie.spec (λ c κs. search check-laws) (λ c κs. search check-laws) (λ c κs. search check-laws) (λ c κs. search check-laws)
+    (λ c κs. search check-laws) (λ c κs. search check-laws) (λ c κs. search check-laws) (λ c. search (expression-told, check-laws))
+    (λ c. search (expression-told, check-laws)) (λ c. search (expression-told, check-laws)) (λ c. search (expression-told, check-laws)))

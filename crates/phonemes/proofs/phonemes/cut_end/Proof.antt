@@ -1,15 +1,8 @@
 use Rattle.phonemes.proofs.CutLaws.{cut-laws}
-use borrow.Author.Needs.{needs}
 use Rattle.phonemes.proofs.phonemes.cut_end.Statement.{statement}
 use Rattle.phonemes.proofs.phonemes.cut_end.Tie as tie
 
 pub cut-end-spec : {M : Type 1} → statement M
 cut-end-spec =
-    tie.close
-    (tie.spec
-    (λ c. search (cut-laws, needs))
-    (λ c. search (cut-laws, needs))
-    (λ c. search (cut-laws, needs))
-    (λ c κs. search (cut-laws, needs))
-    (λ c. search (cut-laws, needs))
-    (λ c. search (cut-laws, needs)))
+    tie.close (tie.spec (λ c. search cut-laws) (λ c. search cut-laws) (λ c. search cut-laws) (λ c κs. search cut-laws) (λ c. search cut-laws)
+    (λ c. search cut-laws))

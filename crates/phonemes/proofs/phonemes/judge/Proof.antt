@@ -1,7 +1,6 @@
 use Prim.Native.Nat.{_-_}
 use lib.ListN.{length}
 use Rattle.phonemes.proofs.CutLaws.{Judging, judging-laws}
-use borrow.Author.Needs.{needs}
 use Rattle.phonemes.proofs.phonemes.judge.Statement.{statement}
 use Rattle.phonemes.proofs.phonemes.judge.Tie as tie
 
@@ -13,25 +12,7 @@ abbrev μ-loop : tie.MeasureT-loop
 
 pub judge-spec : {M : Type 1} → statement M
 judge-spec =
-    tie.close
-    (tie.spec
-    Inv-loop
-    μ-loop
-    (λ c. search (judging-laws, needs))
-    (λ c κs. search (judging-laws, needs))
-    (λ c. search (judging-laws, needs))
-    (λ c. search (judging-laws, needs))
-    (λ c. search (judging-laws, needs))
-    (λ c κs. search (judging-laws, needs))
-    (λ c. search (judging-laws, needs))
-    (λ c. search (judging-laws, needs))
-    (λ c. search (judging-laws, needs))
-    (λ c κs. search (judging-laws, needs))
-    (λ c κs. search (judging-laws, needs))
-    (λ c. search (judging-laws, needs))
-    (λ c κs. search (judging-laws, needs))
-    (λ c. search (judging-laws, needs))
-    (λ c. search (judging-laws, needs))
-    (λ c. search (judging-laws, needs))
-    (λ c. search (judging-laws, needs))
-    (λ c. search (judging-laws, needs)))
+    tie.close (tie.spec Inv-loop μ-loop (λ c. search judging-laws) (λ c κs. search judging-laws) (λ c. search judging-laws) (λ c. search judging-laws)
+    (λ c. search judging-laws) (λ c κs. search judging-laws) (λ c. search judging-laws) (λ c. search judging-laws) (λ c. search judging-laws)
+    (λ c κs. search judging-laws) (λ c κs. search judging-laws) (λ c. search judging-laws) (λ c κs. search judging-laws) (λ c. search judging-laws)
+    (λ c. search judging-laws) (λ c. search judging-laws) (λ c. search judging-laws) (λ c. search judging-laws))

@@ -2,7 +2,6 @@ use Prim.Native.Nat.{_-_}
 use lib.ListN.{length}
 use Rattle.languages.proofs.NumberLaws.{listed-one, listed-told}
 use Rattle.phonemes.proofs.CutLaws.{Naming, naming-laws}
-use borrow.Author.Needs.{needs}
 use Rattle.phonemes.proofs.phonemes.names_mask.Statement.{statement}
 use Rattle.phonemes.proofs.phonemes.names_mask.Tie as tie
 
@@ -14,20 +13,7 @@ abbrev μ-loop : tie.MeasureT-loop
 
 pub names-mask-spec : {M : Type 1} → statement M
 names-mask-spec =
-    tie.close
-    (tie.spec
-    Inv-loop
-    μ-loop
-    (λ c. search (naming-laws, needs))
-    (λ c κs. search (naming-laws, needs))
-    (λ c. search (naming-laws, needs))
-    (λ c. search (naming-laws, needs))
-    (λ c. search (naming-laws, needs))
-    (λ c κs. search (naming-laws, needs))
-    (λ c. search (naming-laws, needs))
-    (λ c. search (listed-told, listed-one, naming-laws, needs))
-    (λ c. search (naming-laws, needs))
-    (λ c. search (naming-laws, needs))
-    (λ c. search (listed-one, naming-laws, needs))
-    (λ c. search (naming-laws, needs))
-    (λ c. search (listed-told, listed-one, naming-laws, needs)))
+    tie.close (tie.spec Inv-loop μ-loop (λ c. search naming-laws) (λ c κs. search naming-laws) (λ c. search naming-laws) (λ c. search naming-laws)
+    (λ c. search naming-laws) (λ c κs. search naming-laws) (λ c. search naming-laws) (λ c. search (listed-told, listed-one, naming-laws))
+    (λ c. search naming-laws) (λ c. search naming-laws) (λ c. search (listed-one, naming-laws)) (λ c. search naming-laws)
+    (λ c. search (listed-told, listed-one, naming-laws)))

@@ -1,20 +1,9 @@
-use borrow.Author.Needs.{needs}
 use Rattle.phonemes.proofs.ExprLaws.{piece-laws}
 use Rattle.phonemes.proofs.phonemes.names_part.Statement.{statement}
 use Rattle.phonemes.proofs.phonemes.names_part.Tie as tie
 
 pub names-part-spec : {M : Type 1} → statement M
 names-part-spec =
-    tie.close
-    (tie.spec
-    (λ c. search (piece-laws, needs))
-    (λ c. search (piece-laws, needs))
-    (λ c. search (piece-laws, needs))
-    (λ c. search (piece-laws, needs))
-    (λ c. search (piece-laws, needs))
-    (λ c. search (piece-laws, needs))
-    (λ c. search (piece-laws, needs))
-    (λ c. search (piece-laws, needs))
-    (λ c. search (piece-laws, needs))
-    (λ c. search (piece-laws, needs))
-    (λ c. search (piece-laws, needs)))
+    tie.close (tie.spec (λ c. search piece-laws) (λ c. search piece-laws) (λ c. search piece-laws) (λ c. search piece-laws) (λ c. search piece-laws)
+    (λ c. search piece-laws) (λ c. search piece-laws) (λ c. search piece-laws) (λ c. search piece-laws) (λ c. search piece-laws)
+    (λ c. search piece-laws))

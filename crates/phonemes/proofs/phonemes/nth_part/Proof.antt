@@ -1,7 +1,6 @@
 use Prim.Native.Nat.{_-_}
 use lib.ListN.{length}
 use Rattle.phonemes.proofs.CutLaws.{Finding, finding-laws}
-use borrow.Author.Needs.{needs}
 use Rattle.phonemes.proofs.phonemes.nth_part.Statement.{statement}
 use Rattle.phonemes.proofs.phonemes.nth_part.Tie as tie
 
@@ -13,15 +12,5 @@ abbrev μ-loop : tie.MeasureT-loop
 
 pub nth-part-spec : {M : Type 1} → statement M
 nth-part-spec =
-    tie.close
-    (tie.spec
-    Inv-loop
-    μ-loop
-    (λ c. search (finding-laws, needs))
-    (λ c κs. search (finding-laws, needs))
-    (λ c. search (finding-laws, needs))
-    (λ c. search (finding-laws, needs))
-    (λ c. search (finding-laws, needs))
-    (λ c. search (finding-laws, needs))
-    (λ c. search (finding-laws, needs))
-    (λ c. search (finding-laws, needs)))
+    tie.close (tie.spec Inv-loop μ-loop (λ c. search finding-laws) (λ c κs. search finding-laws) (λ c. search finding-laws) (λ c. search finding-laws)
+    (λ c. search finding-laws) (λ c. search finding-laws) (λ c. search finding-laws) (λ c. search finding-laws))

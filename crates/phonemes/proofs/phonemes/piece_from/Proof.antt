@@ -1,7 +1,6 @@
-use borrow.Author.Needs.{needs}
 use Rattle.phonemes.proofs.ExprLaws.{piece-laws}
 use Rattle.phonemes.proofs.phonemes.piece_from.Statement.{statement}
 use Rattle.phonemes.proofs.phonemes.piece_from.Tie as tie
 
 pub piece-from-spec : {M : Type 1} → statement M
-piece-from-spec = tie.close (tie.spec (λ c κs. search (piece-laws, needs)) (λ c. search (piece-laws, needs)) (λ c κs. search (piece-laws, needs)) (λ c. search (piece-laws, needs)))
+piece-from-spec = tie.close (tie.spec (λ c κs. search piece-laws) (λ c. search piece-laws) (λ c κs. search piece-laws) (λ c. search piece-laws))

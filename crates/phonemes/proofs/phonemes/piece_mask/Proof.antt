@@ -1,4 +1,3 @@
-use borrow.Author.Needs.{needs}
 use Rattle.languages.proofs.NumberLaws.{listed-one}
 use Rattle.phonemes.proofs.ExprLaws.{piece-laws}
 use Rattle.phonemes.proofs.phonemes.piece_mask.Statement.{statement}
@@ -6,5 +5,5 @@ use Rattle.phonemes.proofs.phonemes.piece_mask.Tie as tie
 
 pub piece-mask-spec : {M : Type 1} → statement M
 piece-mask-spec =
-    tie.close
-    (tie.spec (λ c κs. search (piece-laws, needs)) (λ c κs. search (piece-laws, needs)) (λ c κs. search (piece-laws, needs)) (λ c. search (listed-one, piece-laws, needs)) (λ c. search (listed-one, piece-laws, needs)))
+    tie.close (tie.spec (λ c κs. search piece-laws) (λ c κs. search piece-laws) (λ c κs. search piece-laws) (λ c. search (listed-one, piece-laws))
+    (λ c. search (listed-one, piece-laws)))

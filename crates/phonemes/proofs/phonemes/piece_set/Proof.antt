@@ -1,16 +1,8 @@
-use borrow.Author.Needs.{needs}
 use Rattle.phonemes.proofs.ExprLaws.{piece-laws}
 use Rattle.phonemes.proofs.phonemes.piece_set.Statement.{statement}
 use Rattle.phonemes.proofs.phonemes.piece_set.Tie as tie
 
 pub piece-set-spec : {M : Type 1} → statement M
 piece-set-spec =
-    tie.close
-    (tie.spec
-    (λ c κs. search (piece-laws, needs))
-    (λ c κs. search (piece-laws, needs))
-    (λ c. search (piece-laws, needs))
-    (λ c. search (piece-laws, needs))
-    (λ c. search (piece-laws, needs))
-    (λ c. search (piece-laws, needs))
-    (λ c. search (piece-laws, needs)))
+    tie.close (tie.spec (λ c κs. search piece-laws) (λ c κs. search piece-laws) (λ c. search piece-laws) (λ c. search piece-laws)
+    (λ c. search piece-laws) (λ c. search piece-laws) (λ c. search piece-laws))

@@ -1,7 +1,6 @@
 use Prim.Native.Nat.{_-_}
 use lib.ListN.{length}
 use Rattle.prefixes.specs.Prefixes.{among}
-use borrow.Author.Needs.{needs}
 use Rattle.prefixes.proofs.PrefixLaws.{Walking, prefix-laws}
 use Rattle.prefixes.proofs.prefixes.is_among.Statement.{statement}
 use Rattle.prefixes.proofs.prefixes.is_among.Tie as tie
@@ -14,19 +13,6 @@ abbrev μ-loop : tie.MeasureT-loop
 
 pub is-among-spec : {M : Type 1} → statement M
 is-among-spec =
-    tie.close
-    (tie.spec
-    Inv-loop
-    μ-loop
-    (λ c. search (prefix-laws, needs))
-    (λ c κs. search (prefix-laws, needs))
-    (λ c. search (prefix-laws, needs))
-    (λ c. search (prefix-laws, needs))
-    (λ c. search (prefix-laws, needs))
-    (λ c. search (prefix-laws, needs))
-    (λ c κs. search (prefix-laws, needs))
-    (λ c. search (prefix-laws, needs))
-    (λ c. search (prefix-laws, needs))
-    (λ c. search (prefix-laws, needs))
-    (λ c. search (prefix-laws, needs))
-    (λ c. search (prefix-laws, needs)))
+    tie.close (tie.spec Inv-loop μ-loop (λ c. search prefix-laws) (λ c κs. search prefix-laws) (λ c. search prefix-laws) (λ c. search prefix-laws)
+    (λ c. search prefix-laws) (λ c. search prefix-laws) (λ c κs. search prefix-laws) (λ c. search prefix-laws) (λ c. search prefix-laws)
+    (λ c. search prefix-laws) (λ c. search prefix-laws) (λ c. search prefix-laws))

@@ -1,7 +1,6 @@
-use borrow.Author.Needs.{needs}
 use Rattle.rule.proofs.Bare.{bare-laws}
 use Rattle.rule.proofs.matching.is_bare.Statement.{statement}
 use Rattle.rule.proofs.matching.is_bare.Tie as tie
 
 pub is-bare-spec : {M : Type 1} → statement M
-is-bare-spec = tie.close (tie.spec (λ c κs. search (bare-laws, needs)) (λ c. search (bare-laws, needs)))
+is-bare-spec = tie.close (tie.spec (λ c κs. search bare-laws) (λ c. search bare-laws))

@@ -1,8 +1,7 @@
-use borrow.Author.Needs.{needs}
 use Rattle.rule.proofs.Bare.{bare-laws}
 use Rattle.rule.proofs.matching.is_rule_text.Statement.{statement}
 use Rattle.rule.proofs.matching.is_rule_text.Tie as tie
 
 pub is-rule-text-spec : {M : Type 1} → statement M
 is-rule-text-spec =
-    tie.close (tie.spec (λ c κs. search (bare-laws, needs)) (λ c κs. search (bare-laws, needs)) (λ c. search (bare-laws, needs)) (λ c. search (bare-laws, needs)))
+    tie.close (tie.spec (λ c κs. search bare-laws) (λ c κs. search bare-laws) (λ c. search bare-laws) (λ c. search bare-laws))

@@ -4,7 +4,6 @@ use lib.ListN.{length}
 use Rattle.letters.proofs.ReadingLaws.{Walk}
 use Rattle.rule.specs.Matching.{plainIn}
 use Rattle.rule.proofs.MatchLaws.{plain-laws}
-use borrow.Author.Needs.{needs}
 use Rattle.rule.proofs.matching.reads_as_text.Statement.{statement}
 use Rattle.rule.proofs.matching.reads_as_text.Tie as tie
 
@@ -16,19 +15,6 @@ abbrev μ-loop : tie.MeasureT-loop
 
 pub reads-as-text-spec : {M : Type 1} → statement M
 reads-as-text-spec =
-    tie.close
-    (tie.spec
-    Inv-loop
-    μ-loop
-    (λ c. search (plain-laws, needs))
-    (λ c κs. search (plain-laws, needs))
-    (λ c. search (plain-laws, needs))
-    (λ c κs. search (plain-laws, needs))
-    (λ c. search (plain-laws, needs))
-    (λ c. search (plain-laws, needs))
-    (λ c. search (plain-laws, needs))
-    (λ c. search (plain-laws, needs))
-    (λ c. search (plain-laws, needs))
-    (λ c. search (plain-laws, needs))
-    (λ c. search (plain-laws, needs))
-    (λ c. search (plain-laws, needs)))
+    tie.close (tie.spec Inv-loop μ-loop (λ c. search plain-laws) (λ c κs. search plain-laws) (λ c. search plain-laws) (λ c κs. search plain-laws)
+    (λ c. search plain-laws) (λ c. search plain-laws) (λ c. search plain-laws) (λ c. search plain-laws) (λ c. search plain-laws)
+    (λ c. search plain-laws) (λ c. search plain-laws) (λ c. search plain-laws))

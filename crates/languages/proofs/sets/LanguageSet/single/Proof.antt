@@ -22,6 +22,4 @@ unfolding singleOf
 returns-4 c = search (told singleOf, cases)
 
 pub single-spec : {M : Type 1} → statement M
-single-spec =
-    tie.close
-    (tie.spec (λ c. search needs) (λ c. search needs) (λ c. search needs) returns returns-2 returns-3 returns-4)
+single-spec = tie.close (tie.spec (λ c. search needs) (λ c. search needs) (λ c. search needs) returns returns-2 returns-3 returns-4)

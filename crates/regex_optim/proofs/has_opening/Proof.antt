@@ -1,7 +1,0 @@
-use borrow.Author.Needs.{needs}
-use Rattle.regex_optim.proofs.Laws.{part-laws}
-use Rattle.regex_optim.proofs.has_opening.Statement.{statement}
-use Rattle.regex_optim.proofs.has_opening.Tie as tie
-
-pub has-opening-spec : {M : Type 1} → statement M
-has-opening-spec = tie.close (tie.spec (λ c κs. search (part-laws, needs)) (λ c. search (part-laws, needs)))
