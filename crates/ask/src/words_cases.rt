@@ -2,6 +2,7 @@
 use cases::Said;
 use languages::LanguageSet;
 use pack::Surveyed;
+use phoneme_builder::Plan;
 use phoneme_builder::Worded;
 use rule_index::Table;
 
@@ -16,19 +17,11 @@ fn set_of(kind: usize, bits: usize) -> LanguageSet {
     }
 }
 
-// The lists and the limit that a word is spelled by.
-struct By {
-    main: usize,
-    common: usize,
-    last: usize,
-    limit: usize,
-}
-
 // Whether a pack of so many languages has these lists.
-fn are_listed(by: By, languages: usize) -> bool {
+fn are_listed(by: Plan, languages: usize) -> bool {
     if languages <= 32 {
         let lists = 3 * languages + 2;
-        by.main < lists && by.common < lists && by.last < lists
+        by.main < lists && by.common < lists && by.own < lists
     } else {
         false
     }
@@ -43,38 +36,16 @@ fn fitted(flag: bool, length: usize, room: usize) -> Said {
 }
 
 // A word spelled by lists of a table.
-fn spelled(
-    kept: &[u8],
-    names: &[u8],
-    table: &Table,
-    by: By,
-    set: LanguageSet,
-    word: &[u8],
-    made: &mut [u8],
-) -> Said {
-    let mut store = [0u8; 131072];
-    let mut marks = [0u64; 1024];
-    let mut alts = [0u64; 256];
-    match phoneme_builder::word(
-        &mut store,
-        &mut marks,
-        &mut alts,
-        kept,
-        names,
-        table,
-        by.main,
-        by.common,
-        by.last,
-        set,
-        word,
-        by.limit,
-        made,
-        0,
-    ) {
+fn spelled(kept: &[u8], table: &Table, by: Plan, word: &[u8], made: &mut [u8]) -> Said {
+    if 256 < by.limit {
+        return cases::word(cases::NO_CASE);
+    }
+    let mut store = [[0u8; 32768]; 4];
+    let mut slots = [[0u64; 256]; 4];
+    match phoneme_builder::word(&mut store, &mut slots, kept, table, by, word, made, 0) {
         Worded::Done { length, flag } => fitted(flag, length, made.len()),
         Worded::TooLong => Said::Count(cases::PLAIN, 7),
         Worded::TooMany => Said::Count(cases::PLAIN, 8),
-        Worded::Unfit => cases::word(cases::NO_CASE),
     }
 }
 
@@ -83,22 +54,16 @@ pub fn word(given: &[u8], tells: &[usize; 9], made: &mut [u8], kept: &[u8]) -> S
     let mut table = [[0usize; 128]; 98];
     match rule_index::index(kept, &mut table) {
         Surveyed::Accepted { languages, guesses } => {
-            let by = By {
+            let by = Plan {
                 main: tells[1],
                 common: tells[2],
-                last: tells[3],
+                own: tells[3],
                 limit: tells[4],
+                guesses,
+                set: set_of(tells[5], tells[6]),
             };
             if are_listed(by, languages) {
-                return spelled(
-                    kept,
-                    cases::part(kept, 1, guesses),
-                    &table,
-                    by,
-                    set_of(tells[5], tells[6]),
-                    cases::part(given, 0, tells[7]),
-                    made,
-                );
+                return spelled(kept, &table, by, cases::part(given, 0, tells[7]), made);
             }
             cases::word(cases::NO_CASE)
         }

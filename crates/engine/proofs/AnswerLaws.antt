@@ -32,7 +32,7 @@ use Rattle.choices.specs.Texts.{Text}
 use Rattle.engine.specs.Spelling.{Spelt, unspelt, speltAs, onePart, partedAs, spelledName}
 use Rattle.engine.specs.Calls.{settingsKnown, kindKnown, haveLanguages, stepsBy, stepsOf, spelledBy, CallOutcome, refusedBy, outcomeOf, onPack, checkedThen, callOf, numbersIn, spelledNumbers, filledBy, SpellIs}
 use Rattle.rule_index.specs.Contracts.{packIn}
-use Rattle.engine.specs.Contracts.{AtDesk, DeskIs, CallReady, Scratch, callFor, FoundIs, stepsAt, startAt, isSpelt, ToldBy, NameTold, wholeBy, ToldWhole, answeredBy, wholeAnd, KeptAll, none, over, copied, HeldApartIs, toldOf}
+use Rattle.engine.specs.Contracts.{AtDesk, DeskIs, CallReady, callFor, FoundIs, stepsAt, startAt, isSpelt, ToldBy, NameTold, wholeBy, ToldWhole, answeredBy, wholeAnd, KeptAll, none, over, copied, HeldApartIs, toldOf}
 use Rattle.engine.specs.declared.call.Call.{Call}
 use Rattle.engine.specs.declared.encode.Ends.{Ends}
 use Rattle.engine.specs.declared.spelling.Spelled.{Spelled}
@@ -303,6 +303,3 @@ module _ (c : Settings) (start : Start) (s : List ℕ) (table : List (List ℕ))
 -- the promise of a call allows one answer and one content of the buffer
 pub spell-one : {x : CallOutcome} {out o o′ : List ℕ} {r r′ : Spelled} → SpellIs x out r o → SpellIs x out r′ o′ → (r ≡ r′) × (o ≡ o′)
 spell-one a b = (numbers-one _ _ (one (a .result) (b .result)), one (a .buffer) (b .buffer))
-
-pub scratch-new : (a b : ℕ) → a ≡ 131072 → b ≡ 1024 → Scratch (length (replicate {A = ℕ} a 0)) (length (replicate {A = ℕ} b 0))
-scratch-new a b ea eb = record { store-is = length-replicate {A = ℕ} a 0 ∙ ea; marks-is = length-replicate {A = ℕ} b 0 ∙ eb }

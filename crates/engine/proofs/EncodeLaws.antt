@@ -35,14 +35,14 @@ use Rattle.refusals.specs.declared.Refusal.the-variants.{TextTooLong, TooManyTe
 use Rattle.refusals.proofs.NumberLaws.{number-one}
 use Rattle.phoneme_builder.specs.Sets.{Spelling, refusal, texts}
 use Rattle.phoneme_builder.specs.Passes.{wordOf, joined}
-use Rattle.phoneme_builder.specs.TableContracts.{areLists}
 use Rattle.rule_index.specs.Contracts.{packIn, matcher}
-use Rattle.phoneme_builder.specs.Contracts.{WordIs, placed, placedAs, areBuffers, spellingsIn, answerOf, answered}
+use Rattle.phoneme_builder.specs.Contracts.{WordIs, placed, placedAs, spellingsIn, answerOf, answered, namesIn}
+use Rattle.phoneme_builder.specs.Contracts as built
 use Rattle.phoneme_builder.specs.declared.words.Worded.{Worded}
-use Rattle.phoneme_builder.specs.declared.words.Worded.the-variants.{Done, TooLong, TooMany, Unfit}
+use Rattle.phoneme_builder.specs.declared.words.Worded.the-variants.{Done, TooLong, TooMany}
 use Rattle.engine.specs.Spelling.{unspelt, speltAs, or, onePart, eachWord, partedAs, spelledName, afreshBy}
 use Rattle.engine.specs.Calls.{languageBy, languageOf, listNumbered, speltBy, wordBy, stepsBy}
-use Rattle.engine.specs.Contracts.{CallReady, Scratch, afreshOf, stepsAt, startAt, listNumbers, isSpelt, ToldBy, NameTold, wholeBy, ToldWhole, EndedIs, bothOf, HyphenAt}
+use Rattle.engine.specs.Contracts.{CallReady, afreshOf, stepsAt, startAt, listNumbers, isSpelt, ToldBy, NameTold, wholeBy, ToldWhole, EndedIs, bothOf, HyphenAt}
 use Rattle.engine.proofs.SpellingLaws.{not-or, parted-split, name-parted, name-plain, name-words}
 use Rattle.engine.proofs.ToldLaws.{bad-told, both-told}
 use Rattle.engine.specs.declared.call.Call.{Call}
@@ -86,11 +86,9 @@ module _ {o o′ : List ℕ} {at : ℕ} {r : Ends} (room : length o < cap) where
       whole-good (joined (spellingsIn l)) flag (rw en at (w .0)) (w .1 ∙ ef) (w .2) b
   word-told (texts l flag) TooLong e b w = clash (cc)
   word-told (texts l flag) TooMany e b w = clash (cc)
-  word-told (texts l flag) Unfit e b w = clash (cc)
   word-told (refusal k) (Done n f) e b w = clash (cc)
   word-told (refusal k) TooLong e b w = whole-bad TextTooLong k (cc) w b
   word-told (refusal k) TooMany e b w = whole-bad TooManyTexts k (cc) w b
-  word-told (refusal k) Unfit e b w = clash (cc)
 
 -- ---- a call that is ready
 
@@ -157,32 +155,20 @@ module _ (s : List ℕ) (table : List (List ℕ)) (call : Call) (w : CallReady s
       abbrev spelled-word : Lists → Spelling
       spelled-word x = wordOf (call .limit) (take (call .guesses - 1) (drop 1 s)) (matcher s table (x .main)) (matcher s table (x .common)) (matcher s table (x .own)) set word
 
-      abbrev fitting : Lists → ℕ → ℕ → Bool
-      fitting x a b = and (leb (call .limit) 256) (and (areBuffers a b 256) (areLists (x .main) (x .common) (x .own)))
-
       word-is : stepsAt s call .word set word ≡ speltBy (spelled-word (listNumbers call l))
       unfolding stepsAt stepsBy wordBy listNumbers listNumbered
       word-is =
           let names : call .guesses - 1 ≡ stringsLength (packIn s .names) = omega (arith, w .desk .guesses-are) in
           rw (language-is, names, w .desk .finds (3 * l), w .desk .finds (3 * (call .languages) + call .rules), w .desk .finds (3 * l + 1 + call .rules), w .desk .languages-are)
 
-      fits : (a b : ℕ) → Scratch a b → fitting (listNumbers call l) a b ≡ true
-      unfolding areBuffers areLists listNumbers
-      fits a b x =
-          and-yes _ _ (le-leb _ _ (w .few))
-          (and-yes _ _
-          (and-yes _ _ (eq-eqb _ _ (x .store-is)) (and-yes _ _ (eq-eqb _ _ (x .marks-is)) refl))
-          (and-yes _ _ (lt-ltb _ _ (few-lists main-in)) (and-yes _ _ (lt-ltb _ _ (few-lists common-in)) (lt-ltb _ _ (few-lists own-in)))))
-
-      pub one-told : {o o′ : List ℕ} {at : ℕ} {r : Ends} {answer : Worded} (lists : Lists) (a b : ℕ) → lists ≡ listNumbers call l → Scratch a b → length o * 1 < cap
-          → WordIs (and (leb (call .limit) 256) (and (areBuffers a b 256) (areLists (lists .main) (lists .common) (lists .own))))
-          (wordOf (call .limit) (take (call .guesses - 1) (drop 1 s)) (matcher s table (lists .main)) (matcher s table (lists .common)) (matcher s table (lists .own)) set word)
-          o o′ at answer
+      pub one-told : {o o′ : List ℕ} {at : ℕ} {r : Ends} {answer : Worded} (lists : Lists) → lists ≡ listNumbers call l → length o * 1 < cap
+          → WordIs (built.wordBy s table (record { main = lists .main; common = lists .common; own = lists .own; limit = call .limit; guesses = call .guesses; set = set }) word) o o′ at answer
           → EndedIs answer at r → ToldWhole (stepsAt s call .word set word) o o′ at r
-      one-told {o = o} lists a b e x room q ended =
-          let fit = fits a b x in
-          let v : WordIs (fitting (listNumbers call l) a b) (spelled-word (listNumbers call l)) _ _ _ _ = rw e at q in
-          rw word-is (word-told (slice-room o room) (spelled-word (listNumbers call l)) _ (v .result ∙ pick-true _ _ _ fit) (v .buffer ∙ pick-true _ _ _ fit) ended)
+      unfolding namesIn
+      one-told {o = o} lists e room q ended =
+          let capped : min (call .limit) 256 ≡ call .limit = omega (arith, w .few) in
+          let v : WordIs (spelled-word (listNumbers call l)) _ _ _ _ = rw (e, capped) at q in
+          rw word-is (word-told (slice-room o room) (spelled-word (listNumbers call l)) _ (v .result) (v .buffer) ended)
 
 -- ---- a name by its parts
 
@@ -277,10 +263,6 @@ module _ (a : Worded) (at : ℕ) where
   unfolding EndedIs
   ended-many e = rw e (refl, refl)
 
-  pub ended-unfit : (r : Ends) → a ≡ Unfit → EndedIs a at r
-  unfolding EndedIs
-  ended-unfit r e = rw e tt
-
 pub hyphen-none : (o : List ℕ) (at p : ℕ) → p ≡ 0 → HyphenAt o o at p at
 hyphen-none o at p e = record { first = λ h. (refl, refl); later = λ h. absurd (h e) }
 
@@ -309,7 +291,7 @@ module _ (kind : NameType) (name : Text) where
   unfolding partedAs
   part-generic x e q = rw e q
 
-pub ruleset encode-laws = (or-yes, or-rest, both-joined, both-kept, ended-done, ended-long, ended-many, ended-unfit, hyphen-none, hyphen-put, language-one, language-any, part-ashkenazi, part-sephardic, part-generic)
+pub ruleset encode-laws = (or-yes, or-rest, both-joined, both-kept, ended-done, ended-long, ended-many, hyphen-none, hyphen-put, language-one, language-any, part-ashkenazi, part-sephardic, part-generic)
 
 -- ---- a text at the front of a local array
 

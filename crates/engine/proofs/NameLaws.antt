@@ -17,7 +17,7 @@ use Rattle.name_parts.proofs.Laws.{word-later, past-within, word-shorter}
 use Rattle.writing.proofs.Laws.{slice-room}
 use Rattle.refusals.specs.declared.Refusal.{Refusal}
 use Rattle.engine.specs.Spelling.{Spelt, partedAs, spelledName, eachWord, afreshBy}
-use Rattle.engine.specs.Contracts.{Scratch, afreshOf, stepsAt, startAt, NameTold, bothOf, HyphenAt}
+use Rattle.engine.specs.Contracts.{afreshOf, stepsAt, startAt, NameTold, bothOf, HyphenAt}
 use Rattle.engine.specs.declared.call.Call.{Call}
 use Rattle.engine.specs.declared.encode.Ends.{Ends}
 use Rattle.engine.proofs.ToldLaws.{WordsTold, words-start, words-end, words-place, words-turn, a-word}
@@ -25,9 +25,6 @@ use Rattle.engine.proofs.EncodeLaws.{rest-short, joined-part, front-is}
 use Rattle.base.proofs.Stores.{rest-is}
 
 -- the buffers keep their sizes
-pub scratch-kept : {a b a′ b′ : ℕ} → Scratch a b → a′ ≡ a → b′ ≡ b → Scratch a′ b′
-scratch-kept x ea eb = record { store-is = ea ∙ x .store-is; marks-is = eb ∙ x .marks-is }
-
 -- the measures: twice a name's length and one, and twice the length for its words
 module _ {m n : ℕ} (h : m < n) where
   pub name-falls : {t : ℕ} → n * 2 + 1 ≡ t → m * 2 + 1 < t
@@ -68,27 +65,20 @@ module _ (s : List ℕ) (call again : Call) (e : again ≡ afreshOf call) where
 -- ---- words
 
 -- the invariant of the loop: the words so far are told, and every buffer has its size
-pub record WordsHeld (f : Text → Spelt) (name : Text) (o₀ o : List ℕ) (at p : ℕ) (all : Ends) (a₀ b₀ a b : ℕ) : Type 0 where
+pub record WordsHeld (f : Text → Spelt) (name : Text) (o₀ o : List ℕ) (at p : ℕ) (all : Ends) : Type 0 where
   pub told : WordsTold f name o₀ o at p all
   pub within : p ≤ length name
-  pub store-same : a ≡ a₀
-  pub marks-same : b ≡ b₀
   pub out-same : length o ≡ length o₀
 
-pub held-start : (f : Text → Spelt) (name : Text) (o : List ℕ) (at : ℕ) (why : Refusal) (a b : ℕ) → at ≤ cap → length o * 1 < cap
-    → WordsHeld f name o o at 0 (record { at = at; flag = false; fine = true; why = why }) a b a b
-held-start f name o at why a b h r = record {
+pub held-start : (f : Text → Spelt) (name : Text) (o : List ℕ) (at : ℕ) (why : Refusal) → at ≤ cap → length o * 1 < cap
+    → WordsHeld f name o o at 0 (record { at = at; flag = false; fine = true; why = why })
+held-start f name o at why h r = record {
   told = words-start f name o at why h (slice-room o r);
   within = zero-le;
-  store-same = refl;
-  marks-same = refl;
   out-same = refl;
 }
 
-module _ {f : Text → Spelt} {name : Text} {o₀ o : List ℕ} {at p : ℕ} {all : Ends} {a₀ b₀ a b : ℕ} (k : WordsHeld f name o₀ o at p all a₀ b₀ a b) where
-  pub held-scratch : Scratch a₀ b₀ → Scratch a b
-  held-scratch x = scratch-kept x (k .store-same) (k .marks-same)
-
+module _ {f : Text → Spelt} {name : Text} {o₀ o : List ℕ} {at p : ℕ} {all : Ends} (k : WordsHeld f name o₀ o at p all) where
   module _ (w : Text) (ew : w ≡ wordAt name p) where
     pub held-end : length w ≡ 0 → NameTold (eachWord f (wordsOf name)) o₀ o at all
     held-end h = words-end w ew (k .told) h
@@ -104,12 +94,10 @@ module _ {f : Text → Spelt} {name : Text} {o₀ o : List ℕ} {at p : ℕ} {al
         pub held-place : q ≤ cap
         held-place = words-place w ew some h (k .told)
 
-        pub held-turn : {o₂ : List ℕ} {b′ r : Ends} {p′ a₁ b₁ : ℕ} → NameTold (f w) o₁ o₂ q b′ → r ≡ bothOf all b′ (b′ .at) → p′ ≡ pastWord name p
-            → a₁ ≡ a → b₁ ≡ b → length o₂ ≡ length o → WordsHeld f name o₀ o₂ at p′ r a₀ b₀ a₁ b₁
-        held-turn {p′ = p′} tb e ep ea eb eo = record {
+        pub held-turn : {o₂ : List ℕ} {b′ r : Ends} {p′ : ℕ} → NameTold (f w) o₁ o₂ q b′ → r ≡ bothOf all b′ (b′ .at) → p′ ≡ pastWord name p
+            → length o₂ ≡ length o → WordsHeld f name o₀ o₂ at p′ r
+        held-turn {p′ = p′} tb e ep eo = record {
           told = words-turn w ew some h tb e (k .told) p′ ep;
           within = rw ep (past-within name p (a-word name p w ew some));
-          store-same = ea ∙ k .store-same;
-          marks-same = eb ∙ k .marks-same;
           out-same = eo ∙ k .out-same;
         }

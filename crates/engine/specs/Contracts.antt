@@ -17,7 +17,7 @@ use Rattle.refusals.specs.declared.Refusal.the-variants.{TextTooLong, TooManyTe
 use Rattle.choices.specs.Texts.{Text}
 use Rattle.rule_index.specs.Contracts.{packIn, Finds}
 use Rattle.phoneme_builder.specs.declared.words.Worded.{Worded}
-use Rattle.phoneme_builder.specs.declared.words.Worded.the-variants.{Done, TooLong, TooMany, Unfit}
+use Rattle.phoneme_builder.specs.declared.words.Worded.the-variants.{Done, TooLong, TooMany}
 use Rattle.engine.specs.Spelling.{Spelt, unspelt, speltAs, Steps, or}
 use Rattle.engine.specs.Calls.{stepsBy, startSet, typeOf, CallOutcome, refusedBy, key}
 use Rattle.engine.specs.declared.spelling.Spelled.{Spelled}
@@ -94,11 +94,6 @@ stepsAt s c = stepsBy s (packIn s) (c .kind) (c .rules) (c .concat) (c .limit)
 unfoldable pub startAt : List ℕ → Call → Text → LanguageSet
 startAt s c t = pick (c .fresh) (stepsAt s c .guess t) (c .set)
 
--- the sizes of the buffers that are lent for the work
-pub record Scratch (store marks : ℕ) : Type 0 where
-  pub store-is : store ≡ 131072
-  pub marks-is : marks ≡ 1024
-
 -- the numbers of a language's lists
 unfoldable pub listNumbers : Call → ℕ → Lists
 listNumbers c l = record { main = 3 * l; common = 3 * (c .languages) + c .rules; own = 3 * l + 1 + c .rules }
@@ -138,7 +133,6 @@ unfoldable pub EndedIs : Worded → ℕ → Ends → Type 0
 EndedIs (Done length flag) at r = (r .at ≡ min (at + length) cap) × (r .flag ≡ flag) × (r .fine ≡ true)
 EndedIs TooLong at r = (r .fine ≡ false) × (r .why ≡ TextTooLong)
 EndedIs TooMany at r = (r .fine ≡ false) × (r .why ≡ TooManyTexts)
-EndedIs Unfit at r = Unit {0}
 
 -- two answers as one that ends at a place
 unfoldable pub bothOf : Ends → Ends → ℕ → Ends

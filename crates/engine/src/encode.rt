@@ -10,13 +10,16 @@ ghost use Rattle.name_parts.specs.Words.{oneWord, wordsOf};
 ghost use Rattle.writing.specs.Contracts.{cap, Put};
 ghost use Rattle.engine.specs.Spelling.{partedAs, or, spelledName, onePart, eachWord, afreshBy};
 ghost use Rattle.engine.specs.Calls.{languageBy};
-ghost use Rattle.engine.specs.Contracts.{CallReady, Scratch, stepsAt, startAt, listNumbers, EndedIs, NameTold, ToldWhole, bothOf, HyphenAt};
+ghost use Rattle.engine.specs.Contracts.{CallReady, stepsAt, startAt, listNumbers, EndedIs, NameTold, ToldWhole, bothOf, HyphenAt};
 ghost use Rattle.languages.specs.Contracts.{BitsBelow};
 ghost use Rattle.pack.specs.Contracts.{guessedAt};
 use crate::call::Call;
 use crate::call::afresh;
 use languages::LanguageSet;
 use languages::Single;
+use phoneme_builder::Plan;
+use phoneme_builder::Slots;
+use phoneme_builder::Store;
 use phoneme_builder::Worded;
 use prefixes::NameType;
 use prefixes::Prefix;
@@ -99,12 +102,6 @@ fn ended(answer: Worded, at: usize) -> Ends
             fine: false,
             why: Refusal::TooManyTexts,
         },
-        Worded::Unfit => Ends {
-            at,
-            flag: false,
-            fine: false,
-            why: Refusal::TooManyTexts,
-        },
     }
 }
 
@@ -132,8 +129,8 @@ pub(crate) fn is_plain(call: Call, name: &[u8]) -> bool
 
 // A word spelled with a set, into `out` from `at` on where it fits as a whole.
 fn spell_word(
-    store: &mut [u8],
-    marks: &mut [u64],
+    store: &mut Store,
+    slots: &mut Slots,
     pack: &[u8],
     table: &Table,
     call: Call,
@@ -142,37 +139,27 @@ fn spell_word(
     out: &mut [u8],
     at: usize,
 ) -> Ends
-    requires { ⌜ Scratch (length (now store)) (length (now marks)) ⌝ }
     requires { ⌜ CallReady (now pack) (now table) call ⌝ }
     requires { ⌜ BitsBelow (call .languages) set ⌝ }
     ensures { λ r. ⌜ ToldWhole (stepsAt (now (pack .entry)) call .word set (now (word .entry))) (now (out .entry)) (now (out .exit)) at r ⌝ }
 {
-    let guesses = call.guesses;
     let lists = lists_of(call, language_of(set, call.any));
-    let mut alts = [0u64; 256];
-    let answer = phoneme_builder::word(
-        store,
-        marks,
-        &mut alts,
-        pack,
-        &pack[1..guesses],
-        table,
-        lists.main,
-        lists.common,
-        lists.own,
+    let by = Plan {
+        main: lists.main,
+        common: lists.common,
+        own: lists.own,
+        limit: call.limit,
+        guesses: call.guesses,
         set,
-        word,
-        call.limit,
-        out,
-        at,
-    );
+    };
+    let answer = phoneme_builder::word(store, slots, pack, table, by, word, out, at);
     ended(answer, at)
 }
 
 // A name spelled as one word: its words joined, or the part of it where its only word stands.
 pub(crate) fn spell_plain(
-    store: &mut [u8],
-    marks: &mut [u64],
+    store: &mut Store,
+    slots: &mut Slots,
     pack: &[u8],
     table: &Table,
     call: Call,
@@ -180,7 +167,6 @@ pub(crate) fn spell_plain(
     out: &mut [u8],
     at: usize,
 ) -> Ends
-    requires { ⌜ Scratch (length (now store)) (length (now marks)) ⌝ }
     requires { ⌜ CallReady (now pack) (now table) call ⌝ }
     requires { ⌜ length (now name) ≤ 96 ⌝ }
     ensures { λ r. ⌜ ToldWhole (onePart (stepsAt (now (pack .entry)) call) (startAt (now (pack .entry)) call (now (name .entry))) (now (name .entry))) (now (out .entry)) (now (out .exit)) at r ⌝ }
@@ -190,10 +176,10 @@ pub(crate) fn spell_plain(
         let kind = call.kind;
         let mut joined = [0u8; 96];
         let n = name_parts::join_words(kind, name, &mut joined);
-        spell_word(store, marks, pack, table, call, set, &joined[0..n], out, at)
+        spell_word(store, slots, pack, table, call, set, &joined[0..n], out, at)
     } else {
         let word = name_parts::next_word(name, 0);
-        spell_word(store, marks, pack, table, call, set, word, out, at)
+        spell_word(store, slots, pack, table, call, set, word, out, at)
     }
 }
 
@@ -252,8 +238,8 @@ fn both(first: Ends, second: Ends, at: usize) -> Ends
 // A name spelled, into `out` from `at` on, as far as there is room: by its prefix, the remainder and the joined name both, or by its
 // words.
 pub(crate) fn spell_name(
-    store: &mut [u8],
-    marks: &mut [u64],
+    store: &mut Store,
+    slots: &mut Slots,
     pack: &[u8],
     table: &Table,
     call: Call,
@@ -261,7 +247,6 @@ pub(crate) fn spell_name(
     out: &mut [u8],
     at: usize,
 ) -> Ends
-    requires { ⌜ Scratch (length (now store)) (length (now marks)) ⌝ }
     requires { ⌜ CallReady (now pack) (now table) call ⌝ }
     requires { ⌜ length (now name) ≤ 96 ⌝ }
     requires { ⌜ at ≤ cap ⌝ }
@@ -274,17 +259,17 @@ pub(crate) fn spell_name(
             let mut joined = [0u8; 96];
             let n = name_parts::join_prefix(name, keep, skip, &mut joined);
             let p = writing::push(out, at, b'(');
-            let a = spell_name(store, marks, pack, table, again, &name[skip..], out, p);
+            let a = spell_name(store, slots, pack, table, again, &name[skip..], out, p);
             let q = middle(out, a.at);
-            let b = spell_name(store, marks, pack, table, again, &joined[0..n], out, q);
+            let b = spell_name(store, slots, pack, table, again, &joined[0..n], out, q);
             let end = writing::push(out, b.at, b')');
             both(b, a, end)
         }
         Prefix::Whole => {
             if is_plain(call, name) {
-                spell_plain(store, marks, pack, table, call, name, out, at)
+                spell_plain(store, slots, pack, table, call, name, out, at)
             } else {
-                spell_words(store, marks, pack, table, call, name, out, at)
+                spell_words(store, slots, pack, table, call, name, out, at)
             }
         }
     }
@@ -292,8 +277,8 @@ pub(crate) fn spell_name(
 
 // Each word of a name spelled afresh, a hyphen between them.
 fn spell_words(
-    store: &mut [u8],
-    marks: &mut [u64],
+    store: &mut Store,
+    slots: &mut Slots,
     pack: &[u8],
     table: &Table,
     call: Call,
@@ -301,7 +286,6 @@ fn spell_words(
     out: &mut [u8],
     at: usize,
 ) -> Ends
-    requires { ⌜ Scratch (length (now store)) (length (now marks)) ⌝ }
     requires { ⌜ CallReady (now pack) (now table) call ⌝ }
     requires { ⌜ length (now name) ≤ 96 ⌝ }
     requires { ⌜ at ≤ cap ⌝ }
@@ -322,7 +306,7 @@ fn spell_words(
             return all;
         }
         let q = hyphen(out, all.at, p);
-        let b = spell_name(store, marks, pack, table, again, w, out, q);
+        let b = spell_name(store, slots, pack, table, again, w, out, q);
         all = both(all, b, b.at);
         p = name_parts::past_word(name, p);
     }

@@ -5,7 +5,7 @@ ghost use lib.Dec.{leb};
 ghost use lib.ListN.{length};
 ghost use Rattle.writing.specs.Contracts.{Put};
 ghost use Rattle.engine.specs.Calls.{callOf, refusedAs};
-ghost use Rattle.engine.specs.Contracts.{DeskIs, Scratch};
+ghost use Rattle.engine.specs.Contracts.{DeskIs};
 ghost use Rattle.engine.specs.Lines.{most, decimal, refusalLine, needed, lineFor, LinesIs};
 ghost use Rattle.engine.specs.LineContracts.{LineAt, headOf, lineLength, DoneIs, placeTold, lengthTold, waitsFor, RefusedIs, stoppedAt};
 use crate::call::Desk;
@@ -14,6 +14,8 @@ use crate::call::Start;
 use crate::call::open;
 use crate::spelling::Spelled;
 use crate::spelling::spell_at;
+use phoneme_builder::Slots;
+use phoneme_builder::Store;
 use rule_index::Table;
 
 // How many bytes of the block were read, and how many written; or that the first line has no room in the whole buffer, and how many
@@ -160,8 +162,8 @@ fn end_of(a: usize, size: usize) -> usize
 
 // The line of one name, where it fits.
 fn put_line(
-    store: &mut [u8],
-    marks: &mut [u64],
+    store: &mut Store,
+    slots: &mut Slots,
     pack: &[u8],
     table: &Table,
     desk: Desk,
@@ -172,7 +174,6 @@ fn put_line(
     at: usize,
     size: usize,
 ) -> Fit
-    requires { ⌜ Scratch (length (now store)) (length (now marks)) ⌝ }
     requires { ⌜ DeskIs (now pack) (now table) desk ⌝ }
     requires { ⌜ (at ≤ size) × (size ≡ min (length (now out)) most) ⌝ }
     ensures { λ r. ⌜ LineAt (lineFor (callOf settings start (now (pack .entry))) (length (now (out .entry))) (now (name .entry))) (needed (callOf settings start (now (pack .entry)) (now (name .entry)))) size (now (out .entry)) (now (out .exit)) at r ⌝ }
@@ -181,7 +182,7 @@ fn put_line(
     let e = end_of(a, size);
     match spell_at(
         store,
-        marks,
+        slots,
         pack,
         table,
         desk,
@@ -210,8 +211,8 @@ fn stopped(read: usize, written: usize, needed: usize) -> Lines
 
 // The lines of whole names, as many as fit, at a desk.
 fn put_lines(
-    store: &mut [u8],
-    marks: &mut [u64],
+    store: &mut Store,
+    slots: &mut Slots,
     pack: &[u8],
     table: &Table,
     desk: Desk,
@@ -220,7 +221,6 @@ fn put_lines(
     block: &[u8],
     out: &mut [u8],
 ) -> Lines
-    requires { ⌜ Scratch (length (now store)) (length (now marks)) ⌝ }
     requires { ⌜ DeskIs (now pack) (now table) desk ⌝ }
     ensures { λ r. ⌜ LinesIs (callOf settings start (now (pack .entry))) (now (block .entry)) (now (out .entry)) r (now (out .exit)) ⌝ }
 {
@@ -235,7 +235,7 @@ fn put_lines(
         }
         match put_line(
             store,
-            marks,
+            slots,
             pack,
             table,
             desk,
@@ -267,11 +267,11 @@ pub fn spell_lines(
 {
     let mut table = [[0usize; 128]; 98];
     let desk = open(pack, &mut table);
-    let mut store = [0u8; 131072];
-    let mut marks = [0u64; 1024];
+    let mut store = [[0u8; 32768]; 4];
+    let mut slots = [[0u64; 256]; 4];
     put_lines(
         &mut store,
-        &mut marks,
+        &mut slots,
         pack,
         &table,
         desk,

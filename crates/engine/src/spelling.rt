@@ -7,7 +7,7 @@ ghost use Rattle.base.specs.Pick.{pick};
 ghost use Rattle.name_parts.specs.Words.{oneWord};
 ghost use Rattle.engine.specs.Spelling.{spelledName, partedAs};
 ghost use Rattle.engine.specs.Calls.{lettersThen, checkedThen, callOf, SpellIs};
-ghost use Rattle.engine.specs.Contracts.{DeskIs, CallReady, Scratch, stepsAt, startAt, ToldWhole, FoundIs, answeredBy, wholeAnd, HeldApartIs};
+ghost use Rattle.engine.specs.Contracts.{DeskIs, CallReady, stepsAt, startAt, ToldWhole, FoundIs, answeredBy, wholeAnd, HeldApartIs};
 use crate::call::Call;
 use crate::call::Desk;
 use crate::call::Settings;
@@ -22,6 +22,8 @@ use crate::encode::part_of;
 use crate::encode::spell_name;
 use crate::encode::spell_plain;
 use letters::Found;
+use phoneme_builder::Slots;
+use phoneme_builder::Store;
 use prefixes::Prefix;
 use refusals::Refusal;
 use rule_index::Table;
@@ -135,36 +137,35 @@ fn keep(a: Ends, apart: &[u8], out: &mut [u8]) -> bool
 // A lower-cased name, its hyphens now spaces, written as a whole or not at all. What is spelled as one word is spelled once; parts are
 // spelled apart first, and what is too long to be held apart is spelled again.
 fn spell_lowered(
-    store: &mut [u8],
-    marks: &mut [u64],
+    store: &mut Store,
+    slots: &mut Slots,
     pack: &[u8],
     table: &Table,
     call: Call,
     name: &[u8],
     out: &mut [u8],
 ) -> Ends
-    requires { ⌜ Scratch (length (now store)) (length (now marks)) ⌝ }
     requires { ⌜ CallReady (now pack) (now table) call ⌝ }
     requires { ⌜ length (now name) ≤ 96 ⌝ }
     ensures { λ r. ⌜ ToldWhole (spelledName (stepsAt (now (pack .entry)) call) (startAt (now (pack .entry)) call (now (name .entry))) (now (name .entry))) (now (out .entry)) (now (out .exit)) 0 r ⌝ }
 {
     if is_single(call, name) {
-        return spell_plain(store, marks, pack, table, call, name, out, 0);
+        return spell_plain(store, slots, pack, table, call, name, out, 0);
     }
     let mut apart = [0u8; 16384];
-    let a = spell_name(store, marks, pack, table, call, name, &mut apart, 0);
+    let a = spell_name(store, slots, pack, table, call, name, &mut apart, 0);
     if keep(a, &apart, out) {
         a
     } else {
-        spell_name(store, marks, pack, table, call, name, out, 0)
+        spell_name(store, slots, pack, table, call, name, out, 0)
     }
 }
 
 // Any name, with any settings, at a desk: the checks in the order 4, 3, 1, 2, 5, 6; then it is lower-cased, guessed, and spelled with
 // its hyphens made spaces.
 pub(crate) fn spell_at(
-    store: &mut [u8],
-    marks: &mut [u64],
+    store: &mut Store,
+    slots: &mut Slots,
     pack: &[u8],
     table: &Table,
     desk: Desk,
@@ -173,7 +174,6 @@ pub(crate) fn spell_at(
     name: &[u8],
     out: &mut [u8],
 ) -> Spelled
-    requires { ⌜ Scratch (length (now store)) (length (now marks)) ⌝ }
     requires { ⌜ DeskIs (now pack) (now table) desk ⌝ }
     ensures { λ r. ⌜ SpellIs (callOf settings start (now (pack .entry)) (now (name .entry))) (now (out .entry)) r (now (out .exit)) ⌝ }
 {
@@ -190,7 +190,7 @@ pub(crate) fn spell_at(
                     lower_case::lower_into(name, &mut low);
                     let call = call_of(settings, start, pack, languages, guesses, any, &low[0..n]);
                     name_parts::part_hyphens(&mut low);
-                    let a = spell_lowered(store, marks, pack, table, call, &low[0..n], out);
+                    let a = spell_lowered(store, slots, pack, table, call, &low[0..n], out);
                     answer(a, out.len())
                 } else {
                     Spelled::Refused {
@@ -214,11 +214,11 @@ pub fn spell(settings: Settings, start: Start, pack: &[u8], name: &[u8], out: &m
 {
     let mut table = [[0usize; 128]; 98];
     let desk = open(pack, &mut table);
-    let mut store = [0u8; 131072];
-    let mut marks = [0u64; 1024];
+    let mut store = [[0u8; 32768]; 4];
+    let mut slots = [[0u64; 256]; 4];
     spell_at(
         &mut store,
-        &mut marks,
+        &mut slots,
         pack,
         &table,
         desk,

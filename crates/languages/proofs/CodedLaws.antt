@@ -7,7 +7,7 @@ use lib.Dec.{eqb}
 use borrow.Author.Tests.{lt-ltb, le-ltb}
 use Rattle.base.specs.Pick.{pick}
 use Rattle.languages.specs.Sets.{narrowed, merged, isEmpty}
-use Rattle.languages.specs.Contracts.{coded, decoded, IsCode, BitsBelow}
+use Rattle.languages.specs.Contracts.{coded, decoded, codesNarrowed, codesMerged, codeEmpty, IsCode, BitsBelow}
 use Rattle.languages.specs.declared.sets.LanguageSet.{LanguageSet}
 use Rattle.languages.specs.declared.sets.LanguageSet.the-variants.{Any, NoLanguages, SomeLanguages}
 use Rattle.languages.proofs.Laws.{narrow-below, merge-below}
@@ -78,30 +78,35 @@ decoded-is : {x : ℕ} (c : IsCode x) → decoded x ≡ c .set
 decoded-is c = ap decoded (c .is) ∙ decoded-coded (c .set) (c .below)
 
 module _ {x y : ℕ} (c : IsCode x) (d : IsCode y) where
-  pub and-code : IsCode (bitAnd x y)
-  and-code = record {
+  pub narrow-code : IsCode (codesNarrowed x y)
+  unfolding codesNarrowed
+  narrow-code = record {
     set = narrowed (c .set) (d .set);
     below = narrow-below 32 (c .set) (d .set) _ refl (c .below) (d .below);
     is = ap₂ bitAnd (c .is) (d .is) ∙ sym (and-coded (c .set) (d .set) (c .below) (d .below));
   }
 
-  pub or-code : IsCode (bitOr x y)
-  or-code = record {
+  pub merge-code : IsCode (codesMerged x y)
+  unfolding codesMerged
+  merge-code = record {
     set = merged (c .set) (d .set);
     below = merge-below 32 (c .set) (d .set) _ refl (c .below) (d .below);
     is = ap₂ bitOr (c .is) (d .is) ∙ sym (or-coded (c .set) (d .set) (c .below) (d .below));
   }
 
-  -- narrowing is `&`
-  pub and-decoded : decoded (bitAnd x y) ≡ narrowed (decoded x) (decoded y)
-  unfolding and-code
-  and-decoded = decoded-is and-code ∙ sym (ap₂ narrowed (decoded-is c) (decoded-is d))
+  pub narrow-decoded : decoded (codesNarrowed x y) ≡ narrowed (decoded x) (decoded y)
+  unfolding narrow-code
+  narrow-decoded = decoded-is narrow-code ∙ sym (ap₂ narrowed (decoded-is c) (decoded-is d))
 
-  -- merging is `|`
-  pub or-decoded : decoded (bitOr x y) ≡ merged (decoded x) (decoded y)
-  unfolding or-code
-  or-decoded = decoded-is or-code ∙ sym (ap₂ merged (decoded-is c) (decoded-is d))
+  pub merge-decoded : decoded (codesMerged x y) ≡ merged (decoded x) (decoded y)
+  unfolding merge-code
+  merge-decoded = decoded-is merge-code ∙ sym (ap₂ merged (decoded-is c) (decoded-is d))
 
--- empty is "nothing below bit 32"
-pub empty-decoded : {x : ℕ} → IsCode x → isEmpty (decoded x) ≡ eqb (x % 2 ^ 32) 0
+pub empty-decoded : {x : ℕ} → IsCode x → isEmpty (decoded x) ≡ codeEmpty x
+unfolding codeEmpty
 empty-decoded c = ap isEmpty (decoded-is c) ∙ empty-coded (c .set) (c .below) ∙ ap (λ (n : ℕ). eqb (n % 2 ^ 32) 0) (sym (c .is))
+
+-- merged with no languages, a set stays as it was
+pub merge-none : (x : ℕ) → codesMerged x 0 ≡ x
+unfolding codesMerged
+merge-none x = or-zero-r x

@@ -8,4 +8,7 @@ pub use names::is_language_name;
 pub use sets::LanguageSet;
 pub use sets::Single;
 pub use sets::coded;
+pub use sets::is_empty_code;
+pub use sets::merge_codes;
+pub use sets::narrow_codes;
 pub use sets::subtract;

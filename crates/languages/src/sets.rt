@@ -1,5 +1,5 @@
 // Sets of languages, a bit for each listed one: narrowing is `&`, merging is `|`, subtracting is `&` with the complement.
-ghost use Rattle.languages.specs.Contracts.{coded};
+ghost use Rattle.languages.specs.Contracts.{coded, codesNarrowed, codesMerged, codeEmpty};
 ghost use mathlib.Core.Path.{_≡_};
 ghost use Rattle.languages.specs.Numbers.{setNumbers};
 ghost use Rattle.languages.specs.Sets.{narrowed, merged, isEmpty, isSingle, singleOf, without};
@@ -101,4 +101,25 @@ pub fn coded(set: LanguageSet) -> u64
         LanguageSet::NoLanguages => 0,
         LanguageSet::SomeLanguages(mask) => 0x1_0000_0000 + (mask as u64),
     }
+}
+
+// The number of one set narrowed by another, of their numbers.
+pub fn narrow_codes(a: u64, b: u64) -> u64
+    ensures { λ r. ⌜ r ≡ codesNarrowed a b ⌝ }
+{
+    a & b
+}
+
+// The number of two sets merged, of their numbers.
+pub fn merge_codes(a: u64, b: u64) -> u64
+    ensures { λ r. ⌜ r ≡ codesMerged a b ⌝ }
+{
+    a | b
+}
+
+// Whether the set of a number is empty.
+pub fn is_empty_code(x: u64) -> bool
+    ensures { λ r. ⌜ r ≡ codeEmpty x ⌝ }
+{
+    x % 0x1_0000_0000 == 0
 }

@@ -1,19 +1,22 @@
--- The list of texts that lent buffers hold: rows of 128 bytes, and in the order of the texts a mark for each: its languages, its row and its length.
--- A text that may enter is first written into the row behind the others.
+-- The list of texts that lent buffers hold: rows of 128 bytes, and in the order of the texts a slot for each: its languages, its row and its length.
+-- A text that may enter is first written into the row behind the others. Of each function the record of what it asks and what it gives.
 use Prim.Native.Nat.{ℕ, zero, suc, _+_, _-_, _*_, _/_, _%_, _≤_, _<_}
 use mathlib.Core.Path.{_≡_}
 use mathlib.Core.List.{List, [], _∷_, _++_, map}
 use lib.ListN.{length, take, drop, getD}
 use Rattle.letters.specs.Order.{orderOf}
-use Rattle.languages.specs.Contracts.{decoded, IsCode}
+use Rattle.languages.specs.Contracts.{decoded, codesMerged, IsCode}
 use Rattle.languages.specs.declared.sets.LanguageSet.{LanguageSet}
 use Rattle.choices.specs.Texts.{Text, byOrder}
-use Rattle.choices.specs.Apply.{Alternative, Entry, NextSet, overlong, nextSet, insert, enter}
+use Rattle.choices.specs.Apply.{Alternative, Entry, NextSet, overlong, nextSet, insert, under, enter, apply, start}
 use Rattle.choices.specs.Choices.{Increasing}
 use Rattle.refusals.specs.declared.Refusal.the-variants.{TooManyTexts}
-use Rattle.phoneme_builder.specs.Sets.{Spelling, refusal, united}
+use Rattle.phoneme_builder.specs.Sets.{lengthened, appended, Spelling, refusal, united}
 use Rattle.phoneme_builder.specs.declared.set.Found.{Found}
 use Rattle.phoneme_builder.specs.declared.set.Found.the-variants.{At, Free}
+use Rattle.phoneme_builder.specs.declared.set.Target.{Target}
+use Rattle.phoneme_builder.specs.declared.set.Between.{Between}
+use Rattle.phoneme_builder.specs.declared.apply.Most.{Most}
 use Rattle.phoneme_builder.specs.declared.apply.Applied.{Applied}
 use Rattle.phoneme_builder.specs.declared.apply.Applied.the-variants.{Now, TooLong}
 use Rattle.phoneme_builder.specs.declared.unite.United.{United}
@@ -52,105 +55,172 @@ put d zero t = over d t
 put [] (suc p) t = []
 put (y ∷ d) (suc p) t = y ∷ put d p t
 
--- ---- three numbers in one: languages and two bytes
+-- ---- three numbers in one: languages, and row and length of a text or start and end of an alternative
 
-abbrev pub markOf : ℕ → ℕ → ℕ → ℕ
-markOf g first second = g * 65536 + first * 256 + second
+abbrev pub slotOf : ℕ → ℕ → ℕ → ℕ
+slotOf g first second = g * 65536 + first * 256 + second
 
 abbrev pub langsOf : ℕ → ℕ
 langsOf x = x / 65536
 
-abbrev pub firstByteOf : ℕ → ℕ
-firstByteOf x = x / 256 % 256
+abbrev pub rowOf : ℕ → ℕ
+rowOf x = x / 256 % 256
 
-abbrev pub secondOf : ℕ → ℕ
-secondOf x = x % 256
+abbrev pub lengthOf : ℕ → ℕ
+lengthOf x = x % 256
 
--- ---- buffers
+abbrev pub startOf : ℕ → ℕ
+startOf x = rowOf x
 
--- the text and the entry that a mark names: its row and its length are the two bytes
-unfoldable pub markedText : List ℕ → ℕ → Text
-markedText store x = take (secondOf x) (drop (firstByteOf x * 128) store)
+abbrev pub endOf : ℕ → ℕ
+endOf x = lengthOf x
+
+abbrev pub slotMerged : ℕ → ℕ → ℕ
+slotMerged x g = slotOf (codesMerged (langsOf x) g) (rowOf x) (lengthOf x)
+
+-- ---- one set
+
+-- the text and the entry that a slot names
+unfoldable pub slotText : List ℕ → ℕ → Text
+slotText store x = take (lengthOf x) (drop (rowOf x * 128) store)
 
 unfoldable pub entryOf : List ℕ → ℕ → Entry
-entryOf store x = record { text = markedText store x; langs = decoded (langsOf x) }
+entryOf store x = record { text = slotText store x; langs = decoded (langsOf x) }
 
--- the texts and the entries of the first n marks
-abbrev pub markedTexts : List ℕ → List ℕ → ℕ → List Text
-markedTexts store marks n = map (markedText store) (take n marks)
+-- the texts and the entries of the first n slots
+abbrev pub slotTexts : List ℕ → List ℕ → ℕ → List Text
+slotTexts store slots n = map (slotText store) (take n slots)
 
-abbrev pub markedEntries : List ℕ → List ℕ → ℕ → List Entry
-markedEntries store marks n = map (entryOf store) (take n marks)
+abbrev pub slotEntries : List ℕ → List ℕ → ℕ → List Entry
+slotEntries store slots n = map (entryOf store) (take n slots)
 
--- x is the mark of a text in one of the first n rows
-pub record MarkIn (n x : ℕ) : Type 0 where
-  pub row : firstByteOf x < n
-  pub short : secondOf x ≤ 128
+-- x is the slot of a text in one of the first n rows
+pub record SlotIn (n x : ℕ) : Type 0 where
+  pub row : rowOf x < n
+  pub short : lengthOf x ≤ 128
   pub code : IsCode (langsOf x)
 
-unfoldable pub MarksIn : ℕ → List ℕ → Type 0
-MarksIn n [] = Unit {0}
-MarksIn n (x ∷ xs) = MarkIn n x × MarksIn n xs
+unfoldable pub SlotsIn : ℕ → List ℕ → Type 0
+SlotsIn n [] = Unit {0}
+SlotsIn n (x ∷ xs) = SlotIn n x × SlotsIn n xs
 
 -- the buffers hold a set of n texts, in order
-pub record IsSet (store marks : List ℕ) (n : ℕ) : Type 0 where
+pub record IsSet (store slots : List ℕ) (n : ℕ) : Type 0 where
   pub few : n ≤ 256
   pub long-store : length store ≡ 32768
-  pub long-marks : length marks ≡ 256
-  pub each : MarksIn n (take n marks)
-  pub increasing : Increasing (markedTexts store marks n)
+  pub long-slots : length slots ≡ 256
+  pub each : SlotsIn n (take n slots)
+  pub increasing : Increasing (slotTexts store slots n)
+
+-- the same of one of four sets, whose lengths its type says
+pub record Holds (store slots : List ℕ) (n : ℕ) : Type 0 where
+  pub few : n ≤ 256
+  pub full : length (take n slots) ≡ n
+  pub each : SlotsIn n (take n slots)
+  pub increasing : Increasing (slotTexts store slots n)
 
 -- they hold the list l
-pub record SetIs (store marks : List ℕ) (n : ℕ) (l : List Entry) : Type 0 where
-  pub set : IsSet store marks n
-  pub is : markedEntries store marks n ≡ l
+pub record SetIs (store slots : List ℕ) (n : ℕ) (l : List Entry) : Type 0 where
+  pub set : IsSet store slots n
+  pub is : slotEntries store slots n ≡ l
 
--- ---- four sets side by side
+-- what a slot for row n asks
+pub record InsertsText (slots : List ℕ) (p n g long : ℕ) : Type 0 where
+  pub index : p ≤ n
+  pub within : n < length slots
+  pub row : n < 256
+  pub fits : long ≤ 128
+  pub code : IsCode g
 
--- sets stand side by side in the same buffers, by number: the k-th part of w elements
-unfoldable pub part : ℕ → ℕ → List ℕ → List ℕ
-part w k l = take w (drop (k * w) l)
+-- what entering a text of so many bytes asks, and the entries then
+pub record Enters (store slots : List ℕ) (n long g : ℕ) : Type 0 where
+  pub set : IsSet store slots n
+  pub room : n < 256
+  pub fits : long ≤ 128
+  pub code : IsCode g
+
+abbrev pub added : List ℕ → List ℕ → ℕ → Text → ℕ → List Entry
+added store slots n t g = insert (entry t (decoded g)) (slotEntries store slots n)
+
+-- ---- four sets side by side, by number
+
+abbrev pub part : ℕ → List (List ℕ) → List ℕ
+part k l = getD l k []
 
 pub record Arena : Type 0 where
-  pub store : List ℕ
-  pub marks : List ℕ
+  pub store : List (List ℕ)
+  pub slots : List (List ℕ)
 
-abbrev pub arena : List ℕ → List ℕ → Arena
-arena store marks = record { store = store; marks = marks }
-
--- buffers for four sets
-pub record Rooms (a : Arena) : Type 0 where
-  pub long-store : length (a .store) ≡ 131072
-  pub long-marks : length (a .marks) ≡ 1024
+abbrev pub arena : List (List ℕ) → List (List ℕ) → Arena
+arena store slots = record { store = store; slots = slots }
 
 unfoldable pub entriesAt : Arena → ℕ → ℕ → List Entry
-entriesAt a k n = markedEntries (part 32768 k (a .store)) (part 256 k (a .marks)) n
+entriesAt a k n = slotEntries (part k (a .store)) (part k (a .slots)) n
 
 -- set k has n texts
 pub record SetAt (a : Arena) (k n : ℕ) : Type 0 where
   pub known : k < 4
-  pub set : IsSet (part 32768 k (a .store)) (part 256 k (a .marks)) n
+  pub set : Holds (part k (a .store)) (part k (a .slots)) n
 
 -- its i-th entry
 unfoldable pub entryIn : Arena → ℕ → ℕ → Entry
-entryIn a k i = entryOf (part 32768 k (a .store)) (getD (part 256 k (a .marks)) i 0)
+entryIn a k i = entryOf (part k (a .store)) (getD (part k (a .slots)) i 0)
 
 -- set k stayed as it was
 pub record Stayed (a b : Arena) (k : ℕ) : Type 0 where
-  pub store : part 32768 k (b .store) ≡ part 32768 k (a .store)
-  pub marks : part 256 k (b .marks) ≡ part 256 k (a .marks)
+  pub store : part k (b .store) ≡ part k (a .store)
+  pub slots : part k (b .slots) ≡ part k (a .slots)
 
 -- no set but x and y changed
 unfoldable pub Only : ℕ → ℕ → Arena → Arena → Type 0
 Only x y a b = (k : ℕ) → k < 4 → (k ≡ x → ⊥) → (k ≡ y → ⊥) → Stayed a b k
 
+-- set k has the r entries l, and no other set changed
+pub record GrownAt (a b : Arena) (k r : ℕ) (l : List Entry) : Type 0 where
+  pub set : SetAt b k r
+  pub is : entriesAt b k r ≡ l
+  pub others : Only k k a b
+
+pub record AddsTo (a : Arena) (to : Target) (long g : ℕ) : Type 0 where
+  pub set : SetAt a (to .set) (to .count)
+  pub room : to .count < 256
+  pub fits : long ≤ 128
+  pub code : IsCode g
+
+abbrev pub AddedTo : Arena → Arena → Target → Text → ℕ → ℕ → Type 0
+AddedTo a b to t g r = GrownAt a b (to .set) r (insert (entry t (decoded g)) (entriesAt a (to .set) (to .count)))
+
+abbrev pub BegunAs : Arena → Arena → ℕ → ℕ → ℕ → Type 0
+BegunAs a b k g r = GrownAt a b k r (start (decoded g))
+
+-- ---- a text read
+
+-- text i of set k lies within the buffers
+pub record TextIn (slots : List (List ℕ)) (k i : ℕ) : Type 0 where
+  pub known : k < 4
+  pub index : i < 256
+  pub slot : SlotIn 256 (getD (part k slots) i 0)
+
+abbrev pub textIn : List (List ℕ) → List (List ℕ) → ℕ → ℕ → Text
+textIn store slots k i = slotText (part k store) (getD (part k slots) i 0)
+
+-- its languages
+abbrev pub langsIn : List (List ℕ) → ℕ → ℕ → ℕ
+langsIn slots k i = langsOf (getD (part k slots) i 0)
+
+-- the first r bytes of d are the text t
+pub record CopiedIs (t : Text) (d : List ℕ) (r : ℕ) : Type 0 where
+  pub short : r ≤ 128
+  pub within : r ≤ length d
+  pub text : take r d ≡ t
+
 -- ---- apply
 
--- the alternative of number j of an expression's table, and k of them from j on: the two bytes are where it starts in the expression and where it ends
+-- the alternative of number j of an expression's table, and k of them from j on
 unfoldable pub altAt : List ℕ → List ℕ → ℕ → Alternative
 altAt expr alts j =
     let x = getD alts j 0 in
-    record { text = take (secondOf x - firstByteOf x) (drop (firstByteOf x) expr); langs = decoded (langsOf x) }
+    record { text = take (endOf x - startOf x) (drop (startOf x) expr); langs = decoded (langsOf x) }
 
 unfoldable pub altsFrom : List ℕ → List ℕ → ℕ → ℕ → List Alternative
 altsFrom expr alts j zero = []
@@ -161,8 +231,8 @@ alternatives expr alts m = altsFrom expr alts 0 m
 
 -- a number that is an alternative of the expression
 pub record AltIn (expr : List ℕ) (x : ℕ) : Type 0 where
-  pub start-in : firstByteOf x ≤ secondOf x
-  pub end-in : secondOf x ≤ length expr
+  pub start-in : startOf x ≤ endOf x
+  pub end-in : endOf x ≤ length expr
   pub code : IsCode (langsOf x)
 
 -- the table holds m alternatives, each a part of the expression
@@ -181,66 +251,67 @@ outcomeBy TooLong b to rest = overlong
 
 -- the answer is the outcome o, and no set but `to` changed
 pub record AppliedAt (a b : Arena) (to : ℕ) (r : Applied) (o : NextSet) : Type 0 where
-  pub rooms : Rooms b
   pub kept : KeptBy r b to
   pub is : outcomeBy r b to nextSet ≡ o
   pub others : Only to to a b
 
 -- the candidates cs entered into l, whatever comes behind them
 pub record OfferedAt (limit : ℕ) (cs l : List Entry) (a b : Arena) (to : ℕ) (r : Applied) : Type 0 where
-  pub rooms : Rooms b
   pub kept : KeptBy r b to
   pub is : (rest : List Entry) → outcomeBy r b to (enter limit rest) ≡ enter limit (cs ++ rest) l
   pub others : Only to to a b
 
--- ---- unite
+pub record Offers (a : Arena) (to : Target) (g h limit : ℕ) : Type 0 where
+  pub set : SetAt a (to .set) (to .count)
+  pub room : to .count < limit
+  pub few : limit ≤ 256
+  pub code : IsCode g
+  pub other : IsCode h
 
-unfoldable pub HeldBy : United → List ℕ → List ℕ → Type 0
-HeldBy (Into k) store marks = IsSet store marks k
-HeldBy TooMany store marks = Unit {0}
+-- the alternatives entered under the entry e
+abbrev pub OfferedUnder : Entry → List Alternative → ℕ → Arena → Arena → Target → Applied → Type 0
+OfferedUnder e alts limit a b to r = OfferedAt limit (under e alts) (entriesAt a (to .set) (to .count)) a b (to .set) r
 
-unfoldable pub spellingBy : United → List ℕ → List ℕ → (List Entry → Spelling) → Spelling
-spellingBy (Into k) store marks rest = rest (markedEntries store marks k)
-spellingBy TooMany store marks rest = refusal TooManyTexts
+abbrev pub OfferedTo : Arena → Arena → Target → Text → ℕ → Text → ℕ → ℕ → Applied → Type 0
+OfferedTo a b to t g u h limit r = OfferedUnder (entry t (decoded g)) (alternative u (decoded h) ∷ []) limit a b to r
 
--- the texts xs united into l for the set g, whatever is done with the result
-pub record UnitedIs (g : LanguageSet) (xs l : List Entry) (r : United) (store marks : List ℕ) : Type 0 where
-  pub kept : HeldBy r store marks
-  pub is : (rest : List Entry → Spelling) → spellingBy r store marks rest ≡ united g xs l rest
+pub record RowOffers (a : Arena) (to : Target) (g : ℕ) (expr alts : List ℕ) (most : Most) : Type 0 where
+  pub set : SetAt a (to .set) (to .count)
+  pub table : AltsIn expr alts (most .alternatives)
+  pub few : most .limit ≤ 256
+  pub code : IsCode g
 
-pub record UnitedAt (a b : Arena) (to : ℕ) (g : LanguageSet) (xs l : List Entry) (r : United) : Type 0 where
-  pub rooms : Rooms b
-  pub done : UnitedIs g xs l r (part 32768 to (b .store)) (part 256 to (b .marks))
-  pub others : Only to to a b
+abbrev pub RowOffered : Arena → Arena → Target → Text → ℕ → List ℕ → List ℕ → Most → Applied → Type 0
+RowOffered a b to t g expr alts most r = OfferedUnder (entry t (decoded g)) (alternatives expr alts (most .alternatives)) (most .limit) a b to r
 
--- ---- a set begun, a text read
+pub record TextOffers (a : Arena) (from i : ℕ) (to : Target) (expr alts : List ℕ) (most : Most) : Type 0 where
+  pub text : TextIn (a .slots) from i
+  pub set : SetAt a (to .set) (to .count)
+  pub table : AltsIn expr alts (most .alternatives)
+  pub few : most .limit ≤ 256
 
--- text i of set k lies within the buffers
-pub record TextIn (store marks : List ℕ) (k i : ℕ) : Type 0 where
-  pub long-store : length store ≡ 131072
-  pub long-marks : length marks ≡ 1024
-  pub known : k < 4
-  pub index : i < 256
-  pub mark : MarkIn 256 (getD (part 256 k marks) i 0)
+abbrev pub TextOffered : Arena → Arena → ℕ → ℕ → Target → List ℕ → List ℕ → Most → Applied → Type 0
+TextOffered a b from i to expr alts most r = OfferedUnder (entryIn a from i) (alternatives expr alts (most .alternatives)) (most .limit) a b to r
 
-unfoldable pub textIn : List ℕ → List ℕ → ℕ → ℕ → Text
-textIn store marks k i = markedText (part 32768 k store) (getD (part 256 k marks) i 0)
+-- the set to read has its texts, and the set to write is another
+pub record BetweenIn (a : Arena) (sets : Between) : Type 0 where
+  pub source : SetAt a (sets .from) (sets .count)
+  pub known : sets .to < 4
+  pub apart : sets .from ≡ sets .to → ⊥
 
--- and so its languages
-pub record LangsIn (marks : List ℕ) (k i : ℕ) : Type 0 where
-  pub long-marks : length marks ≡ 1024
-  pub known : k < 4
-  pub index : i < 256
+-- its entries
+abbrev pub sourceOf : Arena → Between → List Entry
+sourceOf a sets = entriesAt a (sets .from) (sets .count)
 
-unfoldable pub langsIn : List ℕ → ℕ → ℕ → ℕ
-langsIn marks k i = langsOf (getD (part 256 k marks) i 0)
+pub record Applies (a : Arena) (sets : Between) (expr alts : List ℕ) (most : Most) : Type 0 where
+  pub sides : BetweenIn a sets
+  pub table : AltsIn expr alts (most .alternatives)
+  pub few : most .limit ≤ 256
 
--- set k has the r entries l, and no other set changed
-pub record GrownAt (a b : Arena) (k r : ℕ) (l : List Entry) : Type 0 where
-  pub rooms : Rooms b
-  pub set : SetAt b k r
-  pub is : entriesAt b k r ≡ l
-  pub others : Only k k a b
+abbrev pub AppliedTo : Arena → Arena → Between → List ℕ → List ℕ → Most → Applied → Type 0
+AppliedTo a b sets expr alts most r = AppliedAt a b (sets .to) r (apply (most .limit) (alternatives expr alts (most .alternatives)) (sourceOf a sets))
+
+-- ---- append
 
 -- the entry e inserted into l, where it is short
 unfoldable pub InsertedBy : Applied → Arena → ℕ → Entry → List Entry → Type 0
@@ -248,11 +319,93 @@ InsertedBy (Now k) b to e l = SetAt b to k × (entriesAt b to k ≡ insert e l) 
 InsertedBy TooLong b to e l = 128 < length (e .text)
 
 pub record LengthenedAt (a b : Arena) (to : ℕ) (e : Entry) (l : List Entry) (r : Applied) : Type 0 where
-  pub rooms : Rooms b
   pub is : InsertedBy r b to e l
   pub others : Only to to a b
 
--- the first r bytes of d are the text t
-pub record CopiedIs (t : Text) (d : List ℕ) (r : ℕ) : Type 0 where
-  pub short : r ≤ 128
-  pub text : take r d ≡ t
+pub record Lengthens (a : Arena) (from i : ℕ) (to : Target) : Type 0 where
+  pub text : TextIn (a .slots) from i
+  pub set : SetAt a (to .set) (to .count)
+  pub room : to .count < 256
+
+abbrev pub LengthenedTo : Arena → Arena → ℕ → ℕ → Target → Text → Applied → Type 0
+LengthenedTo a b from i to c r = LengthenedAt a b (to .set) (lengthened c (entryIn a from i)) (entriesAt a (to .set) (to .count)) r
+
+abbrev pub AppendedTo : Arena → Arena → Between → Text → Applied → Type 0
+AppendedTo a b sets c r = AppliedAt a b (sets .to) r (appended c (sourceOf a sets))
+
+-- ---- unite
+
+unfoldable pub HeldBy : United → List ℕ → List ℕ → Type 0
+HeldBy (Into k) store slots = IsSet store slots k
+HeldBy TooMany store slots = Unit {0}
+
+unfoldable pub spellingBy : United → List ℕ → List ℕ → (List Entry → Spelling) → Spelling
+spellingBy (Into k) store slots rest = rest (slotEntries store slots k)
+spellingBy TooMany store slots rest = refusal TooManyTexts
+
+-- the texts xs united into l for the set g, whatever is done with the result
+pub record UnitedIs (g : LanguageSet) (xs l : List Entry) (r : United) (store slots : List ℕ) : Type 0 where
+  pub kept : HeldBy r store slots
+  pub is : (rest : List Entry → Spelling) → spellingBy r store slots rest ≡ united g xs l rest
+
+pub record InsertsRow (store slots : List ℕ) (p n : ℕ) (t : Text) (g : ℕ) : Type 0 where
+  pub long-store : length store ≡ 32768
+  pub long-slots : length slots ≡ 256
+  pub index : p ≤ n
+  pub row : n < 256
+  pub fits : length t ≤ 128
+  pub code : IsCode g
+
+pub record RowInserted (store slots : List ℕ) (p n : ℕ) (t : Text) (g : ℕ) (store′ slots′ : List ℕ) : Type 0 where
+  pub wrote : store′ ≡ put store (n * 128) t
+  pub same : length slots′ ≡ length slots
+  pub opened : take (n + 1) slots′ ≡ insAt p (slotOf g n (length t)) (take n slots)
+
+pub record Unites (store slots : List ℕ) (n : ℕ) (t : Text) (h g : ℕ) : Type 0 where
+  pub set : IsSet store slots n
+  pub fits : length t ≤ 128
+  pub code : IsCode h
+  pub worked : IsCode g
+
+abbrev pub UnitedRow : List ℕ → List ℕ → ℕ → Text → ℕ → ℕ → United → List ℕ → List ℕ → Type 0
+UnitedRow store slots n t h g r store′ slots′ = UnitedIs (decoded g) (entry t (decoded h) ∷ []) (slotEntries store slots n) r store′ slots′
+
+-- the same in set `to`
+unfoldable pub HeldAt : United → Arena → ℕ → Type 0
+HeldAt (Into k) b to = SetAt b to k
+HeldAt TooMany b to = Unit {0}
+
+unfoldable pub spellingAt : United → Arena → ℕ → (List Entry → Spelling) → Spelling
+spellingAt (Into k) b to rest = rest (entriesAt b to k)
+spellingAt TooMany b to rest = refusal TooManyTexts
+
+pub record UnitedAt (a b : Arena) (to : ℕ) (g : LanguageSet) (xs l : List Entry) (r : United) : Type 0 where
+  pub kept : HeldAt r b to
+  pub is : (rest : List Entry → Spelling) → spellingAt r b to rest ≡ united g xs l rest
+  pub others : Only to to a b
+
+pub record UnitesTo (a : Arena) (to : Target) (t : Text) (h g : ℕ) : Type 0 where
+  pub set : SetAt a (to .set) (to .count)
+  pub fits : length t ≤ 128
+  pub code : IsCode h
+  pub worked : IsCode g
+
+abbrev pub UnitedTo : Arena → Arena → Target → Text → ℕ → ℕ → United → Type 0
+UnitedTo a b to t h g r = UnitedAt a b (to .set) (decoded g) (entry t (decoded h) ∷ []) (entriesAt a (to .set) (to .count)) r
+
+pub record UnitesText (a : Arena) (from i : ℕ) (to : Target) (g : ℕ) : Type 0 where
+  pub text : TextIn (a .slots) from i
+  pub set : SetAt a (to .set) (to .count)
+  pub worked : IsCode g
+
+abbrev pub UnitedText : Arena → Arena → ℕ → ℕ → Target → ℕ → United → Type 0
+UnitedText a b from i to g r = UnitedAt a b (to .set) (decoded g) (entryIn a from i ∷ []) (entriesAt a (to .set) (to .count)) r
+
+pub record UnitesSet (a : Arena) (sets : Between) (n g : ℕ) : Type 0 where
+  pub source : SetAt a (sets .from) (sets .count)
+  pub set : SetAt a (sets .to) n
+  pub apart : sets .from ≡ sets .to → ⊥
+  pub worked : IsCode g
+
+abbrev pub UnitedSet : Arena → Arena → Between → ℕ → ℕ → United → Type 0
+UnitedSet a b sets n g r = UnitedAt a b (sets .to) (decoded g) (sourceOf a sets) (entriesAt a (sets .to) n) r

@@ -1,58 +1,110 @@
 -- What the functions of a pass tell of the pack's bytes and of the lent tables.
-use Prim.Native.Nat.{ℕ, suc, _+_, _-_, _≤_, _<_, max}
+use Prim.Native.Nat.{ℕ, suc, _+_, _-_, _≤_, _<_, min}
 use mathlib.Core.Path.{_≡_}
 use mathlib.Core.Bool.{Bool, true}
 use mathlib.Core.List.{List, [], _∷_, map}
 use mathlib.Core.Logic.{_⊎_}
-use lib.Dec.{eqb, leb}
+use lib.Dec.{leb}
 use lib.Seq.{sets}
-use Rattle.base.specs.Pick.{pick, and}
+use Rattle.base.specs.Pick.{pick}
 use lib.ListN.{length, take, drop}
 use Rattle.choices.specs.Texts.{Text}
-use Rattle.choices.specs.Apply.{Entry}
+use Rattle.languages.specs.Contracts.{decoded, IsCode}
+use Rattle.languages.specs.declared.sets.LanguageSet.{LanguageSet}
+use Rattle.choices.specs.Apply.{Entry, apply, start}
 use Rattle.refusals.specs.Numbers.{numberOf}
 use Rattle.refusals.specs.declared.Refusal.the-variants.{TextTooLong, TooManyTexts}
 use Rattle.phoneme_builder.specs.Sets.{Spelling, refusal, texts}
-use Rattle.phoneme_builder.specs.Passes.{offered, Turn, Ran, tooLong, ran, flagged, run, raised, joined}
-use Rattle.phoneme_builder.specs.BufferContracts.{AltsIn, alternatives, IsSet, markedTexts, part, Arena, SetAt, entriesAt, Stayed, Only, Rooms}
+use Rattle.phoneme_builder.specs.Passes.{offered, Turn, turnOn, turnsOf, Ran, tooLong, ran, flagged, run, raised, finalText, finalPass, then, wordOf, joined}
+use Rattle.phoneme_builder.specs.BufferContracts.{AltsIn, alternatives, Holds, slotTexts, part, Arena, SetAt, TextIn, entryIn, entriesAt, Stayed, Only, AppliedAt, BetweenIn, sourceOf}
 use Rattle.phoneme_builder.specs.declared.pass.Turned.{Turned}
 use Rattle.phoneme_builder.specs.declared.pass.Turned.the-variants as turned
 use Rattle.phoneme_builder.specs.declared.pass.Passed.{Passed}
 use Rattle.phoneme_builder.specs.declared.pass.Passed.the-variants as passed
 use Rattle.phoneme_builder.specs.declared.finals.Finished.{Finished}
 use Rattle.phoneme_builder.specs.declared.finals.Finished.the-variants as finished
+use Rattle.phoneme_builder.specs.declared.set.Target.{Target}
+use Rattle.phoneme_builder.specs.declared.set.Between.{Between}
+use Rattle.phoneme_builder.specs.declared.apply.Applied.{Applied}
+use Rattle.phoneme_builder.specs.declared.pass.Pass.{Pass}
+use Rattle.phoneme_builder.specs.declared.pass.Stage.{Stage}
+use Rattle.phoneme_builder.specs.declared.finals.FinalSets.{FinalSets}
+use Rattle.phoneme_builder.specs.declared.finals.NextText.{NextText}
+use Rattle.phoneme_builder.specs.declared.words.Plan.{Plan}
+use Rattle.rule_index.specs.Matching.{none, Matcher}
+use Rattle.rule_index.specs.Contracts.{matcher}
 use Rattle.phoneme_builder.specs.declared.words.Worded.{Worded}
 use Rattle.phoneme_builder.specs.declared.words.Worded.the-variants as worded
+
+-- the bytes of a pack's names, behind which its guesses stand
+unfoldable pub namesIn : List ℕ → ℕ → List ℕ
+namesIn s guesses = take (guesses - 1) (drop 1 s)
 
 -- the table holds the alternatives of e
 pub record AltsAre (names e alts : List ℕ) (m : ℕ) : Type 0 where
   pub parts : AltsIn e alts m
   pub are : alternatives e alts m ≡ offered names e
 
--- ---- a turn, from the n texts of set `from`: what the run then comes to, whatever turns follow
+-- a rule's expression applied
+pub record RuleApplies (a : Arena) (sets : Between) (expr : List ℕ) (limit : ℕ) : Type 0 where
+  pub sides : BetweenIn a sets
+  pub short : length expr < 256
+  pub few : limit ≤ 256
 
-unfoldable pub turnedBy : Turned → Bool → ℕ → Arena → ℕ → ℕ → ℕ → ℕ → (ℕ → List Turn) → Ran
-turnedBy (turned.Into k step full) final limit b from n to place rest = flagged full (run final limit (rest (place + step)) (entriesAt b to k))
-turnedBy (turned.Kept step) final limit b from n to place rest = run final limit (rest (place + step)) (entriesAt b from n)
-turnedBy turned.TooLong final limit b from n to place rest = tooLong
+abbrev pub RuleApplied : Arena → Arena → Between → List ℕ → List ℕ → ℕ → Applied → Type 0
+RuleApplied a b sets expr names limit r = AppliedAt a b (sets .to) r (apply limit (offered names expr) (sourceOf a sets))
+
+-- ---- a turn: what the run then comes to, whatever turns follow
+
+-- the names and the rules of a pass
+abbrev pub namesOf : List ℕ → Pass → List ℕ
+namesOf s by = namesIn s (by .guesses)
+
+abbrev pub rulesOf : List ℕ → List (List ℕ) → Pass → Matcher
+rulesOf s table by = matcher s table (by .list)
+
+-- the turns from here on, run from the texts of a set
+abbrev pub runFrom : Pass → List Turn → Arena → ℕ → ℕ → Ran
+runFrom by turns a set n = run (by .appends) (by .limit) turns (entriesAt a set n)
+
+unfoldable pub turnedBy : Turned → Pass → Arena → Stage → (ℕ → List Turn) → Ran
+turnedBy (turned.Into k step full) by b at rest = flagged full (runFrom by (rest (at .place + step)) b (at .to) k)
+turnedBy (turned.Kept step) by b at rest = runFrom by (rest (at .place + step)) b (at .from) (at .count)
+turnedBy turned.TooLong by b at rest = tooLong
 
 -- the step lies within the word
 pub record StepIn (word : Text) (place step : ℕ) : Type 0 where
   pub some : 0 < step
   pub within : place + step ≤ length word
 
-unfoldable pub TurnKept : Turned → Arena → Arena → ℕ → Text → ℕ → Type 0
-TurnKept (turned.Into k step full) a b to word place = SetAt b to k × StepIn word place step
-TurnKept (turned.Kept step) a b to word place = (b ≡ a) × StepIn word place step
-TurnKept turned.TooLong a b to word place = Unit {0}
+unfoldable pub TurnKept : Turned → Arena → Arena → Stage → Text → Type 0
+TurnKept (turned.Into k step full) a b at word = SetAt b (at .to) k × StepIn word (at .place) step
+TurnKept (turned.Kept step) a b at word = (b ≡ a) × StepIn word (at .place) step
+TurnKept turned.TooLong a b at word = Unit {0}
 
-pub record TurnedAt (a b : Arena) (final : Bool) (limit from n to : ℕ) (word : Text) (place : ℕ) (turns : (ℕ → List Turn) → List Turn) (r : Turned) : Type 0 where
-  pub rooms : Rooms b
-  pub kept : TurnKept r a b to word place
-  pub is : (rest : ℕ → List Turn) → turnedBy r final limit b from n to place rest ≡ run final limit (turns rest) (entriesAt a from n)
-  pub others : Only to to a b
+pub record TurnedAt (a b : Arena) (by : Pass) (word : Text) (at : Stage) (turns : (ℕ → List Turn) → List Turn) (r : Turned) : Type 0 where
+  pub kept : TurnKept r a b at word
+  pub is : (rest : ℕ → List Turn) → turnedBy r by b at rest ≡ runFrom by (turns rest) a (at .from) (at .count)
+  pub others : Only (at .to) (at .to) a b
 
--- ---- a pass in the sets x and y
+-- a pass stands at a place of the word, with two sets
+pub record StageIn (a : Arena) (word : Text) (at : Stage) : Type 0 where
+  pub source : SetAt a (at .from) (at .count)
+  pub known : at .to < 4
+  pub apart : at .from ≡ at .to → ⊥
+  pub here : at .place < length word
+
+abbrev pub UnmatchedTurned : Arena → Arena → Pass → Text → Stage → Turned → Type 0
+UnmatchedTurned a b by word at r = TurnedAt a b by word at (turnOn [] none word (at .place)) r
+
+pub record Turns (a : Arena) (by : Pass) (word : Text) (at : Stage) : Type 0 where
+  pub stage : StageIn a word at
+  pub few : by .limit ≤ 256
+
+abbrev pub TurnedBy : Arena → Arena → List ℕ → List (List ℕ) → Pass → Text → Stage → Turned → Type 0
+TurnedBy a b s table by word at r = TurnedAt a b by word at (turnOn (namesOf s by) (rulesOf s table by word (at .place)) word (at .place)) r
+
+-- ---- a pass in two sets
 
 unfoldable pub passedBy : Passed → Arena → Ran
 passedBy (passed.Now k set flag) b = ran (entriesAt b set k) flag
@@ -63,25 +115,35 @@ PassKept (passed.Now k set flag) b x y = SetAt b set k × ((set ≡ x) ⊎ (set 
 PassKept passed.TooLong b x y = Unit {0}
 
 pub record PassedAt (a b : Arena) (x y : ℕ) (o : Ran) (r : Passed) : Type 0 where
-  pub rooms : Rooms b
   pub kept : PassKept r b x y
   pub is : passedBy r b ≡ o
   pub others : Only x y a b
 
+pub record Runs (a : Arena) (by : Pass) (sets : Between) : Type 0 where
+  pub sides : BetweenIn a sets
+  pub few : by .limit ≤ 256
+
+-- a word run from a set
+abbrev pub runOf : List ℕ → List (List ℕ) → Pass → Text → List Entry → Ran
+runOf s table by word l = run (by .appends) (by .limit) (turnsOf (namesOf s by) (rulesOf s table by) word) l
+
+abbrev pub RunTo : Arena → Arena → List ℕ → List (List ℕ) → Pass → Text → Between → Passed → Type 0
+RunTo a b s table by word sets r = PassedAt a b (sets .from) (sets .to) (runOf s table by word (sourceOf a sets)) r
+
 -- ---- final passes
 
 -- four sets, all different
-pub record Apart (old result x y : ℕ) : Type 0 where
-  pub old-known : old < 4
-  pub result-known : result < 4
-  pub x-known : x < 4
-  pub y-known : y < 4
-  pub old-result : old ≡ result → ⊥
-  pub old-x : old ≡ x → ⊥
-  pub old-y : old ≡ y → ⊥
-  pub result-x : result ≡ x → ⊥
-  pub result-y : result ≡ y → ⊥
-  pub x-y : x ≡ y → ⊥
+pub record Apart (sets : FinalSets) : Type 0 where
+  pub old-known : sets .old < 4
+  pub result-known : sets .result < 4
+  pub x-known : sets .x < 4
+  pub y-known : sets .y < 4
+  pub old-result : sets .old ≡ sets .result → ⊥
+  pub old-x : sets .old ≡ sets .x → ⊥
+  pub old-y : sets .old ≡ sets .y → ⊥
+  pub result-x : sets .result ≡ sets .x → ⊥
+  pub result-y : sets .result ≡ sets .y → ⊥
+  pub x-y : sets .x ≡ sets .y → ⊥
 
 unfoldable pub FinalKept : Finished → Arena → ℕ → Type 0
 FinalKept (finished.Into k flag) b to = SetAt b to k
@@ -95,7 +157,6 @@ finishedBy finished.TooMany b to rest = refusal TooManyTexts
 
 -- one text's run, united into the result so far, whatever is done with it
 pub record TextFinished (a b : Arena) (old to : ℕ) (s : (List Entry → Spelling) → Spelling) (r : Finished) : Type 0 where
-  pub rooms : Rooms b
   pub kept : FinalKept r b to
   pub is : (rest : List Entry → Spelling) → finishedBy r b to rest ≡ s rest
   pub stayed : Stayed a b old
@@ -107,9 +168,45 @@ textsBy finished.TooLong b to = refusal TextTooLong
 textsBy finished.TooMany b to = refusal TooManyTexts
 
 pub record FinishedAt (b : Arena) (to : ℕ) (s : Spelling) (r : Finished) : Type 0 where
-  pub rooms : Rooms b
   pub kept : FinalKept r b to
   pub is : textsBy r b to ≡ s
+
+-- what each function of a final pass asks of the pass: its limit, and that it appends
+pub record FinalBy (by : Pass) : Type 0 where
+  pub few : by .limit ≤ 256
+  pub final : by .appends ≡ true
+
+pub record TextRuns (a : Arena) (by : Pass) (sets : FinalSets) (i : ℕ) : Type 0 where
+  pub text : TextIn (a .slots) (sets .old) i
+  pub apart : Apart sets
+  pub pass : FinalBy by
+
+-- what an entry is run to
+abbrev pub textRun : List ℕ → List (List ℕ) → Pass → Entry → Ran
+textRun s table by e = run true (by .limit) (turnsOf (namesOf s by) (rulesOf s table by) (e .text)) (start (e .langs))
+
+abbrev pub TextRan : Arena → Arena → List ℕ → List (List ℕ) → Pass → FinalSets → ℕ → Passed → Type 0
+TextRan a b s table by sets i r = PassedAt a b (sets .x) (sets .y) (textRun s table by (entryIn a (sets .old) i)) r
+
+pub record TextFinishes (a : Arena) (by : Pass) (sets : FinalSets) (next : NextText) : Type 0 where
+  pub text : TextIn (a .slots) (sets .old) (next .text)
+  pub set : SetAt a (sets .result) (next .count)
+  pub apart : Apart sets
+  pub pass : FinalBy by
+
+abbrev pub TextFinishedBy : Arena → Arena → List ℕ → List (List ℕ) → Pass → FinalSets → NextText → Finished → Type 0
+TextFinishedBy a b s table by sets next r =
+    TextFinished a b (sets .old) (sets .result)
+    (finalText (by .limit) (namesOf s by) (rulesOf s table by) (entryIn a (sets .old) (next .text)) (entriesAt a (sets .result) (next .count))) r
+
+pub record Finishes (a : Arena) (by : Pass) (sets : FinalSets) (count : ℕ) : Type 0 where
+  pub old : SetAt a (sets .old) count
+  pub apart : Apart sets
+  pub pass : FinalBy by
+
+abbrev pub FinishedBy : Arena → Arena → List ℕ → List (List ℕ) → Pass → FinalSets → ℕ → Finished → Type 0
+FinishedBy a b s table by sets count r =
+    FinishedAt b (sets .result) (finalPass (by .limit) (namesOf s by) (rulesOf s table by) (entriesAt a (sets .old) count)) r
 
 -- the same pass with the flag up where `up`
 unfoldable pub raisedBy : Bool → Finished → Finished
@@ -117,16 +214,46 @@ raisedBy up (finished.Into k flag) = finished.Into k (pick up true flag)
 raisedBy up finished.TooLong = finished.TooLong
 raisedBy up finished.TooMany = finished.TooMany
 
+-- ---- the passes of a word
+
+pub record FinishesAll (a : Arena) (by : Plan) (from : Target) : Type 0 where
+  pub source : SetAt a (from .set) (from .count)
+  pub side : from .set < 2
+  pub few : by .limit ≤ 256
+
+-- the final pass of a plan by a list
+abbrev pub finalBy : List ℕ → List (List ℕ) → Plan → ℕ → List Entry → Spelling
+finalBy s table by list l = finalPass (by .limit) (namesIn s (by .guesses)) (matcher s table list) l
+
+abbrev pub FinishedAll : Arena → Arena → List ℕ → List (List ℕ) → Plan → Target → Finished → Type 0
+FinishedAll a b s table by from r =
+    FinishedAt b 0 (then (finalBy s table by (by .common) (entriesAt a (from .set) (from .count))) (finalBy s table by (by .own))) r
+
+-- g is the number of the set
+pub record CodeOf (set : LanguageSet) (g : ℕ) : Type 0 where
+  pub code : IsCode g
+  pub is : set ≡ decoded g
+
+pub record Spells (by : Plan) (g : ℕ) : Type 0 where
+  pub few : by .limit ≤ 256
+  pub code : CodeOf (by .set) g
+
+-- a word by a plan with this limit
+abbrev pub wordWithin : ℕ → List ℕ → List (List ℕ) → Plan → Text → Spelling
+wordWithin limit s table by word =
+    wordOf limit (namesIn s (by .guesses)) (matcher s table (by .main)) (matcher s table (by .common)) (matcher s table (by .own)) (by .set) word
+
+abbrev pub SpelledAs : Arena → List ℕ → List (List ℕ) → Plan → Text → Finished → Type 0
+SpelledAs b s table by word r = FinishedAt b 0 (wordWithin (by .limit) s table by word) r
+
 -- ---- the answer
 
--- the n texts of set 0 lie within the buffers
-pub record TextsIn (store marks : List ℕ) (n : ℕ) : Type 0 where
-  pub long-store : length store ≡ 131072
-  pub long-marks : length marks ≡ 1024
-  pub set : IsSet (part 32768 0 store) (part 256 0 marks) n
+-- set 0 has n texts
+pub record TextsIn (store slots : List (List ℕ)) (n : ℕ) : Type 0 where
+  pub set : Holds (part 0 store) (part 0 slots) n
 
-unfoldable pub textsIn : List ℕ → List ℕ → ℕ → List Text
-textsIn store marks n = markedTexts (part 32768 0 store) (part 256 0 marks) n
+unfoldable pub textsIn : List (List ℕ) → List (List ℕ) → ℕ → List Text
+textsIn store slots n = slotTexts (part 0 store) (part 0 slots) n
 
 -- the bytes of texts, with a bar behind each
 unfoldable pub barred : List Text → ℕ
@@ -141,25 +268,19 @@ pub record GivenIs (ts : List Text) (out out′ : List ℕ) (at r : ℕ) : Type 
   pub result : r ≡ length (joined ts)
   pub buffer : out′ ≡ placed out at (joined ts)
 
--- the sizes of the buffers that `word` works with: four sets, and the alternatives of an expression, of which there are at most 256
-unfoldable pub areBuffers : ℕ → ℕ → ℕ → Bool
-areBuffers store marks alts = and (eqb store 131072) (and (eqb marks 1024) (eqb alts 256))
-
 -- the texts of a set
 abbrev pub spellingsIn : List Entry → List Text
 spellingsIn l = map (λ (e : Entry). e .text) l
 
--- what a word's answer says in the paper's numbers: its length and flag, or a refusal's number; or that the call was not fit
+-- what a word's answer says in the paper's numbers: its length and flag, or a refusal's number
 pub data WordAnswer : Type 0 where
   done : ℕ → Bool → WordAnswer
   wordRefused : ℕ → WordAnswer
-  unfit : WordAnswer
 
 unfoldable pub answerOf : Worded → WordAnswer
 answerOf (worded.Done length flag) = done length flag
 answerOf worded.TooLong = wordRefused (numberOf TextTooLong)
 answerOf worded.TooMany = wordRefused (numberOf TooManyTexts)
-answerOf worded.Unfit = unfit
 
 unfoldable pub answered : Spelling → WordAnswer
 answered (refusal why) = wordRefused (numberOf why)
@@ -169,7 +290,11 @@ unfoldable pub placedAs : Spelling → List ℕ → ℕ → List ℕ
 placedAs (refusal c) out at = out
 placedAs (texts l flag) out at = placed out at (joined (spellingsIn l))
 
+-- the word that `word` spells: a limit over 256 counts as 256
+abbrev pub wordBy : List ℕ → List (List ℕ) → Plan → Text → Spelling
+wordBy s table by word = wordWithin (min (by .limit) 256) s table by word
+
 -- the promise of `word`: the answer and the content of `out`
-pub record WordIs (fit : Bool) (s : Spelling) (out out′ : List ℕ) (at : ℕ) (r : Worded) : Type 0 where
-  pub result : answerOf r ≡ pick fit (answered s) unfit
-  pub buffer : out′ ≡ pick fit (placedAs s out at) out
+pub record WordIs (s : Spelling) (out out′ : List ℕ) (at : ℕ) (r : Worded) : Type 0 where
+  pub result : answerOf r ≡ answered s
+  pub buffer : out′ ≡ placedAs s out at

@@ -2,4 +2,3 @@ pub mod Sets
 pub mod BufferContracts
 pub mod Passes
 pub mod Contracts
-pub mod TableContracts

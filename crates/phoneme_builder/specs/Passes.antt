@@ -1,4 +1,4 @@
--- Passes over a word (01, Spelling a name, steps 6 to 9): which rule matches where, and what the texts become.
+-- Passes over a word (01, Spelling a name, steps 6 to 9): what the texts become as rules match.
 use Prim.Native.Nat.{ℕ, zero, suc, _+_, max}
 use mathlib.Core.Bool.{Bool, true, false}
 use mathlib.Core.List.{List, [], _∷_, _++_, map}
@@ -9,8 +9,8 @@ use Rattle.letters.specs.Utf8.{decodeAt}
 use Rattle.letters.specs.declared.utf8.Step.{Step}
 use Rattle.letters.specs.declared.utf8.Step.the-variants.{Char, Ill, End}
 use Rattle.languages.specs.declared.sets.LanguageSet.{LanguageSet}
-use Rattle.rule_index.specs.Matching.{Match, none, by, Matcher}
 use Rattle.phonemes.specs.Expressions.{bar, piecesIn, textOf, setOf}
+use Rattle.rule_index.specs.Matching.{Match, none, by, Matcher}
 use Rattle.choices.specs.Texts.{Text}
 use Rattle.choices.specs.Apply.{Alternative, Entry, NextSet, overlong, nextSet, apply, start}
 use Rattle.refusals.specs.declared.Refusal.the-variants.{TextTooLong}

@@ -1,64 +1,65 @@
 // Appending a character that no rule matched (01, Spelling a name, step 8).
-ghost use mathlib.Core.Path.{_≡_};
-ghost use Prim.Native.Nat.{_<_};
-ghost use Rattle.phoneme_builder.specs.Sets.{lengthened, appended};
-ghost use Rattle.phoneme_builder.specs.BufferContracts.{arena, Rooms, SetAt, entryIn, entriesAt, TextIn, AppliedAt, LengthenedAt};
+ghost use Rattle.phoneme_builder.specs.BufferContracts.{arena, Lengthens, LengthenedTo, BetweenIn, AppendedTo};
 use crate::apply::Applied;
+use crate::set::Between;
+use crate::set::ROW;
+use crate::set::Slots;
+use crate::set::Store;
+use crate::set::Target;
 use crate::set::add_to;
 use crate::set::copy_text;
-use crate::set::langs_of;
+use crate::set::langs_at;
 
 // The i-th text of set `from` with c behind it goes to its place in set `to`.
 fn lengthen(
-    store: &mut [u8],
-    marks: &mut [u64],
+    store: &mut Store,
+    slots: &mut Slots,
     from: usize,
     i: usize,
-    to: usize,
-    n: usize,
+    to: Target,
     c: &[u8],
 ) -> Applied
-    requires { ⌜ Rooms (arena (now store) (now marks)) ⌝ }
-    requires { ⌜ TextIn (now store) (now marks) from i ⌝ }
-    requires { ⌜ SetAt (arena (now store) (now marks)) to n ⌝ }
-    requires { ⌜ n < 256 ⌝ }
-    ensures { λ r. ⌜ LengthenedAt (arena (now (store .entry)) (now (marks .entry))) (arena (now (store .exit)) (now (marks .exit))) to (lengthened (now (c .entry)) (entryIn (arena (now (store .entry)) (now (marks .entry))) from i)) (entriesAt (arena (now (store .entry)) (now (marks .entry))) to n) r ⌝ }
+    requires { ⌜ Lengthens (arena (now store) (now slots)) from i to ⌝ }
+    ensures { λ r. ⌜ LengthenedTo (arena (now (store .entry)) (now (slots .entry))) (arena (now (store .exit)) (now (slots .exit)))
+        from i to (now (c .entry)) r ⌝ }
 {
     let mut row = [0u8; 128];
-    let e = copy_text(store, marks, from, i, &mut row);
-    if 128 < e + c.len() {
+    let e = copy_text(store, slots, from, i, &mut row);
+    if ROW < e + c.len() {
         return Applied::TooLong;
     }
-    let g = langs_of(marks, from, i);
-    Applied::Now(add_to(store, marks, to, n, &row[0..e], c, g))
+    let langs = langs_at(slots, from, i);
+    Applied::Now(add_to(store, slots, to, &row[0..e], c, langs))
 }
 
-// c behind every text of set `from`, sorted anew in set `to`: from the last on, each goes to its place among those behind it.
-pub(crate) fn append(
-    store: &mut [u8],
-    marks: &mut [u64],
-    from: usize,
-    on: usize,
-    to: usize,
-    c: &[u8],
-) -> Applied
-    requires { ⌜ Rooms (arena (now store) (now marks)) ⌝ }
-    requires { ⌜ SetAt (arena (now store) (now marks)) from on ⌝ }
-    requires { ⌜ (to < 4) × (from ≡ to → ⊥) ⌝ }
-    ensures { λ r. ⌜ AppliedAt (arena (now (store .entry)) (now (marks .entry))) (arena (now (store .exit)) (now (marks .exit))) to r (appended (now (c .entry)) (entriesAt (arena (now (store .entry)) (now (marks .entry))) from on)) ⌝ }
+// c behind every text, sorted anew in the other set: from the last on, each goes to its place among those behind it.
+pub(crate) fn append(store: &mut Store, slots: &mut Slots, sets: Between, c: &[u8]) -> Applied
+    requires { ⌜ BetweenIn (arena (now store) (now slots)) sets ⌝ }
+    ensures { λ r. ⌜ AppendedTo (arena (now (store .entry)) (now (slots .entry))) (arena (now (store .exit)) (now (slots .exit)))
+        sets (now (c .entry)) r ⌝ }
 {
-    let mut i = on;
-    let mut k = 0;
+    let mut i = sets.count;
+    let mut count = 0;
     while 0 < i {
         i -= 1;
-        match lengthen(store, marks, from, i, to, k, c) {
+        match lengthen(
+            store,
+            slots,
+            sets.from,
+            i,
+            Target {
+                set: sets.to,
+                count,
+            },
+            c,
+        ) {
             Applied::Now(grown) => {
-                k = grown;
+                count = grown;
             }
             Applied::TooLong => {
                 return Applied::TooLong;
             }
         }
     }
-    Applied::Now(k)
+    Applied::Now(count)
 }

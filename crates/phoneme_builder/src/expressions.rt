@@ -3,8 +3,12 @@ ghost use mathlib.Core.Path.{_≡_};
 ghost use Prim.Native.Nat.{_<_};
 ghost use lib.ListN.{length};
 ghost use Rattle.phoneme_builder.specs.Contracts.{AltsAre};
-use crate::marks::packed;
+use crate::set::MOST;
+use crate::slots::packed;
 use phonemes::Alternative;
+
+// A table of alternatives: an expression has no more than 256.
+pub(crate) type Alternatives = [u64; 256];
 
 // The alternatives of e, in the table. Returns how many there are.
 pub(crate) fn alternatives(e: &[u8], names: &[u8], alts: &mut [u64]) -> usize
@@ -13,7 +17,7 @@ pub(crate) fn alternatives(e: &[u8], names: &[u8], alts: &mut [u64]) -> usize
     ensures { λ r. ⌜ AltsAre (now (names .entry)) (now (e .entry)) (now (alts .exit)) r ⌝ }
 {
     let mut i = 0;
-    while i < 256 {
+    while i < MOST {
         match phonemes::alternative(e, names, i) {
             Alternative::At { start, end, set } => {
                 alts[i] = packed(languages::coded(set), start, end);

@@ -1,23 +1,34 @@
 // A final pass (`apply_final_rule` of engine.rs; 01, Spelling a name, step 8): each text is run from its own set, and the results unite.
-ghost use mathlib.Core.Path.{_≡_};
-ghost use Prim.Native.Nat.{_≤_, _<_};
-ghost use lib.ListN.{length};
-ghost use mathlib.Core.Bool.{true};
-ghost use Rattle.choices.specs.Apply.{start};
-ghost use Rattle.phoneme_builder.specs.BufferContracts.{arena, Rooms, SetAt, entryIn, entriesAt, TextIn};
-ghost use Rattle.phoneme_builder.specs.Passes.{turnsOf, run, finalText, finalPass};
-ghost use Rattle.rule_index.specs.Contracts.{matcher};
-ghost use Rattle.phoneme_builder.specs.TableContracts.{ListIn};
-ghost use Rattle.phoneme_builder.specs.Contracts.{PassedAt, Apart, TextFinished, FinishedAt};
+ghost use Rattle.phoneme_builder.specs.BufferContracts.{arena};
+ghost use Rattle.phoneme_builder.specs.Contracts.{TextRuns, TextRan, TextFinishes, TextFinishedBy, Finishes, FinishedBy};
+use crate::expressions::Alternatives;
+use crate::pass::Pass;
 use crate::pass::Passed;
 use crate::pass::either;
 use crate::pass::run;
+use crate::set::Between;
+use crate::set::Slots;
+use crate::set::Store;
 use crate::set::begin;
 use crate::set::copy_text;
-use crate::set::langs_of;
+use crate::set::langs_at;
 use crate::unite::United;
 use crate::unite::unite;
 use rule_index::Table;
+
+// The sets of a final pass: the old texts, the result, and two to run a text in.
+pub(crate) struct FinalSets {
+    pub(crate) old: usize,
+    pub(crate) result: usize,
+    pub(crate) x: usize,
+    pub(crate) y: usize,
+}
+
+// The next old text, and how many texts the result has.
+pub(crate) struct NextText {
+    pub(crate) text: usize,
+    pub(crate) count: usize,
+}
 
 // How many texts the result has, and the flag; or 7; or 8.
 pub(crate) enum Finished {
@@ -26,92 +37,58 @@ pub(crate) enum Finished {
     TooMany,
 }
 
-// The i-th text of set `old`, run in sets x and y from a set begun with its languages.
+// The i-th old text, run from a set begun with its languages.
 fn run_text(
-    store: &mut [u8],
-    marks: &mut [u64],
-    alts: &mut [u64],
-    old: usize,
-    i: usize,
-    x: usize,
-    y: usize,
+    store: &mut Store,
+    slots: &mut Slots,
+    alts: &mut Alternatives,
     pack: &[u8],
-    names: &[u8],
     table: &Table,
-    list: usize,
-    limit: usize,
+    by: Pass,
+    sets: FinalSets,
+    i: usize,
 ) -> Passed
-    requires { ⌜ Rooms (arena (now store) (now marks)) ⌝ }
-    requires { ⌜ TextIn (now store) (now marks) old i ⌝ }
-    requires { ⌜ (x < 4) × (y < 4) × (x ≡ y → ⊥) ⌝ }
-    requires { ⌜ length (now alts) ≡ 256 ⌝ }
-    requires { ⌜ ListIn (now table) list × (limit ≤ 256) ⌝ }
-    ensures { λ r. ⌜ PassedAt (arena (now (store .entry)) (now (marks .entry))) (arena (now (store .exit)) (now (marks .exit))) x y (run true limit (turnsOf (now (names .entry)) (matcher (now (pack .entry)) (now (table .entry)) list) ((entryIn (arena (now (store .entry)) (now (marks .entry))) old i) .text)) (start ((entryIn (arena (now (store .entry)) (now (marks .entry))) old i) .langs))) r ⌝ }
+    requires { ⌜ TextRuns (arena (now store) (now slots)) by sets i ⌝ }
+    ensures { λ r. ⌜ TextRan (arena (now (store .entry)) (now (slots .entry))) (arena (now (store .exit)) (now (slots .exit)))
+        (now (pack .entry)) (now (table .entry)) by sets i r ⌝ }
 {
     let mut word = [0u8; 128];
-    let e = copy_text(store, marks, old, i, &mut word);
-    let g = langs_of(marks, old, i);
-    let n = begin(store, marks, x, g);
-    run(
-        true,
-        store,
-        marks,
-        alts,
-        x,
-        n,
-        y,
-        pack,
-        names,
-        table,
-        list,
-        &word[0..e],
-        limit,
-    )
+    let e = copy_text(store, slots, sets.old, i, &mut word);
+    let langs = langs_at(slots, sets.old, i);
+    let count = begin(store, slots, sets.x, langs);
+    let between = Between {
+        from: sets.x,
+        count,
+        to: sets.y,
+    };
+    run(store, slots, alts, pack, table, by, &word[0..e], between)
 }
 
-// The i-th text of set `old`, run in sets x and y and united into set `result` of n texts.
+// The next old text, run and united into the result.
 fn final_text(
-    store: &mut [u8],
-    marks: &mut [u64],
-    alts: &mut [u64],
-    old: usize,
-    i: usize,
-    result: usize,
-    n: usize,
-    x: usize,
-    y: usize,
+    store: &mut Store,
+    slots: &mut Slots,
+    alts: &mut Alternatives,
     pack: &[u8],
-    names: &[u8],
     table: &Table,
-    list: usize,
-    limit: usize,
+    by: Pass,
+    sets: FinalSets,
+    next: NextText,
 ) -> Finished
-    requires { ⌜ Rooms (arena (now store) (now marks)) ⌝ }
-    requires { ⌜ TextIn (now store) (now marks) old i ⌝ }
-    requires { ⌜ SetAt (arena (now store) (now marks)) result n ⌝ }
-    requires { ⌜ Apart old result x y ⌝ }
-    requires { ⌜ length (now alts) ≡ 256 ⌝ }
-    requires { ⌜ ListIn (now table) list × (limit ≤ 256) ⌝ }
-    ensures { λ r. ⌜ TextFinished (arena (now (store .entry)) (now (marks .entry))) (arena (now (store .exit)) (now (marks .exit))) old result (finalText limit (now (names .entry)) (matcher (now (pack .entry)) (now (table .entry)) list) (entryIn (arena (now (store .entry)) (now (marks .entry))) old i) (entriesAt (arena (now (store .entry)) (now (marks .entry))) result n)) r ⌝ }
+    requires { ⌜ TextFinishes (arena (now store) (now slots)) by sets next ⌝ }
+    ensures { λ r. ⌜ TextFinishedBy (arena (now (store .entry)) (now (slots .entry))) (arena (now (store .exit)) (now (slots .exit)))
+        (now (pack .entry)) (now (table .entry)) by sets next r ⌝ }
 {
-    match run_text(
-        store,
-        marks,
-        alts,
-        old,
-        i,
-        x,
-        y,
-        pack,
-        names,
-        table,
-        list,
-        limit,
-    ) {
+    match run_text(store, slots, alts, pack, table, by, sets, next.text) {
         Passed::Now { texts, set, flag } => {
-            let g = langs_of(marks, old, i);
-            match unite(store, marks, result, n, set, texts, g) {
-                United::Into(r) => Finished::Into { texts: r, flag },
+            let langs = langs_at(slots, sets.old, next.text);
+            let between = Between {
+                from: set,
+                count: texts,
+                to: sets.result,
+            };
+            match unite(store, slots, between, next.count, langs) {
+                United::Into(texts) => Finished::Into { texts, flag },
                 United::TooMany => Finished::TooMany,
             }
         }
@@ -119,56 +96,37 @@ fn final_text(
     }
 }
 
-// The texts of set `old` in order, each run in sets x and y, into set `result`.
+// The old texts in order, each run and united into the result.
 pub(crate) fn final_pass(
-    store: &mut [u8],
-    marks: &mut [u64],
-    alts: &mut [u64],
-    old: usize,
-    on: usize,
-    result: usize,
-    x: usize,
-    y: usize,
+    store: &mut Store,
+    slots: &mut Slots,
+    alts: &mut Alternatives,
     pack: &[u8],
-    names: &[u8],
     table: &Table,
-    list: usize,
-    limit: usize,
+    by: Pass,
+    sets: FinalSets,
+    count: usize,
 ) -> Finished
-    requires { ⌜ Rooms (arena (now store) (now marks)) ⌝ }
-    requires { ⌜ SetAt (arena (now store) (now marks)) old on ⌝ }
-    requires { ⌜ Apart old result x y ⌝ }
-    requires { ⌜ length (now alts) ≡ 256 ⌝ }
-    requires { ⌜ ListIn (now table) list × (limit ≤ 256) ⌝ }
-    ensures { λ r. ⌜ FinishedAt (arena (now (store .exit)) (now (marks .exit))) result (finalPass limit (now (names .entry)) (matcher (now (pack .entry)) (now (table .entry)) list) (entriesAt (arena (now (store .entry)) (now (marks .entry))) old on)) r ⌝ }
+    requires { ⌜ Finishes (arena (now store) (now slots)) by sets count ⌝ }
+    ensures { λ r. ⌜ FinishedBy (arena (now (store .entry)) (now (slots .entry))) (arena (now (store .exit)) (now (slots .exit)))
+        (now (pack .entry)) (now (table .entry)) by sets count r ⌝ }
 {
-    let mut i = 0;
-    let mut n = 0;
+    let mut text = 0;
+    let mut united = 0;
     let mut flag = false;
-    while i < on {
-        match final_text(
-            store,
-            marks,
-            alts,
-            old,
-            i,
-            result,
-            n,
-            x,
-            y,
-            pack,
-            names,
-            table,
-            list,
-            limit,
-        ) {
+    while text < count {
+        let next = NextText {
+            text,
+            count: united,
+        };
+        match final_text(store, slots, alts, pack, table, by, sets, next) {
             Finished::Into {
-                texts: k,
-                flag: more,
+                texts,
+                flag: raised,
             } => {
-                n = k;
-                flag = either(flag, more);
-                i += 1;
+                united = texts;
+                flag = either(flag, raised);
+                text += 1;
             }
             Finished::TooLong => {
                 return Finished::TooLong;
@@ -178,5 +136,8 @@ pub(crate) fn final_pass(
             }
         }
     }
-    Finished::Into { texts: n, flag }
+    Finished::Into {
+        texts: united,
+        flag,
+    }
 }

@@ -3,11 +3,14 @@ mod append;
 mod apply;
 mod expressions;
 mod finals;
-mod marks;
 mod pass;
 mod set;
+mod slots;
 mod unite;
 mod words;
 
+pub use set::Slots;
+pub use set::Store;
+pub use words::Plan;
 pub use words::Worded;
 pub use words::word;

@@ -1,26 +1,43 @@
 // A pass over a word (01, Spelling a name, steps 6 and 8): at each place the first rule that matches is applied.
 ghost use mathlib.Core.Path.{_≡_};
 ghost use mathlib.Core.Bool.{true};
-ghost use mathlib.Core.List.{[]};
-ghost use Prim.Native.Nat.{_≤_, _<_};
+ghost use Prim.Native.Nat.{_+_, _≤_, _<_, min};
 ghost use lib.ListN.{length};
 ghost use Rattle.base.specs.Pick.{pick};
 ghost use Rattle.letters.specs.Utf8.{decodeAt};
-ghost use Rattle.choices.specs.Apply.{apply};
-ghost use Rattle.phoneme_builder.specs.BufferContracts.{arena, Rooms, SetAt, entriesAt, AppliedAt};
-ghost use Rattle.phoneme_builder.specs.Passes.{offered, stepLength, turnOn, turnsOf, run};
-ghost use Rattle.rule_index.specs.Matching.{none};
-ghost use Rattle.rule_index.specs.Contracts.{matcher};
-ghost use Rattle.phoneme_builder.specs.TableContracts.{ListIn};
-ghost use Rattle.phoneme_builder.specs.Contracts.{StepIn, TurnedAt, PassedAt};
+ghost use Rattle.phoneme_builder.specs.BufferContracts.{arena};
+ghost use Rattle.phoneme_builder.specs.Passes.{stepLength};
+ghost use Rattle.phoneme_builder.specs.Contracts.{namesIn, StepIn, StageIn, UnmatchedTurned, RuleApplies, RuleApplied, Turns, TurnedBy, Runs, RunTo};
 use crate::append::append;
 use crate::apply::Applied;
+use crate::apply::Most;
 use crate::apply::apply;
+use crate::expressions::Alternatives;
 use crate::expressions::alternatives;
+use crate::set::Between;
+use crate::set::Slots;
+use crate::set::Store;
 use letters::Step;
 use rule_index::Matched;
 use rule_index::Table;
 use rule_index::first_match;
+
+// How a pass works: by the rules of which list, up to which limit, whether it appends what no rule matches, and where the pack's names
+// end.
+pub(crate) struct Pass {
+    pub(crate) list: usize,
+    pub(crate) limit: usize,
+    pub(crate) appends: bool,
+    pub(crate) guesses: usize,
+}
+
+// Where a pass stands: from the texts of one set into another, at a place of the word.
+pub(crate) struct Stage {
+    pub(crate) from: usize,
+    pub(crate) count: usize,
+    pub(crate) to: usize,
+    pub(crate) place: usize,
+}
 
 // What a turn at a place comes to: so many texts in the other set, `full` where an apply ended at or over the limit;
 // or the texts kept where they are; or a text over 128 bytes would have entered (7).
@@ -52,6 +69,23 @@ pub(crate) fn either(a: bool, b: bool) -> bool
     if a { true } else { b }
 }
 
+pub(crate) fn least_of(a: usize, b: usize) -> usize
+    ensures { λ r. ⌜ r ≡ min a b ⌝ }
+{
+    if a < b { a } else { b }
+}
+
+// The bytes of a pack's names, behind which its guesses stand.
+fn names_in<'a>(pack: &'a [u8], guesses: usize) -> &'a [u8]
+    ensures { λ r. ⌜ now r ≡ namesIn (now (pack .entry)) guesses ⌝ }
+{
+    let end = least_of(guesses, pack.len());
+    if end <= 1 {
+        return &pack[0..0];
+    }
+    &pack[1..end]
+}
+
 // The bytes of the character at a place.
 fn char_bytes(word: &[u8], place: usize) -> usize
     requires { ⌜ place < length (now word) ⌝ }
@@ -64,30 +98,36 @@ fn char_bytes(word: &[u8], place: usize) -> usize
     }
 }
 
-// An unmatched character: skipped in the main pass, appended in a final one.
-fn letter_turn(
-    last: bool,
-    store: &mut [u8],
-    marks: &mut [u64],
-    from: usize,
-    n: usize,
-    to: usize,
-    word: &[u8],
-    place: usize,
-    limit: usize,
-) -> Turned
-    requires { ⌜ Rooms (arena (now store) (now marks)) ⌝ }
-    requires { ⌜ SetAt (arena (now store) (now marks)) from n ⌝ }
-    requires { ⌜ (to < 4) × (from ≡ to → ⊥) ⌝ }
-    requires { ⌜ place < length (now word) ⌝ }
-    ensures { λ r. ⌜ TurnedAt (arena (now (store .entry)) (now (marks .entry))) (arena (now (store .exit)) (now (marks .exit))) last limit from n to (now (word .entry)) place (turnOn [] none (now (word .entry)) place) r ⌝ }
+// The place a step further in a word.
+fn past(word: &[u8], place: usize, step: usize) -> usize
+    requires { ⌜ place + step ≤ length (now word) ⌝ }
+    ensures { λ r. ⌜ r ≡ place + step ⌝ }
 {
+    place + step
+}
+
+// An unmatched character: skipped in the main pass, appended in a final one.
+fn pass_unmatched(store: &mut Store, slots: &mut Slots, by: Pass, word: &[u8], at: Stage) -> Turned
+    requires { ⌜ StageIn (arena (now store) (now slots)) (now word) at ⌝ }
+    ensures { λ r. ⌜ UnmatchedTurned (arena (now (store .entry)) (now (slots .entry))) (arena (now (store .exit)) (now (slots .exit)))
+        by (now (word .entry)) at r ⌝ }
+{
+    let place = at.place;
     let step = char_bytes(word, place);
-    if last {
+    if by.appends {
         let end = place + step;
-        match append(store, marks, from, n, to, &word[place..end]) {
-            Applied::Now(k) => Turned::Into {
-                texts: k,
+        match append(
+            store,
+            slots,
+            Between {
+                from: at.from,
+                count: at.count,
+                to: at.to,
+            },
+            &word[place..end],
+        ) {
+            Applied::Now(texts) => Turned::Into {
+                texts,
                 step,
                 full: false,
             },
@@ -100,138 +140,115 @@ fn letter_turn(
 
 // A rule's expression applied.
 fn apply_rule(
-    store: &mut [u8],
-    marks: &mut [u64],
-    alts: &mut [u64],
-    from: usize,
-    n: usize,
-    to: usize,
+    store: &mut Store,
+    slots: &mut Slots,
+    alts: &mut Alternatives,
+    sets: Between,
     expr: &[u8],
     names: &[u8],
     limit: usize,
 ) -> Applied
-    requires { ⌜ Rooms (arena (now store) (now marks)) ⌝ }
-    requires { ⌜ SetAt (arena (now store) (now marks)) from n ⌝ }
-    requires { ⌜ (to < 4) × (from ≡ to → ⊥) ⌝ }
-    requires { ⌜ length (now alts) ≡ 256 ⌝ }
-    requires { ⌜ (length (now expr) < 256) × (limit ≤ 256) ⌝ }
-    ensures { λ r. ⌜ AppliedAt (arena (now (store .entry)) (now (marks .entry))) (arena (now (store .exit)) (now (marks .exit))) to r (apply limit (offered (now (names .entry)) (now (expr .entry))) (entriesAt (arena (now (store .entry)) (now (marks .entry))) from n)) ⌝ }
+    requires { ⌜ RuleApplies (arena (now store) (now slots)) sets (now expr) limit ⌝ }
+    ensures { λ r. ⌜ RuleApplied (arena (now (store .entry)) (now (slots .entry))) (arena (now (store .exit)) (now (slots .exit)))
+        sets (now (expr .entry)) (now (names .entry)) limit r ⌝ }
 {
     let m = alternatives(expr, names, alts);
-    apply(store, marks, from, n, to, expr, alts, m, limit)
+    apply(
+        store,
+        slots,
+        sets,
+        expr,
+        alts,
+        Most {
+            alternatives: m,
+            limit,
+        },
+    )
 }
 
-// The turn at a place of a word: from set `from` with n texts into set `to`.
+// The turn at a place of a word.
 fn turn(
-    last: bool,
-    store: &mut [u8],
-    marks: &mut [u64],
-    alts: &mut [u64],
-    from: usize,
-    n: usize,
-    to: usize,
+    store: &mut Store,
+    slots: &mut Slots,
+    alts: &mut Alternatives,
     pack: &[u8],
-    names: &[u8],
     table: &Table,
-    list: usize,
+    by: Pass,
     word: &[u8],
-    place: usize,
-    limit: usize,
+    at: Stage,
 ) -> Turned
-    requires { ⌜ Rooms (arena (now store) (now marks)) ⌝ }
-    requires { ⌜ SetAt (arena (now store) (now marks)) from n ⌝ }
-    requires { ⌜ (to < 4) × (from ≡ to → ⊥) ⌝ }
-    requires { ⌜ length (now alts) ≡ 256 ⌝ }
-    requires { ⌜ ListIn (now table) list × (limit ≤ 256) ⌝ }
-    requires { ⌜ place < length (now word) ⌝ }
-    ensures { λ r. ⌜ TurnedAt (arena (now (store .entry)) (now (marks .entry))) (arena (now (store .exit)) (now (marks .exit))) last limit from n to (now (word .entry)) place (turnOn (now (names .entry)) (matcher (now (pack .entry)) (now (table .entry)) list (now (word .entry)) place) (now (word .entry)) place) r ⌝ }
+    requires { ⌜ Turns (arena (now store) (now slots)) by (now word) at ⌝ }
+    ensures { λ r. ⌜ TurnedBy (arena (now (store .entry)) (now (slots .entry))) (arena (now (store .exit)) (now (slots .exit)))
+        (now (pack .entry)) (now (table .entry)) by (now (word .entry)) at r ⌝ }
 {
-    match first_match(pack, table, list, word, place) {
+    let place = at.place;
+    match first_match(pack, table, by.list, word, place) {
         Matched::By {
             step,
             expression,
             end,
         } => match apply_rule(
             store,
-            marks,
+            slots,
             alts,
-            from,
-            n,
-            to,
+            Between {
+                from: at.from,
+                count: at.count,
+                to: at.to,
+            },
             &pack[expression..end],
-            names,
-            limit,
+            names_in(pack, by.guesses),
+            by.limit,
         ) {
-            Applied::Now(k) => Turned::Into {
-                texts: k,
+            Applied::Now(texts) => Turned::Into {
+                texts,
                 step,
-                full: limit <= k,
+                full: by.limit <= texts,
             },
             Applied::TooLong => Turned::TooLong,
         },
-        Matched::Nothing => letter_turn(last, store, marks, from, n, to, word, place, limit),
+        Matched::Nothing => pass_unmatched(store, slots, by, word, at),
     }
 }
 
-// A pass over a word from the n texts of set `x`, the other set being `y`; the two take turns.
+// A pass over a word from the texts of one set, in that set and another; the two take turns.
 pub(crate) fn run(
-    last: bool,
-    store: &mut [u8],
-    marks: &mut [u64],
-    alts: &mut [u64],
-    x: usize,
-    n: usize,
-    y: usize,
+    store: &mut Store,
+    slots: &mut Slots,
+    alts: &mut Alternatives,
     pack: &[u8],
-    names: &[u8],
     table: &Table,
-    list: usize,
+    by: Pass,
     word: &[u8],
-    limit: usize,
+    sets: Between,
 ) -> Passed
-    requires { ⌜ Rooms (arena (now store) (now marks)) ⌝ }
-    requires { ⌜ SetAt (arena (now store) (now marks)) x n ⌝ }
-    requires { ⌜ (y < 4) × (x ≡ y → ⊥) ⌝ }
-    requires { ⌜ length (now alts) ≡ 256 ⌝ }
-    requires { ⌜ ListIn (now table) list × (limit ≤ 256) ⌝ }
-    ensures { λ r. ⌜ PassedAt (arena (now (store .entry)) (now (marks .entry))) (arena (now (store .exit)) (now (marks .exit))) x y (run last limit (turnsOf (now (names .entry)) (matcher (now (pack .entry)) (now (table .entry)) list) (now (word .entry))) (entriesAt (arena (now (store .entry)) (now (marks .entry))) x n)) r ⌝ }
+    requires { ⌜ Runs (arena (now store) (now slots)) by sets ⌝ }
+    ensures { λ r. ⌜ RunTo (arena (now (store .entry)) (now (slots .entry))) (arena (now (store .exit)) (now (slots .exit)))
+        (now (pack .entry)) (now (table .entry)) by (now (word .entry)) sets r ⌝ }
 {
-    let mut from = x;
-    let mut to = y;
-    let mut texts = n;
+    let mut from = sets.from;
+    let mut to = sets.to;
+    let mut count = sets.count;
     let mut place = 0;
     let mut flag = false;
     while place < word.len() {
-        match turn(
-            last,
-            store,
-            marks,
-            alts,
+        let at = Stage {
             from,
-            texts,
+            count,
             to,
-            pack,
-            names,
-            table,
-            list,
-            word,
             place,
-            limit,
-        ) {
-            Turned::Into {
-                texts: k,
-                step,
-                full,
-            } => {
+        };
+        match turn(store, slots, alts, pack, table, by, word, at) {
+            Turned::Into { texts, step, full } => {
                 let other = from;
                 from = to;
                 to = other;
-                texts = k;
-                place += step;
+                count = texts;
+                place = past(word, place, step);
                 flag = either(flag, full);
             }
             Turned::Kept { step } => {
-                place += step;
+                place = past(word, place, step);
             }
             Turned::TooLong => {
                 return Passed::TooLong;
@@ -239,7 +256,7 @@ pub(crate) fn run(
         }
     }
     Passed::Now {
-        texts,
+        texts: count,
         set: from,
         flag,
     }

@@ -1,18 +1,41 @@
-// A set of at most 256 texts of 128 bytes: the texts stand in rows, and the marks of the texts, in their order, say which row and how long.
+// A set of at most 256 texts of 128 bytes: the texts stand in rows, and the slots, in the order of the texts, say which row and how long.
 // A text that may enter is written into the row behind the others, and then looked up.
-// Four sets stand side by side in the same buffers, by number: 256 rows of 128 bytes and 256 marks each.
+// Four sets stand side by side, by number: 256 rows of 128 bytes and 256 slots each.
 ghost use mathlib.Core.Path.{_≡_};
 ghost use mathlib.Core.List.{_++_};
 ghost use Prim.Native.Nat.{_+_, _*_, _≤_, _<_};
 ghost use lib.ListN.{length, take, drop};
-ghost use Rattle.languages.specs.Contracts.{decoded, IsCode};
-ghost use Rattle.choices.specs.Apply.{insert, start};
-ghost use Rattle.phoneme_builder.specs.BufferContracts.{findL, insAt, entry, put, firstByteOf, secondOf, markedText, markedTexts, markedEntries, IsSet, SetIs, arena, Rooms, SetAt, entriesAt, TextIn, textIn, LangsIn, langsIn, CopiedIs, GrownAt};
-use crate::marks::NO_LANGUAGES;
-use crate::marks::first_of;
-use crate::marks::merged;
-use crate::marks::packed;
-use crate::marks::second_of;
+ghost use Rattle.languages.specs.Contracts.{IsCode};
+ghost use Rattle.phoneme_builder.specs.BufferContracts.{findL, insAt, put, slotOf, InsertsText, rowOf, lengthOf, slotText, slotTexts, added, IsSet, SetIs, Enters, arena, AddsTo, AddedTo, BegunAs, TextIn, textIn, langsIn, CopiedIs};
+use crate::slots::NO_LANGUAGES;
+use crate::slots::langs_of;
+use crate::slots::length_of;
+use crate::slots::merged;
+use crate::slots::packed;
+use crate::slots::row_of;
+
+// The rows and the slots of four sets.
+pub type Store = [[u8; 32768]; 4];
+
+pub type Slots = [[u64; 256]; 4];
+
+// The bytes of a row, which no text exceeds, and the texts that a set may have.
+pub(crate) const ROW: usize = 128;
+
+pub(crate) const MOST: usize = 256;
+
+// A set by its number, and how many texts it has.
+pub(crate) struct Target {
+    pub(crate) set: usize,
+    pub(crate) count: usize,
+}
+
+// A set to read, its texts, and another set to write.
+pub(crate) struct Between {
+    pub(crate) from: usize,
+    pub(crate) count: usize,
+    pub(crate) to: usize,
+}
 
 // Where a text stands, or where it would go.
 pub(crate) enum Found {
@@ -20,24 +43,24 @@ pub(crate) enum Found {
     Free(usize),
 }
 
-// The text that a mark names.
-fn row<'a>(store: &'a [u8], x: u64) -> &'a [u8]
-    requires { ⌜ firstByteOf x * 128 + secondOf x ≤ length (now store) ⌝ }
-    ensures { λ r. ⌜ now r ≡ markedText (now (store .entry)) x ⌝ }
+// The text that a slot names.
+fn row<'a>(store: &'a [u8], slot: u64) -> &'a [u8]
+    requires { ⌜ rowOf slot * 128 + lengthOf slot ≤ length (now store) ⌝ }
+    ensures { λ r. ⌜ now r ≡ slotText (now (store .entry)) slot ⌝ }
 {
-    let a = first_of(x) * 128;
-    let e = a + second_of(x);
+    let a = row_of(slot) * ROW;
+    let e = a + length_of(slot);
     &store[a..e]
 }
 
-// Where t stands among the n texts, or where it would go.
-pub(crate) fn find(store: &[u8], marks: &[u64], n: usize, t: &[u8]) -> Found
-    requires { ⌜ IsSet (now store) (now marks) n ⌝ }
-    ensures { λ r. ⌜ r ≡ findL (now (t .entry)) (markedTexts (now (store .entry)) (now (marks .entry)) n) ⌝ }
+// Where t stands among the texts, or where it would go.
+pub(crate) fn find(store: &[u8], slots: &[u64], count: usize, t: &[u8]) -> Found
+    requires { ⌜ IsSet (now store) (now slots) count ⌝ }
+    ensures { λ r. ⌜ r ≡ findL (now (t .entry)) (slotTexts (now (store .entry)) (now (slots .entry)) count) ⌝ }
 {
     let mut i = 0;
-    while i < n {
-        match letters::compare(row(store, marks[i]), t) {
+    while i < count {
+        match letters::compare(row(store, slots[i]), t) {
             letters::Order::Less => {
                 i += 1;
             }
@@ -53,38 +76,45 @@ pub(crate) fn find(store: &[u8], marks: &[u64], n: usize, t: &[u8]) -> Found
 }
 
 // Puts v at index p of the first n, and moves the others up by one.
-pub(crate) fn open_at(marks: &mut [u64], p: usize, n: usize, v: u64)
-    requires { ⌜ (p ≤ n) × (n < length (now marks)) ⌝ }
-    ensures { λ _. ⌜ take (n + 1) (now (marks .exit)) ≡ insAt p v (take n (now (marks .entry))) ⌝ }
+fn insert_at(slots: &mut [u64], p: usize, n: usize, v: u64)
+    requires { ⌜ (p ≤ n) × (n < length (now slots)) ⌝ }
+    ensures { λ _. ⌜ take (n + 1) (now (slots .exit)) ≡ insAt p v (take n (now (slots .entry))) ⌝ }
 {
     let mut x = v;
     let mut i = p;
     while i < n {
-        let y = marks[i];
-        marks[i] = x;
+        let y = slots[i];
+        slots[i] = x;
         x = y;
         i += 1;
     }
-    marks[n] = x;
+    slots[n] = x;
 }
 
-// Enters the text of `long` bytes in row n, with the languages g, among the n; an equal text already there stays as it was: nothing is
-// added to its languages.
-fn enter(store: &[u8], marks: &mut [u64], n: usize, long: usize, g: u64) -> usize
-    requires { ⌜ IsSet (now store) (now marks) n ⌝ }
-    requires { ⌜ IsCode g ⌝ }
-    requires { ⌜ (n < 256) × (long ≤ 128) ⌝ }
-    ensures { λ r. ⌜ SetIs (now (store .entry)) (now (marks .exit)) r (insert (entry (take long (drop (n * 128) (now (store .entry)))) (decoded g)) (markedEntries (now (store .entry)) (now (marks .entry)) n)) ⌝ }
+// Puts the slot of a text in row n at index p of the first n.
+pub(crate) fn insert_text(slots: &mut [u64], p: usize, n: usize, langs: u64, long: usize)
+    requires { ⌜ InsertsText (now slots) p n langs long ⌝ }
+    ensures { λ _. ⌜ take (n + 1) (now (slots .exit)) ≡ insAt p (slotOf langs n long) (take n (now (slots .entry))) ⌝ }
 {
-    let a = n * 128;
-    match find(store, marks, n, &store[a..a + long]) {
+    insert_at(slots, p, n, packed(langs, n, long));
+}
+
+// Enters the text of `long` bytes in the row behind the others; an equal text already there stays as it was: nothing is added to its
+// languages.
+fn enter(store: &[u8], slots: &mut [u64], count: usize, long: usize, langs: u64) -> usize
+    requires { ⌜ Enters (now store) (now slots) count long langs ⌝ }
+    ensures { λ r. ⌜ SetIs (now (store .entry)) (now (slots .exit)) r
+        (added (now (store .entry)) (now (slots .entry)) count (take long (drop (count * 128) (now (store .entry)))) langs) ⌝ }
+{
+    let a = count * ROW;
+    match find(store, slots, count, &store[a..a + long]) {
         Found::At(p) => {
-            marks[p] = merged(marks[p], NO_LANGUAGES);
-            n
+            slots[p] = merged(slots[p], NO_LANGUAGES);
+            count
         }
         Found::Free(p) => {
-            open_at(marks, p, n, packed(g, n, long));
-            n + 1
+            insert_text(slots, p, count, langs, long);
+            count + 1
         }
     }
 }
@@ -106,78 +136,75 @@ pub(crate) fn write(store: &mut [u8], n: usize, a: &[u8], b: &[u8])
     requires { ⌜ n * 128 + (length (now a) + length (now b)) ≤ length (now store) ⌝ }
     ensures { λ _. ⌜ now (store .exit) ≡ put (now (store .entry)) (n * 128) (now (a .entry) ++ now (b .entry)) ⌝ }
 {
-    let at = n * 128;
+    let at = n * ROW;
     put(store, at, a);
     put(store, at + a.len(), b);
 }
 
-// Adds the text of a and then b, with the languages g; an equal text already there stays as it was. Returns how many there are then.
-fn add(store: &mut [u8], marks: &mut [u64], n: usize, a: &[u8], b: &[u8], g: u64) -> usize
-    requires { ⌜ IsSet (now store) (now marks) n ⌝ }
-    requires { ⌜ IsCode g ⌝ }
-    requires { ⌜ (n < 256) × (length (now a) + length (now b) ≤ 128) ⌝ }
-    ensures { λ r. ⌜ SetIs (now (store .exit)) (now (marks .exit)) r (insert (entry (now (a .entry) ++ now (b .entry)) (decoded g)) (markedEntries (now (store .entry)) (now (marks .entry)) n)) ⌝ }
+// Adds the text of a and then b; an equal text already there stays as it was. Returns how many there are then.
+fn add(store: &mut [u8], slots: &mut [u64], count: usize, a: &[u8], b: &[u8], langs: u64) -> usize
+    requires { ⌜ Enters (now store) (now slots) count (length (now a) + length (now b)) langs ⌝ }
+    ensures { λ r. ⌜ SetIs (now (store .exit)) (now (slots .exit)) r
+        (added (now (store .entry)) (now (slots .entry)) count (now (a .entry) ++ now (b .entry)) langs) ⌝ }
 {
-    write(store, n, a, b);
-    enter(store, marks, n, a.len() + b.len(), g)
+    write(store, count, a, b);
+    enter(store, slots, count, a.len() + b.len(), langs)
 }
 
-// The same in set k of those side by side.
+// The same in one of the four sets.
 pub(crate) fn add_to(
-    store: &mut [u8],
-    marks: &mut [u64],
-    k: usize,
-    n: usize,
+    store: &mut Store,
+    slots: &mut Slots,
+    to: Target,
     a: &[u8],
     b: &[u8],
-    g: u64,
+    langs: u64,
 ) -> usize
-    requires { ⌜ Rooms (arena (now store) (now marks)) ⌝ }
-    requires { ⌜ SetAt (arena (now store) (now marks)) k n ⌝ }
-    requires { ⌜ IsCode g ⌝ }
-    requires { ⌜ (n < 256) × (length (now a) + length (now b) ≤ 128) ⌝ }
-    ensures { λ r. ⌜ GrownAt (arena (now (store .entry)) (now (marks .entry))) (arena (now (store .exit)) (now (marks .exit))) k r (insert (entry (now (a .entry) ++ now (b .entry)) (decoded g)) (entriesAt (arena (now (store .entry)) (now (marks .entry))) k n)) ⌝ }
+    requires { ⌜ AddsTo (arena (now store) (now slots)) to (length (now a) + length (now b)) langs ⌝ }
+    ensures { λ r. ⌜ AddedTo (arena (now (store .entry)) (now (slots .entry))) (arena (now (store .exit)) (now (slots .exit)))
+        to (now (a .entry) ++ now (b .entry)) langs r ⌝ }
 {
-    let p = k * 32768;
-    let l = k * 256;
-    add(&mut store[p..p + 32768], &mut marks[l..l + 256], n, a, b, g)
+    let set = to.set;
+    add(&mut store[set], &mut slots[set], to.count, a, b, langs)
 }
 
-// The i-th text of set k.
-pub(crate) fn text_of<'a>(store: &'a [u8], marks: &[u64], k: usize, i: usize) -> &'a [u8]
-    requires { ⌜ TextIn (now store) (now marks) k i ⌝ }
-    ensures { λ r. ⌜ now r ≡ textIn (now (store .entry)) (now (marks .entry)) k i ⌝ }
+// The i-th text of a set.
+pub(crate) fn text_of<'a>(store: &'a Store, slots: &Slots, set: usize, i: usize) -> &'a [u8]
+    requires { ⌜ TextIn (now slots) set i ⌝ }
+    ensures { λ r. ⌜ now r ≡ textIn (now (store .entry)) (now (slots .entry)) set i ⌝ }
 {
-    let x = marks[k * 256 + i];
-    let p = k * 32768;
-    row(&store[p..p + 32768], x)
+    row(&store[set], slots[set][i])
 }
 
-// The i-th text of set k, copied to the front of d; returns its length.
-pub(crate) fn copy_text(store: &[u8], marks: &[u64], k: usize, i: usize, d: &mut [u8]) -> usize
-    requires { ⌜ TextIn (now store) (now marks) k i ⌝ }
-    requires { ⌜ length (now d) ≡ 128 ⌝ }
-    ensures { λ r. ⌜ CopiedIs (textIn (now (store .entry)) (now (marks .entry)) k i) (now (d .exit)) r ⌝ }
+// The i-th text of a set, copied to the front of d; returns its length.
+pub(crate) fn copy_text(
+    store: &Store,
+    slots: &Slots,
+    set: usize,
+    i: usize,
+    d: &mut [u8; 128],
+) -> usize
+    requires { ⌜ TextIn (now slots) set i ⌝ }
+    ensures { λ r. ⌜ CopiedIs (textIn (now (store .entry)) (now (slots .entry)) set i) (now (d .exit)) r ⌝ }
 {
-    let t = text_of(store, marks, k, i);
+    let t = text_of(store, slots, set, i);
     put(d, 0, t);
     t.len()
 }
 
 // Its languages.
-pub(crate) fn langs_of(marks: &[u64], k: usize, i: usize) -> u64
-    requires { ⌜ LangsIn (now marks) k i ⌝ }
-    ensures { λ r. ⌜ r ≡ langsIn (now (marks .entry)) k i ⌝ }
+pub(crate) fn langs_at(slots: &Slots, set: usize, i: usize) -> u64
+    requires { ⌜ TextIn (now slots) set i ⌝ }
+    ensures { λ r. ⌜ r ≡ langsIn (now (slots .entry)) set i ⌝ }
 {
-    marks[k * 256 + i] / 65536
+    langs_of(slots[set][i])
 }
 
-// Set k begun with one empty text of the languages g. Returns how many texts there are.
-pub(crate) fn begin(store: &mut [u8], marks: &mut [u64], k: usize, g: u64) -> usize
-    requires { ⌜ Rooms (arena (now store) (now marks)) ⌝ }
-    requires { ⌜ k < 4 ⌝ }
-    requires { ⌜ IsCode g ⌝ }
-    ensures { λ r. ⌜ GrownAt (arena (now (store .entry)) (now (marks .entry))) (arena (now (store .exit)) (now (marks .exit))) k r (start (decoded g)) ⌝ }
+// A set begun with one empty text. Returns how many texts there are.
+pub(crate) fn begin(store: &mut Store, slots: &mut Slots, set: usize, langs: u64) -> usize
+    requires { ⌜ set < 4 ⌝ }
+    requires { ⌜ IsCode langs ⌝ }
+    ensures { λ r. ⌜ BegunAs (arena (now (store .entry)) (now (slots .entry))) (arena (now (store .exit)) (now (slots .exit))) set langs r ⌝ }
 {
-    add_to(store, marks, k, 0, b"", b"", g)
+    add_to(store, slots, Target { set, count: 0 }, b"", b"", langs)
 }

@@ -1,18 +1,17 @@
 // Uniting the results of a final pass (01, Spelling a name, step 8).
-ghost use mathlib.Core.Path.{_≡_};
-ghost use mathlib.Core.List.{[], _∷_};
-ghost use Prim.Native.Nat.{_≤_};
-ghost use lib.ListN.{length};
-ghost use Rattle.languages.specs.Contracts.{decoded, IsCode};
-ghost use Rattle.phoneme_builder.specs.BufferContracts.{entry, markedEntries, IsSet, UnitedIs, arena, Rooms, SetAt, entryIn, entriesAt, TextIn, UnitedAt};
-use crate::marks::merged;
-use crate::marks::packed;
+ghost use Rattle.phoneme_builder.specs.BufferContracts.{InsertsRow, RowInserted, Unites, UnitedRow, arena, UnitesTo, UnitedTo, UnitesText, UnitedText, UnitesSet, UnitedSet};
+use crate::set::Between;
 use crate::set::Found;
+use crate::set::MOST;
+use crate::set::Slots;
+use crate::set::Store;
+use crate::set::Target;
 use crate::set::copy_text;
 use crate::set::find;
-use crate::set::langs_of;
-use crate::set::open_at;
+use crate::set::insert_text;
+use crate::set::langs_at;
 use crate::set::write;
+use crate::slots::merged;
 
 // How many texts the result has now; or a 257th text would have entered it (01, the table, 8).
 pub(crate) enum United {
@@ -20,111 +19,122 @@ pub(crate) enum United {
     TooMany,
 }
 
-// The text a with the languages ga: an equal text takes its old set merged with g, the set of the text being worked on.
-fn unite_row(store: &mut [u8], marks: &mut [u64], n: usize, a: &[u8], ga: u64, g: u64) -> United
-    requires { ⌜ IsSet (now store) (now marks) n ⌝ }
-    requires { ⌜ IsCode ga ⌝ }
-    requires { ⌜ IsCode g ⌝ }
-    requires { ⌜ length (now a) ≤ 128 ⌝ }
-    ensures { λ r. ⌜ UnitedIs (decoded g) (entry (now (a .entry)) (decoded ga) ∷ []) (markedEntries (now (store .entry)) (now (marks .entry)) n) r (now (store .exit)) (now (marks .exit)) ⌝ }
+// A text written into the row behind the others, and its slot put at index p.
+fn insert_row(store: &mut [u8], slots: &mut [u64], p: usize, count: usize, text: &[u8], langs: u64)
+    requires { ⌜ InsertsRow (now store) (now slots) p count (now text) langs ⌝ }
+    ensures { λ _. ⌜ RowInserted (now (store .entry)) (now (slots .entry)) p count (now (text .entry)) langs
+        (now (store .exit)) (now (slots .exit)) ⌝ }
 {
-    match find(store, marks, n, a) {
+    write(store, count, text, b"");
+    insert_text(slots, p, count, langs, text.len());
+}
+
+// A text with its languages: an equal text takes its old set merged with `worked`, the set of the text being worked on.
+fn unite_row(
+    store: &mut [u8],
+    slots: &mut [u64],
+    count: usize,
+    text: &[u8],
+    langs: u64,
+    worked: u64,
+) -> United
+    requires { ⌜ Unites (now store) (now slots) count (now text) langs worked ⌝ }
+    ensures { λ r. ⌜ UnitedRow (now (store .entry)) (now (slots .entry)) count (now (text .entry)) langs worked r
+        (now (store .exit)) (now (slots .exit)) ⌝ }
+{
+    match find(store, slots, count, text) {
         Found::At(p) => {
-            marks[p] = merged(marks[p], g);
-            United::Into(n)
+            slots[p] = merged(slots[p], worked);
+            United::Into(count)
         }
         Found::Free(p) => {
-            if 256 <= n {
+            if MOST <= count {
                 return United::TooMany;
             }
-            write(store, n, a, b"");
-            open_at(marks, p, n, packed(ga, n, a.len()));
-            United::Into(n + 1)
+            insert_row(store, slots, p, count, text, langs);
+            United::Into(count + 1)
         }
     }
 }
 
-// The same into set `to` of those side by side.
+// The same into one of the four sets.
 fn unite_to(
-    store: &mut [u8],
-    marks: &mut [u64],
-    to: usize,
-    n: usize,
-    a: &[u8],
-    ga: u64,
-    g: u64,
+    store: &mut Store,
+    slots: &mut Slots,
+    to: Target,
+    text: &[u8],
+    langs: u64,
+    worked: u64,
 ) -> United
-    requires { ⌜ Rooms (arena (now store) (now marks)) ⌝ }
-    requires { ⌜ SetAt (arena (now store) (now marks)) to n ⌝ }
-    requires { ⌜ IsCode ga ⌝ }
-    requires { ⌜ IsCode g ⌝ }
-    requires { ⌜ length (now a) ≤ 128 ⌝ }
-    ensures { λ r. ⌜ UnitedAt (arena (now (store .entry)) (now (marks .entry))) (arena (now (store .exit)) (now (marks .exit))) to (decoded g) (entry (now (a .entry)) (decoded ga) ∷ []) (entriesAt (arena (now (store .entry)) (now (marks .entry))) to n) r ⌝ }
+    requires { ⌜ UnitesTo (arena (now store) (now slots)) to (now text) langs worked ⌝ }
+    ensures { λ r. ⌜ UnitedTo (arena (now (store .entry)) (now (slots .entry))) (arena (now (store .exit)) (now (slots .exit)))
+        to (now (text .entry)) langs worked r ⌝ }
 {
-    let p = to * 32768;
-    let l = to * 256;
+    let set = to.set;
     unite_row(
-        &mut store[p..p + 32768],
-        &mut marks[l..l + 256],
-        n,
-        a,
-        ga,
-        g,
+        &mut store[set],
+        &mut slots[set],
+        to.count,
+        text,
+        langs,
+        worked,
     )
 }
 
 // The i-th text of set `from` into set `to`.
 fn unite_text(
-    store: &mut [u8],
-    marks: &mut [u64],
+    store: &mut Store,
+    slots: &mut Slots,
     from: usize,
     i: usize,
-    to: usize,
-    n: usize,
-    g: u64,
+    to: Target,
+    worked: u64,
 ) -> United
-    requires { ⌜ Rooms (arena (now store) (now marks)) ⌝ }
-    requires { ⌜ TextIn (now store) (now marks) from i ⌝ }
-    requires { ⌜ SetAt (arena (now store) (now marks)) to n ⌝ }
-    requires { ⌜ IsCode g ⌝ }
-    ensures { λ r. ⌜ UnitedAt (arena (now (store .entry)) (now (marks .entry))) (arena (now (store .exit)) (now (marks .exit))) to (decoded g) (entryIn (arena (now (store .entry)) (now (marks .entry))) from i ∷ []) (entriesAt (arena (now (store .entry)) (now (marks .entry))) to n) r ⌝ }
+    requires { ⌜ UnitesText (arena (now store) (now slots)) from i to worked ⌝ }
+    ensures { λ r. ⌜ UnitedText (arena (now (store .entry)) (now (slots .entry))) (arena (now (store .exit)) (now (slots .exit)))
+        from i to worked r ⌝ }
 {
     let mut row = [0u8; 128];
-    let e = copy_text(store, marks, from, i, &mut row);
-    let ga = langs_of(marks, from, i);
-    unite_to(store, marks, to, n, &row[0..e], ga, g)
+    let e = copy_text(store, slots, from, i, &mut row);
+    let langs = langs_at(slots, from, i);
+    unite_to(store, slots, to, &row[0..e], langs, worked)
 }
 
-// The texts of set `from`, one text's final run, in order into the result so far, set `to`; g is the set of that text.
+// The texts of one text's final run, in order into the result so far of n texts; `worked` is the set of that text.
 pub(crate) fn unite(
-    store: &mut [u8],
-    marks: &mut [u64],
-    to: usize,
+    store: &mut Store,
+    slots: &mut Slots,
+    sets: Between,
     n: usize,
-    from: usize,
-    nn: usize,
-    g: u64,
+    worked: u64,
 ) -> United
-    requires { ⌜ Rooms (arena (now store) (now marks)) ⌝ }
-    requires { ⌜ SetAt (arena (now store) (now marks)) to n ⌝ }
-    requires { ⌜ SetAt (arena (now store) (now marks)) from nn ⌝ }
-    requires { ⌜ (from ≡ to → ⊥) ⌝ }
-    requires { ⌜ IsCode g ⌝ }
-    ensures { λ r. ⌜ UnitedAt (arena (now (store .entry)) (now (marks .entry))) (arena (now (store .exit)) (now (marks .exit))) to (decoded g) (entriesAt (arena (now (store .entry)) (now (marks .entry))) from nn) (entriesAt (arena (now (store .entry)) (now (marks .entry))) to n) r ⌝ }
+    requires { ⌜ UnitesSet (arena (now store) (now slots)) sets n worked ⌝ }
+    ensures { λ r. ⌜ UnitedSet (arena (now (store .entry)) (now (slots .entry))) (arena (now (store .exit)) (now (slots .exit)))
+        sets n worked r ⌝ }
 {
     let mut i = 0;
-    let mut k = n;
-    while i < nn {
+    let mut count = n;
+    while i < sets.count {
         let next = i;
         i += 1;
-        match unite_text(store, marks, from, next, to, k, g) {
-            United::Into(x) => {
-                k = x;
+        match unite_text(
+            store,
+            slots,
+            sets.from,
+            next,
+            Target {
+                set: sets.to,
+                count,
+            },
+            worked,
+        ) {
+            United::Into(grown) => {
+                count = grown;
             }
             United::TooMany => {
                 return United::TooMany;
             }
         }
     }
-    United::Into(k)
+    United::Into(count)
 }

@@ -172,6 +172,15 @@ languages-subtract κs a = (tt, λ x y v w p q. (one p q, refl))
 pub languages-coded : Settled languages.coded.ended languages.coded.Reads.Asked languages.coded.Reads.Learnt
 languages-coded κs a = (tt, λ x y v w p q. (one p q, refl))
 
+pub languages-narrow-codes : Settled languages.narrow_codes.ended languages.narrow_codes.Reads.Asked languages.narrow_codes.Reads.Learnt
+languages-narrow-codes κs a = (tt, λ x y v w p q. (one p q, refl))
+
+pub languages-merge-codes : Settled languages.merge_codes.ended languages.merge_codes.Reads.Asked languages.merge_codes.Reads.Learnt
+languages-merge-codes κs a = (tt, λ x y v w p q. (one p q, refl))
+
+pub languages-is-empty-code : Settled languages.is_empty_code.ended languages.is_empty_code.Reads.Asked languages.is_empty_code.Reads.Learnt
+languages-is-empty-code κs a = (tt, λ x y v w p q. (one p q, refl))
+
 pub languages-is-language-name : Settled languages.is_language_name.ended languages.is_language_name.Reads.Asked languages.is_language_name.Reads.Learnt
 languages-is-language-name κs a = (tt, λ x y v w p q. (one p q, refl))
 
@@ -341,9 +350,9 @@ pub «rule_index-index» : SettledBy rule_index.index.ended {B = Surveyed × (�
 pub «rule_index-first-match» : SettledBy rule_index.first_match.ended (λ κs a x v. seenIn (now (a .0)) x) rule_index.first_match.Reads.Asked rule_index.first_match.Reads.Learnt
 «rule_index-first-match» κs a = (tt, λ x y v w. match-one _ _ _ _ x y)
 
--- ---- phoneme_builder: of its three work buffers `word` promises nothing; the fourth, `out`, is its thirteenth parameter
+-- ---- phoneme_builder: of its two work buffers `word` promises nothing; the third, `out`, is its seventh parameter
 
-pub «phoneme_builder-word» : SettledBy phoneme_builder.word.ended {B = Worded × List ℕ} (λ κs a x v. (x, v .1 .1 .1 .1 .1 .1 .1 .1 .1 .1 .1 .1 .0)) phoneme_builder.word.Reads.Asked phoneme_builder.word.Reads.Learnt
+pub «phoneme_builder-word» : SettledBy phoneme_builder.word.ended {B = Worded × List ℕ} (λ κs a x v. (x, v .1 .1 .1 .1 .1 .1 .0)) phoneme_builder.word.Reads.Asked phoneme_builder.word.Reads.Learnt
 «phoneme_builder-word» κs a = (tt, λ x y v w p q. let e = word-one p q in ap₂ (λ r o. (r, o)) (e .0) (e .1))
 
 -- ---- engine

@@ -5,7 +5,7 @@ use Rattle.writing.proofs.Laws.{put-place}
 use Rattle.engine.specs.Spelling.{afreshBy}
 use Rattle.engine.specs.Contracts.{stepsAt}
 use Rattle.engine.proofs.EncodeLaws.{ready-afresh, afresh-told, skip-within, parted-told, whole-plain, whole-words, several, front-in, front-is}
-use Rattle.engine.proofs.NameLaws.{scratch-kept, name-falls, word-falls, still-short, words-fall, rest-less, joined-small, joined-less, steps-again, told-again, WordsHeld, held-start, held-scratch, held-end, held-shorter, held-less, held-place, held-turn}
+use Rattle.engine.proofs.NameLaws.{name-falls, word-falls, still-short, words-fall, rest-less, joined-small, joined-less, steps-again, told-again, WordsHeld, held-start, held-end, held-shorter, held-less, held-place, held-turn}
 use Prim.Native.Nat.{ℕ, _+_, _-_, _*_, _<_}
 use borrow.Fn.Kinds.{In}
 use borrow.Fn.PlainCycle.{Measures, is, falls, and}
@@ -60,7 +60,7 @@ spell-words-calls t = (afresh-reads.Asked, afresh-reads.Learnt, next-word-reads.
 
 abbrev spell-words-Inv-loop : spell-words-lts.InvT-loop
 spell-words-Inv-loop store₀ marks₀ pack table name out₀ at again all₀ p₀ store marks out all p =
-    WordsHeld (afreshBy (stepsAt pack again)) name out₀ out at p all (length store₀) (length marks₀) (length store) (length marks)
+    WordsHeld (afreshBy (stepsAt pack again)) name out₀ out at p all
 
 abbrev spell-words-μ-loop : spell-words-lts.MeasureT-loop
 spell-words-μ-loop store₀ marks₀ pack table name out₀ at again all₀ p₀ store marks out all p = length name - p
@@ -93,7 +93,7 @@ spell-name-part-spell-name-end : (t : ℕ) → spell-name-lts.Need-part-spell-na
 spell-name-part-spell-name-end t c = search needs
 
 spell-name-spell-name-requires : (t : ℕ) → spell-name-lts.Need-spell-name-requires (spell-name-calls t) (spell-name-at t) spell-name.Post
-spell-name-spell-name-requires t c κs = (name-falls (rest-less _ _ _ (c .before .before .before .before .before .before .before .before .before .before .before .before .before .before .before .part-of .ensures) _ _ (c .before .before .before .before .before .before .before .before .before .before .before .before .before .keep .given .1)) (c .before .before .before .before .before .before .before .before .before .before .before .before .before .before .before .before .before .before .before .before .before .pre .0), (c .before .before .before .before .before .before .before .before .before .before .before .before .before .before .before .before .before .before .before .before .before .pre .1 .0, (ready-afresh _ _ _ (c .before .before .before .before .before .before .before .before .before .before .before .before .before .before .before .before .before .before .before .before .before .pre .1 .1 .0) _ (c .before .before .before .before .before .before .before .before .before .before .before .afresh .ensures), (still-short (rest-less _ _ _ (c .before .before .before .before .before .before .before .before .before .before .before .before .before .before .before .part-of .ensures) _ _ (c .before .before .before .before .before .before .before .before .before .before .before .before .before .keep .given .1)) (c .before .before .before .before .before .before .before .before .before .before .before .before .before .before .before .before .before .before .before .before .before .pre .1 .1 .1 .0), put-place _ _ _ _ _ (c .before .before .before .before .before .before .push .ensures)))))
+spell-name-spell-name-requires t c κs = (name-falls (rest-less _ _ _ (c .before .before .before .before .before .before .before .before .before .before .before .before .before .before .before .part-of .ensures) _ _ (c .before .before .before .before .before .before .before .before .before .before .before .before .before .keep .given .1)) (c .before .before .before .before .before .before .before .before .before .before .before .before .before .before .before .before .before .before .before .pre .0), (ready-afresh _ _ _ (c .before .before .before .before .before .before .before .before .before .before .before .before .before .before .before .before .before .before .before .pre .1 .0) _ (c .before .before .before .before .before .before .before .before .before .before .before .afresh .ensures), (still-short (rest-less _ _ _ (c .before .before .before .before .before .before .before .before .before .before .before .before .before .before .before .part-of .ensures) _ _ (c .before .before .before .before .before .before .before .before .before .before .before .before .before .keep .given .1)) (c .before .before .before .before .before .before .before .before .before .before .before .before .before .before .before .before .before .before .before .pre .1 .1 .0), put-place _ _ _ _ _ (c .before .before .before .before .before .before .push .ensures))))
 
 spell-name-middle-requires : (t : ℕ) → spell-name-lts.Need-middle-requires (spell-name-calls t) (spell-name-at t) spell-name.Post
 spell-name-middle-requires t c κs = search needs
@@ -105,10 +105,10 @@ spell-name-part-spell-name-start-2 : (t : ℕ) → spell-name-lts.Need-part-spel
 spell-name-part-spell-name-start-2 t c = search needs
 
 spell-name-part-spell-name-end-2 : (t : ℕ) → spell-name-lts.Need-part-spell-name-end-2 (spell-name-calls t) (spell-name-at t) spell-name.Post
-spell-name-part-spell-name-end-2 t c = front-in (c .before .before .before .before .before .before .before .before .before .before .before .before .before .before .before .before .before .before .before .before .before .before .before .join-prefix .ensures) (joined-small _ _ _ (c .before .before .before .before .before .before .before .before .before .before .before .before .before .before .before .before .before .before .before .before .before .before .before .before .before .before .before .before .before .part-of .ensures) _ _ (c .before .before .before .before .before .before .before .before .before .before .before .before .before .before .before .before .before .before .before .before .before .before .before .before .before .before .before .keep .given .1) (c .before .before .before .before .before .before .before .before .before .before .before .before .before .before .before .before .before .before .before .before .before .before .before .before .before .before .before .before .before .before .before .before .before .before .before .pre .1 .1 .1 .0)) refl
+spell-name-part-spell-name-end-2 t c = front-in (c .before .before .before .before .before .before .before .before .before .before .before .before .before .before .before .before .before .before .before .join-prefix .ensures) (joined-small _ _ _ (c .before .before .before .before .before .before .before .before .before .before .before .before .before .before .before .before .before .before .before .before .before .before .before .before .before .part-of .ensures) _ _ (c .before .before .before .before .before .before .before .before .before .before .before .before .before .before .before .before .before .before .before .before .before .before .before .keep .given .1) (c .before .before .before .before .before .before .before .before .before .before .before .before .before .before .before .before .before .before .before .before .before .before .before .before .before .before .before .before .before .pre .1 .1 .0)) refl
 
 spell-name-spell-name-requires-2 : (t : ℕ) → spell-name-lts.Need-spell-name-requires-2 (spell-name-calls t) (spell-name-at t) spell-name.Post
-spell-name-spell-name-requires-2 t c κs = (name-falls (joined-less _ _ _ (c .before .before .before .before .before .before .before .before .before .before .before .before .before .before .before .before .before .before .before .before .before .before .before .before .before .before .before .before .before .before .before .part-of .ensures) _ _ (c .before .before .before .before .before .before .before .before .before .before .before .before .before .before .before .before .before .before .before .before .before .before .before .before .before .before .before .before .before .keep .given .1) (c .before .before .before .before .before .before .before .before .before .before .before .before .before .before .before .before .before .before .before .before .before .before .before .before .before .before .before .before .before .before .before .before .before .before .before .before .before .pre .1 .1 .1 .0) (c .before .before .before .before .before .before .before .before .before .before .before .before .before .before .before .before .before .before .before .before .before .before .before .before .before .join-prefix .ensures) refl) (c .before .before .before .before .before .before .before .before .before .before .before .before .before .before .before .before .before .before .before .before .before .before .before .before .before .before .before .before .before .before .before .before .before .before .before .before .before .pre .0), (scratch-kept (c .before .before .before .before .before .before .before .before .before .before .before .before .before .before .before .before .before .before .before .before .before .before .before .before .before .before .before .before .before .before .before .before .before .before .before .before .before .pre .1 .0) (c .before .before .before .before .before .before .before .before .before .before .before .before .before .before .store .given) (c .before .before .before .before .before .before .before .before .before .before .before .before .marks .given), (ready-afresh _ _ _ (c .before .before .before .before .before .before .before .before .before .before .before .before .before .before .before .before .before .before .before .before .before .before .before .before .before .before .before .before .before .before .before .before .before .before .before .before .before .pre .1 .1 .0) _ (c .before .before .before .before .before .before .before .before .before .before .before .before .before .before .before .before .before .before .before .before .before .before .before .before .before .before .before .afresh .ensures), (still-short (joined-less _ _ _ (c .before .before .before .before .before .before .before .before .before .before .before .before .before .before .before .before .before .before .before .before .before .before .before .before .before .before .before .before .before .before .before .part-of .ensures) _ _ (c .before .before .before .before .before .before .before .before .before .before .before .before .before .before .before .before .before .before .before .before .before .before .before .before .before .before .before .before .before .keep .given .1) (c .before .before .before .before .before .before .before .before .before .before .before .before .before .before .before .before .before .before .before .before .before .before .before .before .before .before .before .before .before .before .before .before .before .before .before .before .before .pre .1 .1 .1 .0) (c .before .before .before .before .before .before .before .before .before .before .before .before .before .before .before .before .before .before .before .before .before .before .before .before .before .join-prefix .ensures) refl) (c .before .before .before .before .before .before .before .before .before .before .before .before .before .before .before .before .before .before .before .before .before .before .before .before .before .before .before .before .before .before .before .before .before .before .before .before .before .pre .1 .1 .1 .0), put-place _ _ _ _ _ (c .before .before .before .before .before .before .before .middle .ensures)))))
+spell-name-spell-name-requires-2 t c κs = (name-falls (joined-less _ _ _ (c .before .before .before .before .before .before .before .before .before .before .before .before .before .before .before .before .before .before .before .before .before .before .before .before .before .before .before .part-of .ensures) _ _ (c .before .before .before .before .before .before .before .before .before .before .before .before .before .before .before .before .before .before .before .before .before .before .before .before .before .keep .given .1) (c .before .before .before .before .before .before .before .before .before .before .before .before .before .before .before .before .before .before .before .before .before .before .before .before .before .before .before .before .before .before .before .pre .1 .1 .0) (c .before .before .before .before .before .before .before .before .before .before .before .before .before .before .before .before .before .before .before .before .before .join-prefix .ensures) refl) (c .before .before .before .before .before .before .before .before .before .before .before .before .before .before .before .before .before .before .before .before .before .before .before .before .before .before .before .before .before .before .before .pre .0), (ready-afresh _ _ _ (c .before .before .before .before .before .before .before .before .before .before .before .before .before .before .before .before .before .before .before .before .before .before .before .before .before .before .before .before .before .before .before .pre .1 .0) _ (c .before .before .before .before .before .before .before .before .before .before .before .before .before .before .before .before .before .before .before .before .before .before .before .afresh .ensures), (still-short (joined-less _ _ _ (c .before .before .before .before .before .before .before .before .before .before .before .before .before .before .before .before .before .before .before .before .before .before .before .before .before .before .before .part-of .ensures) _ _ (c .before .before .before .before .before .before .before .before .before .before .before .before .before .before .before .before .before .before .before .before .before .before .before .before .before .keep .given .1) (c .before .before .before .before .before .before .before .before .before .before .before .before .before .before .before .before .before .before .before .before .before .before .before .before .before .before .before .before .before .before .before .pre .1 .1 .0) (c .before .before .before .before .before .before .before .before .before .before .before .before .before .before .before .before .before .before .before .before .before .join-prefix .ensures) refl) (c .before .before .before .before .before .before .before .before .before .before .before .before .before .before .before .before .before .before .before .before .before .before .before .before .before .before .before .before .before .before .before .pre .1 .1 .0), put-place _ _ _ _ _ (c .before .before .before .before .before .before .before .middle .ensures))))
 
 spell-name-push-requires-2 : (t : ℕ) → spell-name-lts.Need-push-requires-2 (spell-name-calls t) (spell-name-at t) spell-name.Post
 spell-name-push-requires-2 t c κs = search needs
@@ -123,43 +123,25 @@ spell-name-is-plain-requires : (t : ℕ) → spell-name-lts.Need-is-plain-requir
 spell-name-is-plain-requires t c κs = search needs
 
 spell-name-spell-plain-requires : (t : ℕ) → spell-name-lts.Need-spell-plain-requires (spell-name-calls t) (spell-name-at t) spell-name.Post
-spell-name-spell-plain-requires t c κs = (search needs, (search needs, search needs))
+spell-name-spell-plain-requires t c κs = (search needs, search needs)
 
 spell-name-spell-words-requires : (t : ℕ) → spell-name-lts.Need-spell-words-requires (spell-name-calls t) (spell-name-at t) spell-name.Post
-spell-name-spell-words-requires t c κs = (search (words-fall, needs), (search needs, (search needs, (search needs, (search needs, search (several, needs))))))
+spell-name-spell-words-requires t c κs = (search (words-fall, needs), (search needs, (search needs, (search needs, search (several, needs)))))
 
 spell-name-same-length : (t : ℕ) → spell-name-lts.Need-same-length (spell-name-calls t) (spell-name-at t) spell-name.Post
-spell-name-same-length t c = search needs
-
-spell-name-same-length-2 : (t : ℕ) → spell-name-lts.Need-same-length-2 (spell-name-calls t) (spell-name-at t) spell-name.Post
-spell-name-same-length-2 t c = search needs
-
-spell-name-same-length-3 : (t : ℕ) → spell-name-lts.Need-same-length-3 (spell-name-calls t) (spell-name-at t) spell-name.Post
-spell-name-same-length-3 t c = c .before .before .out5 .given ∙ c .before .before .before .before .before .before .out4 .given ∙ c .before .before .before .before .before .before .before .before .before .before .before .before .before .before .before .before .before .before .out3 .given ∙ c .before .before .before .before .before .before .before .before .before .before .before .before .before .before .before .before .before .before .before .before .before .before .out2 .given ∙ c .before .before .before .before .before .before .before .before .before .before .before .before .before .before .before .before .before .before .before .before .before .before .before .before .before .before .before .before .before .before .before .before .before .out .given
+spell-name-same-length t c = c .before .before .out5 .given ∙ c .before .before .before .before .before .before .out4 .given ∙ c .before .before .before .before .before .before .before .before .before .before .before .before .before .before .out3 .given ∙ c .before .before .before .before .before .before .before .before .before .before .before .before .before .before .before .before .before .before .out2 .given ∙ c .before .before .before .before .before .before .before .before .before .before .before .before .before .before .before .before .before .before .before .before .before .before .before .before .before .out .given
 
 spell-name-returns : (t : ℕ) → spell-name-lts.Need-returns (spell-name-calls t) (spell-name-at t) spell-name.Post
-spell-name-returns t c = parted-told _ _ _ _ (c .before .before .before .before .before .before .before .before .before .before .before .before .before .before .before .before .before .before .before .before .before .before .before .before .before .before .before .before .before .before .before .before .before .before .before .before .before .before .before .before .before .before .before .part-of .ensures) _ _ (c .before .before .before .before .before .before .before .before .before .before .before .before .before .before .before .before .before .before .before .before .before .before .before .before .before .before .before .before .before .before .before .before .before .before .before .before .before .before .before .before .before .keep .given .1) _ (front-is (c .before .before .before .before .before .before .before .before .before .before .before .before .before .before .before .before .before .before .before .before .before .before .before .before .before .before .before .before .before .before .before .before .before .before .before .before .before .join-prefix .ensures) (joined-small _ _ _ (c .before .before .before .before .before .before .before .before .before .before .before .before .before .before .before .before .before .before .before .before .before .before .before .before .before .before .before .before .before .before .before .before .before .before .before .before .before .before .before .before .before .before .before .part-of .ensures) _ _ (c .before .before .before .before .before .before .before .before .before .before .before .before .before .before .before .before .before .before .before .before .before .before .before .before .before .before .before .before .before .before .before .before .before .before .before .before .before .before .before .before .before .keep .given .1) (c .before .before .before .before .before .before .before .before .before .before .before .before .before .before .before .before .before .before .before .before .before .before .before .before .before .before .before .before .before .before .before .before .before .before .before .before .before .before .before .before .before .before .before .before .before .before .before .before .before .pre .1 .1 .1 .0)) refl) (c .before .before .before .before .before .before .before .before .before .before .before .before .before .before .before .before .before .before .before .before .before .before .before .before .before .before .before .before .before .before .before .before .before .before .push .ensures) (afresh-told _ _ _ _ (c .before .before .before .before .before .before .before .before .before .before .before .before .before .before .before .before .before .before .before .before .before .before .before .before .before .before .before .before .before .before .before .before .before .before .before .before .before .before .before .afresh .ensures) (c .before .before .before .before .before .before .before .before .before .before .before .before .before .before .before .before .before .before .before .before .before .before .before .before .before .before .before .spell-name .ensures)) (c .before .before .before .before .before .before .before .before .before .before .before .before .before .before .before .before .before .before .before .middle .ensures) (afresh-told _ _ _ _ (c .before .before .before .before .before .before .before .before .before .before .before .before .before .before .before .before .before .before .before .before .before .before .before .before .before .before .before .before .before .before .before .before .before .before .before .before .before .before .before .afresh .ensures) (c .before .before .before .before .before .before .before .before .before .before .before .spell-name2 .ensures)) (c .before .before .before .push2 .ensures) (c .both .ensures)
+spell-name-returns t c = parted-told _ _ _ _ (c .before .before .before .before .before .before .before .before .before .before .before .before .before .before .before .before .before .before .before .before .before .before .before .before .before .before .before .before .before .before .before .before .before .before .before .part-of .ensures) _ _ (c .before .before .before .before .before .before .before .before .before .before .before .before .before .before .before .before .before .before .before .before .before .before .before .before .before .before .before .before .before .before .before .before .before .keep .given .1) _ (front-is (c .before .before .before .before .before .before .before .before .before .before .before .before .before .before .before .before .before .before .before .before .before .before .before .before .before .before .before .before .before .join-prefix .ensures) (joined-small _ _ _ (c .before .before .before .before .before .before .before .before .before .before .before .before .before .before .before .before .before .before .before .before .before .before .before .before .before .before .before .before .before .before .before .before .before .before .before .part-of .ensures) _ _ (c .before .before .before .before .before .before .before .before .before .before .before .before .before .before .before .before .before .before .before .before .before .before .before .before .before .before .before .before .before .before .before .before .before .keep .given .1) (c .before .before .before .before .before .before .before .before .before .before .before .before .before .before .before .before .before .before .before .before .before .before .before .before .before .before .before .before .before .before .before .before .before .before .before .before .before .before .before .pre .1 .1 .0)) refl) (c .before .before .before .before .before .before .before .before .before .before .before .before .before .before .before .before .before .before .before .before .before .before .before .before .before .before .push .ensures) (afresh-told _ _ _ _ (c .before .before .before .before .before .before .before .before .before .before .before .before .before .before .before .before .before .before .before .before .before .before .before .before .before .before .before .before .before .before .before .afresh .ensures) (c .before .before .before .before .before .before .before .before .before .before .before .before .before .before .before .before .before .before .before .spell-name .ensures)) (c .before .before .before .before .before .before .before .before .before .before .before .before .before .before .before .middle .ensures) (afresh-told _ _ _ _ (c .before .before .before .before .before .before .before .before .before .before .before .before .before .before .before .before .before .before .before .before .before .before .before .before .before .before .before .before .before .before .before .afresh .ensures) (c .before .before .before .before .before .before .before .spell-name2 .ensures)) (c .before .before .before .push2 .ensures) (c .both .ensures)
 
-spell-name-same-length-4 : (t : ℕ) → spell-name-lts.Need-same-length-4 (spell-name-calls t) (spell-name-at t) spell-name.Post
-spell-name-same-length-4 t c = search needs
-
-spell-name-same-length-5 : (t : ℕ) → spell-name-lts.Need-same-length-5 (spell-name-calls t) (spell-name-at t) spell-name.Post
-spell-name-same-length-5 t c = c .before .before .before .marks3 .given
-
-spell-name-same-length-6 : (t : ℕ) → spell-name-lts.Need-same-length-6 (spell-name-calls t) (spell-name-at t) spell-name.Post
-spell-name-same-length-6 t c = c .before .out6 .given
+spell-name-same-length-2 : (t : ℕ) → spell-name-lts.Need-same-length-2 (spell-name-calls t) (spell-name-at t) spell-name.Post
+spell-name-same-length-2 t c = c .before .out6 .given
 
 spell-name-returns-2 : (t : ℕ) → spell-name-lts.Need-returns-2 (spell-name-calls t) (spell-name-at t) spell-name.Post
 spell-name-returns-2 t c = search (whole-plain, needs)
 
-spell-name-same-length-7 : (t : ℕ) → spell-name-lts.Need-same-length-7 (spell-name-calls t) (spell-name-at t) spell-name.Post
-spell-name-same-length-7 t c = search needs
-
-spell-name-same-length-8 : (t : ℕ) → spell-name-lts.Need-same-length-8 (spell-name-calls t) (spell-name-at t) spell-name.Post
-spell-name-same-length-8 t c = c .before .before .before .marks4 .given
-
-spell-name-same-length-9 : (t : ℕ) → spell-name-lts.Need-same-length-9 (spell-name-calls t) (spell-name-at t) spell-name.Post
-spell-name-same-length-9 t c = c .before .out7 .given
+spell-name-same-length-3 : (t : ℕ) → spell-name-lts.Need-same-length-3 (spell-name-calls t) (spell-name-at t) spell-name.Post
+spell-name-same-length-3 t c = c .before .out7 .given
 
 spell-name-returns-3 : (t : ℕ) → spell-name-lts.Need-returns-3 (spell-name-calls t) (spell-name-at t) spell-name.Post
 spell-name-returns-3 t c = search (whole-words, needs)
@@ -174,13 +156,7 @@ spell-words-next-word-requires : (t : ℕ) → spell-words-lts.Need-next-word-re
 spell-words-next-word-requires t c κs = search needs
 
 spell-words-same-length : (t : ℕ) → spell-words-lts.Need-same-length (spell-words-calls t) (spell-words-at t) spell-words.Post spell-words-Inv-loop spell-words-μ-loop
-spell-words-same-length t c = c .before .before .loop .inv .store-same
-
-spell-words-same-length-2 : (t : ℕ) → spell-words-lts.Need-same-length-2 (spell-words-calls t) (spell-words-at t) spell-words.Post spell-words-Inv-loop spell-words-μ-loop
-spell-words-same-length-2 t c = c .before .before .loop .inv .marks-same
-
-spell-words-same-length-3 : (t : ℕ) → spell-words-lts.Need-same-length-3 (spell-words-calls t) (spell-words-at t) spell-words.Post spell-words-Inv-loop spell-words-μ-loop
-spell-words-same-length-3 t c = c .before .before .loop .inv .out-same
+spell-words-same-length t c = c .before .before .loop .inv .out-same
 
 spell-words-returns : (t : ℕ) → spell-words-lts.Need-returns (spell-words-calls t) (spell-words-at t) spell-words.Post spell-words-Inv-loop spell-words-μ-loop
 spell-words-returns t c = rw (steps-again _ _ _ (c .before .before .before .afresh .ensures)) at (held-end (c .before .before .loop .inv) _ (c .before .next-word .ensures) (c .if1 .taken))
@@ -189,7 +165,7 @@ spell-words-hyphen-requires : (t : ℕ) → spell-words-lts.Need-hyphen-requires
 spell-words-hyphen-requires t c κs = search needs
 
 spell-words-spell-name-requires : (t : ℕ) → spell-words-lts.Need-spell-name-requires (spell-words-calls t) (spell-words-at t) spell-words.Post spell-words-Inv-loop spell-words-μ-loop
-spell-words-spell-name-requires t c κs = (word-falls (held-shorter (c .before .before .before .before .before .before .before .before .before .loop .inv) _ (c .before .before .before .before .before .before .before .before .next-word .ensures) (c .before .before .before .before .before .before .before .if1 .left) (c .before .before .before .before .before .before .before .before .before .before .before .before .before .before .before .before .pre .1 .1 .1 .1 .1)) (c .before .before .before .before .before .before .before .before .before .before .before .before .before .before .before .before .pre .0), (held-scratch (c .before .before .before .before .before .before .before .before .before .loop .inv) (c .before .before .before .before .before .before .before .before .before .before .before .before .before .before .before .before .pre .1 .0), (ready-afresh _ _ _ (c .before .before .before .before .before .before .before .before .before .before .before .before .before .before .before .before .pre .1 .1 .0) _ (c .before .before .before .before .before .before .before .before .before .before .afresh .ensures), (still-short (held-shorter (c .before .before .before .before .before .before .before .before .before .loop .inv) _ (c .before .before .before .before .before .before .before .before .next-word .ensures) (c .before .before .before .before .before .before .before .if1 .left) (c .before .before .before .before .before .before .before .before .before .before .before .before .before .before .before .before .pre .1 .1 .1 .1 .1)) (c .before .before .before .before .before .before .before .before .before .before .before .before .before .before .before .before .pre .1 .1 .1 .0), held-place (c .before .before .before .before .before .before .before .before .before .loop .inv) _ (c .before .before .before .before .before .before .before .before .next-word .ensures) (c .before .before .before .before .before .before .before .if1 .left) (c .before .before .before .before .before .hyphen .ensures)))))
+spell-words-spell-name-requires t c κs = (word-falls (held-shorter (c .before .before .before .before .before .before .before .before .before .loop .inv) _ (c .before .before .before .before .before .before .before .before .next-word .ensures) (c .before .before .before .before .before .before .before .if1 .left) (c .before .before .before .before .before .before .before .before .before .before .before .before .before .before .pre .1 .1 .1 .1)) (c .before .before .before .before .before .before .before .before .before .before .before .before .before .before .pre .0), (ready-afresh _ _ _ (c .before .before .before .before .before .before .before .before .before .before .before .before .before .before .pre .1 .0) _ (c .before .before .before .before .before .before .before .before .before .before .afresh .ensures), (still-short (held-shorter (c .before .before .before .before .before .before .before .before .before .loop .inv) _ (c .before .before .before .before .before .before .before .before .next-word .ensures) (c .before .before .before .before .before .before .before .if1 .left) (c .before .before .before .before .before .before .before .before .before .before .before .before .before .before .pre .1 .1 .1 .1)) (c .before .before .before .before .before .before .before .before .before .before .before .before .before .before .pre .1 .1 .0), held-place (c .before .before .before .before .before .before .before .before .before .loop .inv) _ (c .before .before .before .before .before .before .before .before .next-word .ensures) (c .before .before .before .before .before .before .before .if1 .left) (c .before .before .before .before .before .hyphen .ensures))))
 
 spell-words-both-requires : (t : ℕ) → spell-words-lts.Need-both-requires (spell-words-calls t) (spell-words-at t) spell-words.Post spell-words-Inv-loop spell-words-μ-loop
 spell-words-both-requires t c κs = search needs
@@ -201,7 +177,7 @@ spell-words-loop-less : (t : ℕ) → spell-words-lts.Need-loop-less (spell-word
 spell-words-loop-less t c = search (held-less, needs)
 
 spell-words-loop-again : (t : ℕ) → spell-words-lts.Need-loop-again (spell-words-calls t) (spell-words-at t) spell-words.Post spell-words-Inv-loop spell-words-μ-loop
-spell-words-loop-again t c = held-turn (c .before .before .before .before .before .before .before .before .before .before .before .before .before .before .before .before .before .before .loop .inv) _ (c .before .before .before .before .before .before .before .before .before .before .before .before .before .before .before .before .before .next-word .ensures) (c .before .before .before .before .before .before .before .before .before .before .before .before .before .before .before .before .if1 .left) (c .before .before .before .before .before .before .before .before .before .before .before .before .before .before .hyphen .ensures) (told-again _ _ _ (c .before .before .before .before .before .before .before .before .before .before .before .before .before .before .before .before .before .before .before .afresh .ensures) _ (c .before .before .before .before .before .before .before .before .spell-name .ensures)) (c .before .both .ensures) (c .past-word .ensures) (c .before .before .before .before .before .before .before .store .given) (c .before .before .before .before .before .marks .given) (c .before .before .before .out2 .given ∙ c .before .before .before .before .before .before .before .before .before .before .before .before .before .out .given)
+spell-words-loop-again t c = held-turn (c .before .before .before .before .before .before .before .before .before .before .before .before .before .before .loop .inv) _ (c .before .before .before .before .before .before .before .before .before .before .before .before .before .next-word .ensures) (c .before .before .before .before .before .before .before .before .before .before .before .before .if1 .left) (c .before .before .before .before .before .before .before .before .before .before .hyphen .ensures) (told-again _ _ _ (c .before .before .before .before .before .before .before .before .before .before .before .before .before .before .before .afresh .ensures) _ (c .before .before .before .before .spell-name .ensures)) (c .before .both .ensures) (c .past-word .ensures) (c .before .before .before .out2 .given ∙ c .before .before .before .before .before .before .before .before .before .out .given)
 
 pub +spell-name+spell-words-spec : {M : Type 1} → statement M
 +spell-name+spell-words-spec = close μ-spell-name μ-spell-words (λ t. spell-name-lts.spec (spell-name-calls t)
@@ -229,16 +205,10 @@ pub +spell-name+spell-words-spec : {M : Type 1} → statement M
     (spell-name-spell-plain-requires t)
     (spell-name-spell-words-requires t)
     (spell-name-same-length t)
-    (spell-name-same-length-2 t)
-    (spell-name-same-length-3 t)
     (spell-name-returns t)
-    (spell-name-same-length-4 t)
-    (spell-name-same-length-5 t)
-    (spell-name-same-length-6 t)
+    (spell-name-same-length-2 t)
     (spell-name-returns-2 t)
-    (spell-name-same-length-7 t)
-    (spell-name-same-length-8 t)
-    (spell-name-same-length-9 t)
+    (spell-name-same-length-3 t)
     (spell-name-returns-3 t))
     λ t. spell-words-lts.spec (spell-words-calls t)
     (spell-words-at t)
@@ -249,8 +219,6 @@ pub +spell-name+spell-words-spec : {M : Type 1} → statement M
     (spell-words-loop-holds t)
     (spell-words-next-word-requires t)
     (spell-words-same-length t)
-    (spell-words-same-length-2 t)
-    (spell-words-same-length-3 t)
     (spell-words-returns t)
     (spell-words-hyphen-requires t)
     (spell-words-spell-name-requires t)

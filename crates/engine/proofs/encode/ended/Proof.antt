@@ -11,8 +11,6 @@ ended-spec =
     (λ c κs. search needs)
     (λ c. search needs)
     (λ c. search needs)
-    (λ c. search needs)
-    (λ c. search (encode-laws, needs))
     (λ c. search (encode-laws, needs))
     (λ c. search (encode-laws, needs))
     (λ c. search (encode-laws, needs)))

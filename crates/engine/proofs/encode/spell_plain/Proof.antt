@@ -9,31 +9,19 @@ part-spell-word-end : tie.Need-part-spell-word-end
 part-spell-word-end c = search (front-in, joined-few, needs)
 
 spell-word-requires : tie.Need-spell-word-requires
-spell-word-requires c κs = (c .before .before .before .before .before .before .before .before .before .before .before .before .before .before .before .pre .0, (c .before .before .before .before .before .before .before .before .before .before .before .before .before .before .before .pre .1 .0, start-below _ _ _ (c .before .before .before .before .before .before .before .before .before .before .before .before .before .before .before .pre .1 .0) _ _ (start-told _ _ _ (c .before .before .before .before .before .before .before .before .before .before .before .before .before .before .before .pre .1 .0) _ _ (c .before .before .before .before .before .before .before .before .before .start-of .ensures))))
+spell-word-requires c κs = (c .before .before .before .before .before .before .before .before .before .before .before .before .before .pre .0, start-below _ _ _ (c .before .before .before .before .before .before .before .before .before .before .before .before .before .pre .0) _ _ (start-told _ _ _ (c .before .before .before .before .before .before .before .before .before .before .before .before .before .pre .0) _ _ (c .before .before .before .before .before .before .before .before .before .start-of .ensures)))
 
 spell-word-requires-2 : tie.Need-spell-word-requires-2
-spell-word-requires-2 c κs = (c .before .before .before .before .before .before .before .before .before .before .before .pre .0, (c .before .before .before .before .before .before .before .before .before .before .before .pre .1 .0, start-below _ _ _ (c .before .before .before .before .before .before .before .before .before .before .before .pre .1 .0) _ _ (start-told _ _ _ (c .before .before .before .before .before .before .before .before .before .before .before .pre .1 .0) _ _ (c .before .before .before .before .before .start-of .ensures))))
+spell-word-requires-2 c κs = (c .before .before .before .before .before .before .before .before .before .pre .0, start-below _ _ _ (c .before .before .before .before .before .before .before .before .before .pre .0) _ _ (start-told _ _ _ (c .before .before .before .before .before .before .before .before .before .pre .0) _ _ (c .before .before .before .before .before .start-of .ensures)))
 
 same-length : tie.Need-same-length
-same-length c = search needs
-
-same-length-2 : tie.Need-same-length-2
-same-length-2 c = c .before .before .before .marks .given
-
-same-length-3 : tie.Need-same-length-3
-same-length-3 c = c .before .out .given
+same-length c = c .before .out .given
 
 returns : tie.Need-returns
 returns c = search (plain-told, start-told, pick-yes, front-is, joined-few, needs)
 
-same-length-4 : tie.Need-same-length-4
-same-length-4 c = search needs
-
-same-length-5 : tie.Need-same-length-5
-same-length-5 c = c .before .before .before .marks2 .given
-
-same-length-6 : tie.Need-same-length-6
-same-length-6 c = c .before .out2 .given
+same-length-2 : tie.Need-same-length-2
+same-length-2 c = c .before .out2 .given
 
 returns-2 : tie.Need-returns-2
 returns-2 c = search (plain-told, start-told, pick-no, needs)
@@ -52,10 +40,6 @@ spell-plain-spec =
     (λ c κs. search needs)
     spell-word-requires-2
     same-length
-    same-length-2
-    same-length-3
     returns
-    same-length-4
-    same-length-5
-    same-length-6
+    same-length-2
     returns-2)

@@ -17,7 +17,7 @@ part-spell-at-end : tie.Need-part-spell-at-end
 part-spell-at-end c = search (lent-within, needs)
 
 spell-at-requires : tie.Need-spell-at-requires
-spell-at-requires c κs = (search needs, search needs)
+spell-at-requires c κs = search needs
 
 done-line-requires : tie.Need-done-line-requires
 done-line-requires c κs = (search needs, search (lent-long, needs))
@@ -26,28 +26,16 @@ refused-line-requires : tie.Need-refused-line-requires
 refused-line-requires c κs = (search needs, search (lent-long, needs))
 
 same-length : tie.Need-same-length
-same-length c = search needs
-
-same-length-2 : tie.Need-same-length-2
-same-length-2 c = search needs
-
-same-length-3 : tie.Need-same-length-3
-same-length-3 c = c .before .out2 .given ∙ lent-long (c .before .before .before .before .before .before .before .before .before .before .before .before .before .before .before .before .before .before .before .before .before .before .before .before .args .out .now) _ _ _ _ (c .before .before .before .before .before .before .before .before .before .before .before .before .before .before .before .before .before .before .before .before .before .before .before .before .pre .1 .1) (c .before .before .before .before .before .before .before .before .before .before .before .before .before .before .before .before .before .before .front-of .ensures) (c .before .before .before .before .before .before .before .before .before .before .before .before .before .before .before .before .before .end-of .ensures) (c .before .before .before .before .before .before .before .before .before .before .before .before .before .spell-at .ensures)
+same-length c = c .before .out2 .given ∙ lent-long (c .before .before .before .before .before .before .before .before .before .before .before .before .before .before .before .before .before .before .args .out .now) _ _ _ _ (c .before .before .before .before .before .before .before .before .before .before .before .before .before .before .before .before .before .before .pre .1) (c .before .before .before .before .before .before .before .before .before .before .before .before .before .before .front-of .ensures) (c .before .before .before .before .before .before .before .before .before .before .before .before .before .end-of .ensures) (c .before .before .before .before .before .before .before .before .before .spell-at .ensures)
 
 returns : tie.Need-returns
-returns c = put-done _ _ _ _ _ (c .before .before .before .before .before .before .before .before .before .before .before .before .before .before .before .before .before .before .before .before .before .before .before .before .pre .1 .1) (c .before .before .before .before .before .before .before .before .before .before .before .before .before .before .before .before .before .before .front-of .ensures) (c .before .before .before .before .before .before .before .before .before .before .before .before .before .before .before .before .before .end-of .ensures) (callOf _ _ _) _ _ _ _ _ (call-below _ _ _ _) (c .before .before .before .before .before .before .before .before .before .before .before .before .before .spell-at .ensures) _ _ (c .before .before .before .before .before .written .given .1) (c .before .before .done-line .ensures)
+returns c = put-done _ _ _ _ _ (c .before .before .before .before .before .before .before .before .before .before .before .before .before .before .before .before .before .before .pre .1) (c .before .before .before .before .before .before .before .before .before .before .before .before .before .before .front-of .ensures) (c .before .before .before .before .before .before .before .before .before .before .before .before .before .end-of .ensures) (callOf _ _ _) _ _ _ _ _ (call-below _ _ _ _) (c .before .before .before .before .before .before .before .before .before .spell-at .ensures) _ _ (c .before .before .before .before .before .written .given .1) (c .before .before .done-line .ensures)
 
-same-length-4 : tie.Need-same-length-4
-same-length-4 c = search needs
-
-same-length-5 : tie.Need-same-length-5
-same-length-5 c = search needs
-
-same-length-6 : tie.Need-same-length-6
-same-length-6 c = c .before .out3 .given ∙ lent-long (c .before .before .before .before .before .before .before .before .before .before .before .before .before .before .before .before .before .before .before .before .before .before .before .before .before .args .out .now) _ _ _ _ (c .before .before .before .before .before .before .before .before .before .before .before .before .before .before .before .before .before .before .before .before .before .before .before .before .before .pre .1 .1) (c .before .before .before .before .before .before .before .before .before .before .before .before .before .before .before .before .before .before .before .front-of .ensures) (c .before .before .before .before .before .before .before .before .before .before .before .before .before .before .before .before .before .before .end-of .ensures) (c .before .before .before .before .before .before .before .before .before .before .before .before .before .before .spell-at .ensures)
+same-length-2 : tie.Need-same-length-2
+same-length-2 c = c .before .out3 .given ∙ lent-long (c .before .before .before .before .before .before .before .before .before .before .before .before .before .before .before .before .before .before .before .args .out .now) _ _ _ _ (c .before .before .before .before .before .before .before .before .before .before .before .before .before .before .before .before .before .before .before .pre .1) (c .before .before .before .before .before .before .before .before .before .before .before .before .before .before .before .front-of .ensures) (c .before .before .before .before .before .before .before .before .before .before .before .before .before .before .end-of .ensures) (c .before .before .before .before .before .before .before .before .before .before .spell-at .ensures)
 
 returns-2 : tie.Need-returns-2
-returns-2 c = put-refused _ _ _ _ _ (c .before .before .before .before .before .before .before .before .before .before .before .before .before .before .before .before .before .before .before .before .before .before .before .before .before .pre .1 .1) (c .before .before .before .before .before .before .before .before .before .before .before .before .before .before .before .before .before .before .before .front-of .ensures) (c .before .before .before .before .before .before .before .before .before .before .before .before .before .before .before .before .before .before .end-of .ensures) (callOf _ _ _) _ _ _ _ _ (call-below _ _ _ _) (c .before .before .before .before .before .before .before .before .before .before .before .before .before .before .spell-at .ensures) _ _ _ (c .before .before .before .before .before .before .why .given .1) (c .before .before .before .before .number-of .ensures) (c .before .before .refused-line .ensures)
+returns-2 c = put-refused _ _ _ _ _ (c .before .before .before .before .before .before .before .before .before .before .before .before .before .before .before .before .before .before .before .pre .1) (c .before .before .before .before .before .before .before .before .before .before .before .before .before .before .before .front-of .ensures) (c .before .before .before .before .before .before .before .before .before .before .before .before .before .before .end-of .ensures) (callOf _ _ _) _ _ _ _ _ (call-below _ _ _ _) (c .before .before .before .before .before .before .before .before .before .before .spell-at .ensures) _ _ _ (c .before .before .before .before .before .before .why .given .1) (c .before .before .before .before .number-of .ensures) (c .before .before .refused-line .ensures)
 
 pub put-line-spec : {M : Type 1} → statement M
 put-line-spec =
@@ -65,10 +53,6 @@ put-line-spec =
     (λ c κs. search needs)
     refused-line-requires
     same-length
-    same-length-2
-    same-length-3
     returns
-    same-length-4
-    same-length-5
-    same-length-6
+    same-length-2
     returns-2)

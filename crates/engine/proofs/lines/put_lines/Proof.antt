@@ -4,58 +4,44 @@ use native.Mathlib.Omega.{arith}
 use lib.ListN.{length}
 use borrow.Author.Needs.{needs}
 use Rattle.engine.specs.Calls.{callOf}
-use Rattle.engine.specs.Contracts.{Scratch}
-use Rattle.engine.proofs.NameLaws.{scratch-kept}
 use Rattle.engine.proofs.LinesLaws.{Going, going-in, going-start, going-long, going-room, going-end, going-most, going-less, going-stop, going-next}
 use Rattle.engine.proofs.lines.put_lines.Statement.{statement}
 use Rattle.engine.proofs.lines.put_lines.Tie as tie
 
 abbrev Inv-loop : tie.InvT-loop
 Inv-loop store₀ marks₀ pack table desk settings start block out₀ size read₀ written₀ store marks out read written =
-    Going (callOf settings start pack) block out₀ out size read written × Scratch (length store) (length marks)
+    Going (callOf settings start pack) block out₀ out size read written
 
 abbrev μ-loop : tie.MeasureT-loop
 μ-loop store₀ marks₀ pack table desk settings start block out₀ size read₀ written₀ store marks out read written =
     length block - read
 
 loop-holds : tie.Need-loop-holds Inv-loop μ-loop
-loop-holds c = (going-start _ _ _ _ (c .most-of .ensures), search needs)
+loop-holds c = going-start _ _ _ _ (c .most-of .ensures)
 
 same-length : tie.Need-same-length Inv-loop μ-loop
-same-length c = c .before .before .before .loop .inv .1 .store-is ∙ sym (c .before .before .before .before .before .before .before .before .before .before .pre .0 .store-is)
-
-same-length-2 : tie.Need-same-length-2 Inv-loop μ-loop
-same-length-2 c = c .before .before .before .loop .inv .1 .marks-is ∙ sym (c .before .before .before .before .before .before .before .before .before .before .pre .0 .marks-is)
-
-same-length-3 : tie.Need-same-length-3 Inv-loop μ-loop
-same-length-3 c = going-long (c .before .before .before .loop .inv .0)
+same-length c = going-long (c .before .before .before .loop .inv)
 
 returns : tie.Need-returns Inv-loop μ-loop
-returns c = going-end (c .before .before .before .loop .inv .0) _ (c .before .find-byte .ensures) (c .if1 .taken)
+returns c = going-end (c .before .before .before .loop .inv) _ (c .before .find-byte .ensures) (c .if1 .taken)
 
 put-line-requires : tie.Need-put-line-requires Inv-loop μ-loop
-put-line-requires c κs = (search needs, (search needs, search (going-room, needs)))
+put-line-requires c κs = (search needs, search (going-room, needs))
 
 add-read : tie.Need-add-read Inv-loop μ-loop
-add-read c = let m = going-most (c .before .before .before .before .before .before .before .before .before .before .before .before .before .before .before .before .before .loop .inv .0) _ (c .before .before .before .before .before .before .before .before .before .before .before .before .before .before .if1 .left) in omega (arith, m, c .before .before .before .before .before .before .before .before .before .before .before .before .before .before .before .before .before .before .before .before .before .before .before .before .good .1 .1 .1 .1 .1 .1 .1 .0 .0)
+add-read c = let m = going-most (c .before .before .before .before .before .before .before .before .before .before .before .before .before .loop .inv) _ (c .before .before .before .before .before .before .before .before .before .before .if1 .left) in omega (arith, m, c .before .before .before .before .before .before .before .before .before .before .before .before .before .before .before .before .before .before .good .1 .1 .1 .1 .1 .1 .1 .0 .0)
 
 add-read-2 : tie.Need-add-read-2 Inv-loop μ-loop
-add-read-2 c = let m = going-most (c .before .before .before .before .before .before .before .before .before .before .before .before .before .before .before .before .before .loop .inv .0) _ (c .before .before .before .before .before .before .before .before .before .before .before .before .before .before .if1 .left) in omega (arith, m, c .before .before .before .before .before .before .before .before .before .before .before .before .before .before .before .before .before .before .before .before .before .before .before .before .good .1 .1 .1 .1 .1 .1 .1 .0 .0)
+add-read-2 c = let m = going-most (c .before .before .before .before .before .before .before .before .before .before .before .before .before .loop .inv) _ (c .before .before .before .before .before .before .before .before .before .before .if1 .left) in omega (arith, m, c .before .before .before .before .before .before .before .before .before .before .before .before .before .before .before .before .before .before .good .1 .1 .1 .1 .1 .1 .1 .0 .0)
 
 loop-less : tie.Need-loop-less Inv-loop μ-loop
 loop-less c = search (going-less, needs)
 
 loop-again : tie.Need-loop-again Inv-loop μ-loop
-loop-again c = (going-next (c .before .before .before .before .before .before .before .before .before .before .before .before .before .before .before .before .before .loop .inv .0) _ (c .before .before .before .before .before .before .before .before .before .before .before .before .before .before .before .find-byte .ensures) (c .before .before .before .before .before .before .before .before .before .before .before .before .before .before .if1 .left) _ _ (c .before .before .before .before .before .before .before .before .before .put-line .ensures) _ (c .before .next .given .1), scratch-kept (c .before .before .before .before .before .before .before .before .before .before .before .before .before .before .before .before .before .loop .inv .1) (c .before .before .before .before .before .before .before .before .store .given) (c .before .before .before .before .before .before .marks .given))
+loop-again c = going-next (c .before .before .before .before .before .before .before .before .before .before .before .before .before .loop .inv) _ (c .before .before .before .before .before .before .before .before .before .before .before .find-byte .ensures) (c .before .before .before .before .before .before .before .before .before .before .if1 .left) _ _ (c .before .before .before .before .before .put-line .ensures) _ (c .before .next .given .1)
 
-same-length-4 : tie.Need-same-length-4 Inv-loop μ-loop
-same-length-4 c = c .before .before .before .before .before .before .before .before .before .store .given ∙ c .before .before .before .before .before .before .before .before .before .before .before .before .before .before .before .before .before .before .loop .inv .1 .store-is ∙ sym (c .before .before .before .before .before .before .before .before .before .before .before .before .before .before .before .before .before .before .before .before .before .before .before .before .before .pre .0 .store-is)
-
-same-length-5 : tie.Need-same-length-5 Inv-loop μ-loop
-same-length-5 c = c .before .before .before .before .before .before .before .marks .given ∙ c .before .before .before .before .before .before .before .before .before .before .before .before .before .before .before .before .before .before .loop .inv .1 .marks-is ∙ sym (c .before .before .before .before .before .before .before .before .before .before .before .before .before .before .before .before .before .before .before .before .before .before .before .before .before .pre .0 .marks-is)
-
-same-length-6 : tie.Need-same-length-6 Inv-loop μ-loop
-same-length-6 c = c .before .before .before .before .before .out .given ∙ going-long (c .before .before .before .before .before .before .before .before .before .before .before .before .before .before .before .before .before .before .loop .inv .0)
+same-length-2 : tie.Need-same-length-2 Inv-loop μ-loop
+same-length-2 c = c .before .before .before .before .before .out .given ∙ going-long (c .before .before .before .before .before .before .before .before .before .before .before .before .before .before .loop .inv)
 
 returns-2 : tie.Need-returns-2 Inv-loop μ-loop
 returns-2 c = search (going-stop, needs)
@@ -73,8 +59,6 @@ put-lines-spec =
     (λ c. search (going-in, needs))
     (λ c κs. search (going-in, needs))
     same-length
-    same-length-2
-    same-length-3
     returns
     (λ c. search (going-in, needs))
     (λ c. search (going-in, needs))
@@ -87,7 +71,5 @@ put-lines-spec =
     loop-again
     (λ c. search needs)
     (λ c κs. search needs)
-    same-length-4
-    same-length-5
-    same-length-6
+    same-length-2
     returns-2)

@@ -5,7 +5,7 @@ use Rattle.engine.proofs.spelling.spell_at.Statement.{statement}
 use Rattle.engine.proofs.spelling.spell_at.Tie as tie
 
 have-languages-requires : tie.Need-have-languages-requires
-have-languages-requires c κs = few-at _ _ _ _ _ _ (c .before .before .before .before .before .refusal-of .ensures) (c .before .before .before .enum-told .given .1) _ _ _ (desk-at _ _ _ _ _ _ (c .before .before .before .before .before .before .before .before .before .before .before .pre .1) (c .before .desk .given .1))
+have-languages-requires c κs = few-at _ _ _ _ _ _ (c .before .before .before .before .before .refusal-of .ensures) (c .before .before .before .enum-told .given .1) _ _ _ (desk-at _ _ _ _ _ _ (c .before .before .before .before .before .before .before .before .before .pre) (c .before .desk .given .1))
 
 part-call-of-end : tie.Need-part-call-of-end
 part-call-of-end c = lowered-in _ _ _ _ (name-short _ _ _ _ (c .before .before .before .before .before .before .before .before .before .before .before .refusal-of .ensures) (c .before .before .before .before .before .before .before .before .before .enum-told .given .1)) refl (c .before .before .lower-into .ensures)
@@ -14,22 +14,16 @@ part-spell-lowered-end : tie.Need-part-spell-lowered-end
 part-spell-lowered-end c = spaced-in _ _ _ _ (name-short _ _ _ _ (c .before .before .before .before .before .before .before .before .before .before .before .before .before .before .before .before .before .before .before .refusal-of .ensures) (c .before .before .before .before .before .before .before .before .before .before .before .before .before .before .before .before .before .enum-told .given .1)) refl (c .before .before .before .before .before .before .before .before .before .before .lower-into .ensures) _ (c .before .before .before .before .part-hyphens .ensures)
 
 spell-lowered-requires : tie.Need-spell-lowered-requires
-spell-lowered-requires c κs = (c .before .before .before .before .before .before .before .before .before .before .before .before .before .before .before .before .before .before .before .before .before .before .before .before .before .before .before .pre .0, (at-ready _ _ _ _ _ _ (c .before .before .before .before .before .before .before .before .before .before .before .before .before .before .before .before .before .before .before .before .before .refusal-of .ensures) (c .before .before .before .before .before .before .before .before .before .before .before .before .before .before .before .before .before .before .before .enum-told .given .1) _ _ _ (desk-at _ _ _ _ _ _ (c .before .before .before .before .before .before .before .before .before .before .before .before .before .before .before .before .before .before .before .before .before .before .before .before .before .before .before .pre .1) (c .before .before .before .before .before .before .before .before .before .before .before .before .before .before .before .before .before .desk .given .1)) _ (c .before .before .before .before .before .before .before .before .before .before .before .before .before .before .before .have-languages .ensures) (c .before .before .before .before .before .before .before .before .before .before .before .before .before .before .if1 .taken) _ (lowered-part _ _ _ _ (name-short _ _ _ _ (c .before .before .before .before .before .before .before .before .before .before .before .before .before .before .before .before .before .before .before .before .before .refusal-of .ensures) (c .before .before .before .before .before .before .before .before .before .before .before .before .before .before .before .before .before .before .before .enum-told .given .1)) refl (c .before .before .before .before .before .before .before .before .before .before .before .before .lower-into .ensures)) _ (c .before .before .before .before .before .before .before .before .call-of .ensures), part-short _ _ _ _ (c .before .before .before .before .before .before .before .before .before .before .before .before .before .before .before .before .before .before .before .before .before .refusal-of .ensures) (c .before .before .before .before .before .before .before .before .before .before .before .before .before .before .before .before .before .before .before .enum-told .given .1) _))
+spell-lowered-requires c κs = (at-ready _ _ _ _ _ _ (c .before .before .before .before .before .before .before .before .before .before .before .before .before .before .before .before .before .before .before .before .before .refusal-of .ensures) (c .before .before .before .before .before .before .before .before .before .before .before .before .before .before .before .before .before .before .before .enum-told .given .1) _ _ _ (desk-at _ _ _ _ _ _ (c .before .before .before .before .before .before .before .before .before .before .before .before .before .before .before .before .before .before .before .before .before .before .before .before .before .pre) (c .before .before .before .before .before .before .before .before .before .before .before .before .before .before .before .before .before .desk .given .1)) _ (c .before .before .before .before .before .before .before .before .before .before .before .before .before .before .before .have-languages .ensures) (c .before .before .before .before .before .before .before .before .before .before .before .before .before .before .if1 .taken) _ (lowered-part _ _ _ _ (name-short _ _ _ _ (c .before .before .before .before .before .before .before .before .before .before .before .before .before .before .before .before .before .before .before .before .before .refusal-of .ensures) (c .before .before .before .before .before .before .before .before .before .before .before .before .before .before .before .before .before .before .before .enum-told .given .1)) refl (c .before .before .before .before .before .before .before .before .before .before .before .before .lower-into .ensures)) _ (c .before .before .before .before .before .before .before .before .call-of .ensures), part-short _ _ _ _ (c .before .before .before .before .before .before .before .before .before .before .before .before .before .before .before .before .before .before .before .before .before .refusal-of .ensures) (c .before .before .before .before .before .before .before .before .before .before .before .before .before .before .before .before .before .before .before .enum-told .given .1) _)
 
 same-length : tie.Need-same-length
-same-length c = search needs
-
-same-length-2 : tie.Need-same-length-2
-same-length-2 c = c .before .before .before .before .marks .given
-
-same-length-3 : tie.Need-same-length-3
-same-length-3 c = c .before .before .out .given
+same-length c = c .before .before .out .given
 
 returns : tie.Need-returns
-returns c = at-open _ _ _ _ _ _ (c .before .before .before .before .before .before .before .before .before .before .before .before .before .before .before .before .before .before .before .before .before .before .before .before .before .before .before .before .before .refusal-of .ensures) (c .before .before .before .before .before .before .before .before .before .before .before .before .before .before .before .before .before .before .before .before .before .before .before .before .before .before .before .enum-told .given .1) _ _ _ (desk-at _ _ _ _ _ _ (c .before .before .before .before .before .before .before .before .before .before .before .before .before .before .before .before .before .before .before .before .before .before .before .before .before .before .before .before .before .before .before .before .before .before .before .pre .1) (c .before .before .before .before .before .before .before .before .before .before .before .before .before .before .before .before .before .before .before .before .before .before .before .before .before .desk .given .1)) _ (c .before .before .before .before .before .before .before .before .before .before .before .before .before .before .before .before .before .before .before .before .before .before .before .have-languages .ensures) (c .before .before .before .before .before .before .before .before .before .before .before .before .before .before .before .before .before .before .before .before .before .before .if1 .taken) _ (lowered-part _ _ _ _ (name-short _ _ _ _ (c .before .before .before .before .before .before .before .before .before .before .before .before .before .before .before .before .before .before .before .before .before .before .before .before .before .before .before .before .before .refusal-of .ensures) (c .before .before .before .before .before .before .before .before .before .before .before .before .before .before .before .before .before .before .before .before .before .before .before .before .before .before .before .enum-told .given .1)) refl (c .before .before .before .before .before .before .before .before .before .before .before .before .before .before .before .before .before .before .before .before .lower-into .ensures)) _ (c .before .before .before .before .before .before .before .before .before .before .before .before .before .before .before .before .call-of .ensures) _ (spaced-part _ _ _ _ (name-short _ _ _ _ (c .before .before .before .before .before .before .before .before .before .before .before .before .before .before .before .before .before .before .before .before .before .before .before .before .before .before .before .before .before .refusal-of .ensures) (c .before .before .before .before .before .before .before .before .before .before .before .before .before .before .before .before .before .before .before .before .before .before .before .before .before .before .before .enum-told .given .1)) refl (c .before .before .before .before .before .before .before .before .before .before .before .before .before .before .before .before .before .before .before .before .lower-into .ensures) _ (c .before .before .before .before .before .before .before .before .before .before .before .before .before .before .part-hyphens .ensures)) (c .before .before .before .before .before .before .before .before .before .before .before .before .before .before .before .before .before .before .before .before .before .before .before .before .before .before .before .before .before .before .before .before .before .before .before .good .1 .1 .1 .1 .1 .1 .1 .1 .0 .1) (c .before .before .before .before .before .before .before .spell-lowered .ensures) (c .answer .ensures)
+returns c = at-open _ _ _ _ _ _ (c .before .before .before .before .before .before .before .before .before .before .before .before .before .before .before .before .before .before .before .before .before .before .before .before .before .refusal-of .ensures) (c .before .before .before .before .before .before .before .before .before .before .before .before .before .before .before .before .before .before .before .before .before .before .before .enum-told .given .1) _ _ _ (desk-at _ _ _ _ _ _ (c .before .before .before .before .before .before .before .before .before .before .before .before .before .before .before .before .before .before .before .before .before .before .before .before .before .before .before .before .before .pre) (c .before .before .before .before .before .before .before .before .before .before .before .before .before .before .before .before .before .before .before .before .before .desk .given .1)) _ (c .before .before .before .before .before .before .before .before .before .before .before .before .before .before .before .before .before .before .before .have-languages .ensures) (c .before .before .before .before .before .before .before .before .before .before .before .before .before .before .before .before .before .before .if1 .taken) _ (lowered-part _ _ _ _ (name-short _ _ _ _ (c .before .before .before .before .before .before .before .before .before .before .before .before .before .before .before .before .before .before .before .before .before .before .before .before .before .refusal-of .ensures) (c .before .before .before .before .before .before .before .before .before .before .before .before .before .before .before .before .before .before .before .before .before .before .before .enum-told .given .1)) refl (c .before .before .before .before .before .before .before .before .before .before .before .before .before .before .before .before .lower-into .ensures)) _ (c .before .before .before .before .before .before .before .before .before .before .before .before .call-of .ensures) _ (spaced-part _ _ _ _ (name-short _ _ _ _ (c .before .before .before .before .before .before .before .before .before .before .before .before .before .before .before .before .before .before .before .before .before .before .before .before .before .refusal-of .ensures) (c .before .before .before .before .before .before .before .before .before .before .before .before .before .before .before .before .before .before .before .before .before .before .before .enum-told .given .1)) refl (c .before .before .before .before .before .before .before .before .before .before .before .before .before .before .before .before .lower-into .ensures) _ (c .before .before .before .before .before .before .before .before .before .before .part-hyphens .ensures)) (c .before .before .before .before .before .before .before .before .before .before .before .before .before .before .before .before .before .before .before .before .before .before .before .before .before .before .before .before .before .good .1 .1 .1 .1 .1 .1 .1 .1 .0 .1) (c .before .before .before .spell-lowered .ensures) (c .answer .ensures)
 
 returns-2 : tie.Need-returns-2
-returns-2 c = at-none _ _ _ _ _ _ (c .before .before .before .before .before .before .before .refusal-of .ensures) (c .before .before .before .before .before .enum-told .given .1) _ _ _ (desk-at _ _ _ _ _ _ (c .before .before .before .before .before .before .before .before .before .before .before .before .before .pre .1) (c .before .before .before .desk .given .1)) _ (c .before .have-languages .ensures) _ (c .if1 .left)
+returns-2 c = at-none _ _ _ _ _ _ (c .before .before .before .before .before .before .before .refusal-of .ensures) (c .before .before .before .before .before .enum-told .given .1) _ _ _ (desk-at _ _ _ _ _ _ (c .before .before .before .before .before .before .before .before .before .before .before .pre) (c .before .before .before .desk .given .1)) _ (c .before .have-languages .ensures) _ (c .if1 .left)
 
 returns-3 : tie.Need-returns-3
 returns-3 c = search (at-shut, needs)
@@ -61,8 +55,6 @@ spell-at-spec =
     (λ c. search needs)
     (λ c. search needs)
     same-length
-    same-length-2
-    same-length-3
     returns
     returns-2
     returns-3

@@ -4,9 +4,6 @@ use Rattle.phoneme_builder.proofs.FinalLaws.{raised-into}
 use Rattle.phoneme_builder.proofs.words.raised.Statement.{statement}
 use Rattle.phoneme_builder.proofs.words.raised.Tie as tie
 
-returns : tie.Need-returns
-returns c = raised-into _ _ _ _ _ (c .before .before .pass .given .1) (c .either .ensures)
-
 returns-2 : tie.Need-returns-2
 unfolding raisedBy
 returns-2 c = search needs
@@ -18,11 +15,4 @@ returns-3 c = search needs
 pub raised-spec : {M : Type 1} → statement M
 raised-spec =
     tie.close
-    (tie.spec
-    (λ c. search needs)
-    (λ c κs. search needs)
-    (λ c. search needs)
-    (λ c. search needs)
-    returns
-    returns-2
-    returns-3)
+    (tie.spec (λ c. search needs) (λ c κs. search needs) (λ c. search needs) (λ c. search needs) (λ c. search (raised-into, needs)) returns-2 returns-3)

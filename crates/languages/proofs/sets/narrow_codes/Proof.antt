@@ -1,0 +1,11 @@
+use Rattle.languages.specs.Contracts.{codesNarrowed}
+use borrow.Author.Needs.{needs}
+use Rattle.languages.proofs.sets.narrow_codes.Statement.{statement}
+use Rattle.languages.proofs.sets.narrow_codes.Tie as tie
+
+returns : tie.Need-returns
+unfolding codesNarrowed
+returns c = search needs
+
+pub narrow-codes-spec : {M : Type 1} → statement M
+narrow-codes-spec = tie.close (tie.spec returns)
