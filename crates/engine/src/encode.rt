@@ -169,7 +169,8 @@ pub(crate) fn spell_plain(
 ) -> Ends
     requires { ⌜ CallReady (now pack) (now table) call ⌝ }
     requires { ⌜ length (now name) ≤ 96 ⌝ }
-    ensures { λ r. ⌜ ToldWhole (onePart (stepsAt (now (pack .entry)) call) (startAt (now (pack .entry)) call (now (name .entry))) (now (name .entry))) (now (out .entry)) (now (out .exit)) at r ⌝ }
+    ensures { λ r. ⌜ ToldWhole (onePart (stepsAt (now (pack .entry)) call) (startAt (now (pack .entry)) call (now (name .entry))) (now (name .entry)))
+        (now (out .entry)) (now (out .exit)) at r ⌝ }
 {
     let set = start_of(pack, call, name);
     if call.concat {
@@ -250,7 +251,8 @@ pub(crate) fn spell_name(
     requires { ⌜ CallReady (now pack) (now table) call ⌝ }
     requires { ⌜ length (now name) ≤ 96 ⌝ }
     requires { ⌜ at ≤ cap ⌝ }
-    ensures { λ r. ⌜ NameTold (spelledName (stepsAt (now (pack .entry)) call) (startAt (now (pack .entry)) call (now (name .entry))) (now (name .entry))) (now (out .entry)) (now (out .exit)) at r ⌝ }
+    ensures { λ r. ⌜ NameTold (spelledName (stepsAt (now (pack .entry)) call) (startAt (now (pack .entry)) call (now (name .entry))) (now (name .entry)))
+        (now (out .entry)) (now (out .exit)) at r ⌝ }
 {
     let kind = call.kind;
     match part_of(kind, name) {

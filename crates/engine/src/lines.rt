@@ -176,7 +176,8 @@ fn put_line(
 ) -> Fit
     requires { ⌜ DeskIs (now pack) (now table) desk ⌝ }
     requires { ⌜ (at ≤ size) × (size ≡ min (length (now out)) most) ⌝ }
-    ensures { λ r. ⌜ LineAt (lineFor (callOf settings start (now (pack .entry))) (length (now (out .entry))) (now (name .entry))) (needed (callOf settings start (now (pack .entry)) (now (name .entry)))) size (now (out .entry)) (now (out .exit)) at r ⌝ }
+    ensures { λ r. ⌜ LineAt (lineFor (callOf settings start (now (pack .entry))) (length (now (out .entry))) (now (name .entry)))
+        (needed (callOf settings start (now (pack .entry)) (now (name .entry)))) size (now (out .entry)) (now (out .exit)) at r ⌝ }
 {
     let a = front_of(at, size);
     let e = end_of(a, size);

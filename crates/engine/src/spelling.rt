@@ -147,7 +147,8 @@ fn spell_lowered(
 ) -> Ends
     requires { ⌜ CallReady (now pack) (now table) call ⌝ }
     requires { ⌜ length (now name) ≤ 96 ⌝ }
-    ensures { λ r. ⌜ ToldWhole (spelledName (stepsAt (now (pack .entry)) call) (startAt (now (pack .entry)) call (now (name .entry))) (now (name .entry))) (now (out .entry)) (now (out .exit)) 0 r ⌝ }
+    ensures { λ r. ⌜ ToldWhole (spelledName (stepsAt (now (pack .entry)) call) (startAt (now (pack .entry)) call (now (name .entry))) (now (name .entry)))
+        (now (out .entry)) (now (out .exit)) 0 r ⌝ }
 {
     if is_single(call, name) {
         return spell_plain(store, slots, pack, table, call, name, out, 0);

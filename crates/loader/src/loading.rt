@@ -144,7 +144,8 @@ fn write_pack(
     out: &mut [u8],
 ) -> Written
     requires { ⌜ (languages ≤ 32) × (guesses ≤ 4096) ⌝ }
-    ensures { λ r. ⌜ WrittenIs (λ (bytes : List ℕ). bytes) (packedOf kind (filesOf (now (bundle .entry))) (now (names .entry)) languages guesses) (now (out .entry)) (now (out .exit)) 0 r ⌝ }
+    ensures { λ r. ⌜ WrittenIs (λ (bytes : List ℕ). bytes) (packedOf kind (filesOf (now (bundle .entry))) (now (names .entry)) languages guesses)
+        (now (out .entry)) (now (out .exit)) 0 r ⌝ }
 {
     let p = write_front(names, languages, guesses, out);
     match load_guesses(kind, bundle, names, out, p) {

@@ -27,7 +27,8 @@ fn write_list(
     at: usize,
 ) -> Written
     requires { ⌜ Room (now lasts) (now rows) ⌝ }
-    ensures { λ r. ⌜ WrittenIs listBytes (listNamed (now (names .entry)) (filesOf (now (bundle .entry))) (now (wanted .entry))) (now (out .entry)) (now (out .exit)) at r ⌝ }
+    ensures { λ r. ⌜ WrittenIs listBytes (listNamed (now (names .entry)) (filesOf (now (bundle .entry))) (now (wanted .entry))) (now (out .entry))
+        (now (out .exit)) at r ⌝ }
 {
     match bundles::find_file(bundle, wanted) {
         FileAt::At { number, start, end } => {
@@ -72,7 +73,9 @@ fn write_named(
 ) -> Written
     requires { ⌜ Room (now lasts) (now rows) ⌝ }
     requires { ⌜ length (now prefix) + (length (now kind) + length (now language)) ≤ 320 ⌝ }
-    ensures { λ r. ⌜ WrittenIs listBytes (listNamed (now (names .entry)) (filesOf (now (bundle .entry))) (now (prefix .entry) ++ (now (kind .entry) ++ now (language .entry)))) (now (out .entry)) (now (out .exit)) at r ⌝ }
+    ensures { λ r. ⌜ WrittenIs listBytes
+        (listNamed (now (names .entry)) (filesOf (now (bundle .entry))) (now (prefix .entry) ++ (now (kind .entry) ++ now (language .entry))))
+        (now (out .entry)) (now (out .exit)) at r ⌝ }
 {
     let mut wanted = [0u8; 320];
     let n = put_name(prefix, kind, language, &mut wanted);
@@ -92,7 +95,9 @@ fn write_two(
 ) -> Written
     requires { ⌜ Room (now lasts) (now rows) ⌝ }
     requires { ⌜ length (now prefix) + length (now language) ≤ 300 ⌝ }
-    ensures { λ r. ⌜ WrittenIs (bytesOfAll listBytes) (listsOf (now (names .entry)) (filesOf (now (bundle .entry))) (twoOf (now (prefix .entry)) (now (language .entry)))) (now (out .entry)) (now (out .exit)) at r ⌝ }
+    ensures { λ r. ⌜ WrittenIs (bytesOfAll listBytes)
+        (listsOf (now (names .entry)) (filesOf (now (bundle .entry))) (twoOf (now (prefix .entry)) (now (language .entry)))) (now (out .entry))
+        (now (out .exit)) at r ⌝ }
 {
     match write_named(
         bundle,
@@ -135,7 +140,9 @@ fn write_three(
 ) -> Written
     requires { ⌜ Room (now lasts) (now rows) ⌝ }
     requires { ⌜ length (now prefix) + length (now language) ≤ 300 ⌝ }
-    ensures { λ r. ⌜ WrittenIs (bytesOfAll listBytes) (listsOf (now (names .entry)) (filesOf (now (bundle .entry))) (threeOf (now (prefix .entry)) (now (language .entry)))) (now (out .entry)) (now (out .exit)) at r ⌝ }
+    ensures { λ r. ⌜ WrittenIs (bytesOfAll listBytes)
+        (listsOf (now (names .entry)) (filesOf (now (bundle .entry))) (threeOf (now (prefix .entry)) (now (language .entry)))) (now (out .entry))
+        (now (out .exit)) at r ⌝ }
 {
     match write_named(
         bundle,
@@ -167,7 +174,8 @@ fn write_common(
 ) -> Written
     requires { ⌜ Room (now lasts) (now rows) ⌝ }
     requires { ⌜ length (now prefix) ≤ 40 ⌝ }
-    ensures { λ r. ⌜ WrittenIs (bytesOfAll listBytes) (listsOf (now (names .entry)) (filesOf (now (bundle .entry))) (twoOf (now (prefix .entry)) commonPart)) (now (out .entry)) (now (out .exit)) at r ⌝ }
+    ensures { λ r. ⌜ WrittenIs (bytesOfAll listBytes) (listsOf (now (names .entry)) (filesOf (now (bundle .entry))) (twoOf (now (prefix .entry)) commonPart))
+        (now (out .entry)) (now (out .exit)) at r ⌝ }
 {
     write_two(bundle, names, prefix, b"common", lasts, rows, out, at)
 }
@@ -184,7 +192,9 @@ fn write_all(
 ) -> Written
     requires { ⌜ Room (now lasts) (now rows) ⌝ }
     requires { ⌜ length (now prefix) ≤ 40 ⌝ }
-    ensures { λ r. ⌜ WrittenIs (bytesOfAll listBytes) (listsOf (now (names .entry)) (filesOf (now (bundle .entry))) (listFiles (now (prefix .entry)) (stringsOf (now (names .entry))))) (now (out .entry)) (now (out .exit)) at r ⌝ }
+    ensures { λ r. ⌜ WrittenIs (bytesOfAll listBytes)
+        (listsOf (now (names .entry)) (filesOf (now (bundle .entry))) (listFiles (now (prefix .entry)) (stringsOf (now (names .entry))))) (now (out .entry))
+        (now (out .exit)) at r ⌝ }
 {
     let mut from: usize = 0;
     let mut place = at;
@@ -227,7 +237,9 @@ pub fn write_lists(
     out: &mut [u8],
     at: usize,
 ) -> Written
-    ensures { λ r. ⌜ WrittenIs (bytesOfAll listBytes) (listsOf (now (names .entry)) (filesOf (now (bundle .entry))) (listFiles (Rattle.rule_lists.specs.Lists.typePrefix kind) (stringsOf (now (names .entry))))) (now (out .entry)) (now (out .exit)) at r ⌝ }
+    ensures { λ r. ⌜ WrittenIs (bytesOfAll listBytes)
+        (listsOf (now (names .entry)) (filesOf (now (bundle .entry))) (listFiles (Rattle.rule_lists.specs.Lists.typePrefix kind) (stringsOf (now (names .entry)))))
+        (now (out .entry)) (now (out .exit)) at r ⌝ }
 {
     let mut lasts = [0u64; 4096];
     let mut rows = [0usize; 16384];

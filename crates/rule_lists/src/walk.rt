@@ -144,7 +144,8 @@ fn walk(
 ) -> Walked
     requires { ⌜ (start ≤ end) × (end ≤ length (now bundle)) ⌝ }
     requires { ⌜ Ready (now bundle) task st0 (now lasts) (now rows) ⌝ }
-    ensures { λ r. ⌜ WalkIs (now (bundle .entry)) (now (names .entry)) file start end left task st0 (now (lasts .entry)) (now (rows .entry)) r (now (lasts .exit)) (now (rows .exit)) ⌝ }
+    ensures { λ r. ⌜ WalkIs (now (bundle .entry)) (now (names .entry)) file start end left task st0 (now (lasts .entry)) (now (rows .entry)) r
+        (now (lasts .exit)) (now (rows .exit)) ⌝ }
 {
     let s = &bundle[start..end];
     let own = st0.followed;
@@ -243,7 +244,9 @@ pub(crate) fn collect(
 ) -> Collected
     requires { ⌜ (start ≤ end) × (end ≤ length (now bundle)) ⌝ }
     requires { ⌜ Room (now lasts) (now rows) ⌝ }
-    ensures { λ r. ⌜ CollectIs (now (bundle .entry)) (countedRules (readListed (filesFor (now (names .entry)) (filesOf (now (bundle .entry)))) file (linesOf (now (names .entry)) (take (end - start) (drop start (now (bundle .entry))))))) r (now (rows .exit)) ⌝ }
+    ensures { λ r. ⌜ CollectIs (now (bundle .entry))
+        (countedRules (readListed (filesFor (now (names .entry)) (filesOf (now (bundle .entry)))) file (linesOf (now (names .entry)) (take (end - start) (drop start (now (bundle .entry)))))))
+        r (now (rows .exit)) ⌝ }
 {
     let fresh = State {
         followed: 0,

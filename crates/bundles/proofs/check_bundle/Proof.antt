@@ -11,28 +11,9 @@ abbrev μ-loop : tie.MeasureT-loop
 
 pub check-bundle-spec : {M : Type 1} → statement M
 check-bundle-spec =
-    tie.close
-    (tie.spec
-    Inv-loop
-    μ-loop
-    (λ c κs. search (check-laws, needs))
-    (λ c. search (check-laws, needs))
-    (λ c. search (check-laws, needs))
-    (λ c κs. search (check-laws, needs))
-    (λ c. search (check-laws, needs))
-    (λ c. search (check-laws, needs))
-    (λ c. search (check-laws, needs))
-    (λ c. search (check-laws, needs))
-    (λ c. search (check-laws, needs))
-    (λ c. search (check-laws, needs))
-    (λ c. search (check-laws, needs))
-    (λ c κs. search (check-laws, needs))
-    (λ c. search (check-laws, needs))
-    (λ c. search (check-laws, needs))
-    (λ c. search (check-laws, needs))
-    (λ c. search (check-laws, needs))
-    (λ c. search (check-laws, needs))
-    (λ c. search (check-laws, needs))
-    (λ c. search (check-laws, needs))
-    (λ c. search (check-laws, needs))
-    (λ c. search (check-laws, needs)))
+    tie.close (tie.spec Inv-loop μ-loop (λ c κs. search (check-laws, needs)) (λ c. search (check-laws, needs)) (λ c. search (check-laws, needs))
+    (λ c κs. search (check-laws, needs)) (λ c. search (check-laws, needs)) (λ c. search (check-laws, needs)) (λ c. search (check-laws, needs))
+    (λ c. search (check-laws, needs)) (λ c. search (check-laws, needs)) (λ c. search (check-laws, needs)) (λ c. search (check-laws, needs))
+    (λ c κs. search (check-laws, needs)) (λ c. search (check-laws, needs)) (λ c. search (check-laws, needs)) (λ c. search (check-laws, needs))
+    (λ c. search (check-laws, needs)) (λ c. search (check-laws, needs)) (λ c. search (check-laws, needs)) (λ c. search (check-laws, needs))
+    (λ c. search (check-laws, needs)) (λ c. search (check-laws, needs)))

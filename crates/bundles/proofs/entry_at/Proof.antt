@@ -5,18 +5,7 @@ use Rattle.bundles.proofs.entry_at.Tie as tie
 
 pub entry-at-spec : {M : Type 1} → statement M
 entry-at-spec =
-    tie.close
-    (tie.spec
-    (λ c κs. search (entry-laws, needs))
-    (λ c. search (entry-laws, needs))
-    (λ c κs. search (entry-laws, needs))
-    (λ c. search (entry-laws, needs))
-    (λ c. search (entry-laws, needs))
-    (λ c. search (entry-laws, needs))
-    (λ c. search (entry-laws, needs))
-    (λ c. search (entry-laws, needs))
-    (λ c. search (entry-laws, needs))
-    (λ c. search (entry-laws, needs))
-    (λ c. search (entry-laws, needs))
-    (λ c. search (entry-laws, needs))
-    (λ c. search (entry-laws, needs)))
+    tie.close (tie.spec (λ c κs. search (entry-laws, needs)) (λ c. search (entry-laws, needs)) (λ c κs. search (entry-laws, needs))
+    (λ c. search (entry-laws, needs)) (λ c. search (entry-laws, needs)) (λ c. search (entry-laws, needs)) (λ c. search (entry-laws, needs))
+    (λ c. search (entry-laws, needs)) (λ c. search (entry-laws, needs)) (λ c. search (entry-laws, needs)) (λ c. search (entry-laws, needs))
+    (λ c. search (entry-laws, needs)) (λ c. search (entry-laws, needs)))

@@ -11,26 +11,8 @@ abbrev μ-loop : tie.MeasureT-loop
 
 pub find-file-spec : {M : Type 1} → statement M
 find-file-spec =
-    tie.close
-    (tie.spec
-    Inv-loop
-    μ-loop
-    (λ c κs. search (seek-laws, needs))
-    (λ c. search (seek-laws, needs))
-    (λ c. search (seek-laws, needs))
-    (λ c κs. search (seek-laws, needs))
-    (λ c. search (seek-laws, needs))
-    (λ c. search (seek-laws, needs))
-    (λ c. search (seek-laws, needs))
-    (λ c. search (seek-laws, needs))
-    (λ c κs. search (seek-laws, needs))
-    (λ c. search (seek-laws, needs))
-    (λ c. search (seek-laws, needs))
-    (λ c. search (seek-laws, needs))
-    (λ c. search (seek-laws, needs))
-    (λ c. search (seek-laws, needs))
-    (λ c. search (seek-laws, needs))
-    (λ c. search (seek-laws, needs))
-    (λ c. search (seek-laws, needs))
-    (λ c. search (seek-laws, needs))
-    (λ c. search (seek-laws, needs)))
+    tie.close (tie.spec Inv-loop μ-loop (λ c κs. search (seek-laws, needs)) (λ c. search (seek-laws, needs)) (λ c. search (seek-laws, needs))
+    (λ c κs. search (seek-laws, needs)) (λ c. search (seek-laws, needs)) (λ c. search (seek-laws, needs)) (λ c. search (seek-laws, needs))
+    (λ c. search (seek-laws, needs)) (λ c κs. search (seek-laws, needs)) (λ c. search (seek-laws, needs)) (λ c. search (seek-laws, needs))
+    (λ c. search (seek-laws, needs)) (λ c. search (seek-laws, needs)) (λ c. search (seek-laws, needs)) (λ c. search (seek-laws, needs))
+    (λ c. search (seek-laws, needs)) (λ c. search (seek-laws, needs)) (λ c. search (seek-laws, needs)) (λ c. search (seek-laws, needs)))

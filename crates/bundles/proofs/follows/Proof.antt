@@ -5,13 +5,6 @@ use Rattle.bundles.proofs.follows.Tie as tie
 
 pub follows-spec : {M : Type 1} → statement M
 follows-spec =
-    tie.close
-    (tie.spec
-    (λ c. search (follows-laws, needs))
-    (λ c κs. search (follows-laws, needs))
-    (λ c. search (follows-laws, needs))
-    (λ c. search (follows-laws, needs))
-    (λ c. search (follows-laws, needs))
-    (λ c. search (follows-laws, needs))
-    (λ c. search (follows-laws, needs))
+    tie.close (tie.spec (λ c. search (follows-laws, needs)) (λ c κs. search (follows-laws, needs)) (λ c. search (follows-laws, needs))
+    (λ c. search (follows-laws, needs)) (λ c. search (follows-laws, needs)) (λ c. search (follows-laws, needs)) (λ c. search (follows-laws, needs))
     (λ c. search (follows-laws, needs)))

@@ -5,16 +5,7 @@ use Rattle.rule_lines.proofs.expression_good.Tie as tie
 
 pub expression-good-spec : {M : Type 1} → statement M
 expression-good-spec =
-    tie.close
-    (tie.spec
-    (λ c κs. search (string-laws, needs))
-    (λ c κs. search (string-laws, needs))
-    (λ c κs. search (string-laws, needs))
-    (λ c κs. search (string-laws, needs))
-    (λ c κs. search (string-laws, needs))
-    (λ c κs. search (string-laws, needs))
-    (λ c κs. search (string-laws, needs))
-    (λ c. search (string-laws, needs))
-    (λ c. search (string-laws, needs))
-    (λ c. search (string-laws, needs))
+    tie.close (tie.spec (λ c κs. search (string-laws, needs)) (λ c κs. search (string-laws, needs)) (λ c κs. search (string-laws, needs))
+    (λ c κs. search (string-laws, needs)) (λ c κs. search (string-laws, needs)) (λ c κs. search (string-laws, needs))
+    (λ c κs. search (string-laws, needs)) (λ c. search (string-laws, needs)) (λ c. search (string-laws, needs)) (λ c. search (string-laws, needs))
     (λ c. search (string-laws, needs)))

@@ -22,22 +22,7 @@ returns-4 c = search fault-laws
 
 pub rule-fault-spec : {M : Type 1} → statement M
 rule-fault-spec =
-    tie.close
-    (tie.spec
-    (λ c κs. search (fault-laws, needs))
-    (λ c. search (fault-laws, needs))
-    (λ c. search (fault-laws, needs))
-    (λ c κs. search (fault-laws, needs))
-    (λ c κs. search (fault-laws, needs))
-    (λ c. search (fault-laws, needs))
-    (λ c. search (fault-laws, needs))
-    (λ c κs. search (fault-laws, needs))
-    (λ c κs. search (fault-laws, needs))
-    (λ c. search (fault-laws, needs))
-    (λ c. search (fault-laws, needs))
-    (λ c κs. search (fault-laws, needs))
-    (λ c κs. search (fault-laws, needs))
-    returns
-    returns-2
-    returns-3
-    returns-4)
+    tie.close (tie.spec (λ c κs. search (fault-laws, needs)) (λ c. search (fault-laws, needs)) (λ c. search (fault-laws, needs))
+    (λ c κs. search (fault-laws, needs)) (λ c κs. search (fault-laws, needs)) (λ c. search (fault-laws, needs)) (λ c. search (fault-laws, needs))
+    (λ c κs. search (fault-laws, needs)) (λ c κs. search (fault-laws, needs)) (λ c. search (fault-laws, needs)) (λ c. search (fault-laws, needs))
+    (λ c κs. search (fault-laws, needs)) (λ c κs. search (fault-laws, needs)) returns returns-2 returns-3 returns-4)

@@ -5,5 +5,5 @@ use Rattle.rule_lines.proofs.rule_good.Tie as tie
 
 pub rule-good-spec : {M : Type 1} → statement M
 rule-good-spec =
-    tie.close
-    (tie.spec (λ c κs. search (rule-laws, needs)) (λ c κs. search (rule-laws, needs)) (λ c κs. search (rule-laws, needs)) (λ c. search (rule-laws, needs)) (λ c. search (rule-laws, needs)))
+    tie.close (tie.spec (λ c κs. search (rule-laws, needs)) (λ c κs. search (rule-laws, needs)) (λ c κs. search (rule-laws, needs))
+    (λ c. search (rule-laws, needs)) (λ c. search (rule-laws, needs)))

@@ -14,23 +14,6 @@ slice-aggregate-word-3 c = zeros 256
 
 pub spelled-spec : {M : Type 1} → statement M
 spelled-spec =
-    tie.close
-    (tie.spec
-    slice-aggregate-word
-    slice-aggregate-word-2
-    slice-aggregate-word-3
-    (λ c κs. search needs)
-    (λ c. search needs)
-    (λ c κs. search needs)
-    (λ c. search needs)
-    (λ c. search needs)
-    (λ c. search needs)
-    (λ c κs. search needs)
-    (λ c. search needs)
-    (λ c. search needs)
-    (λ c. search needs)
-    (λ c. search needs)
-    (λ c. search needs)
-    (λ c. search needs)
-    (λ c. search needs)
-    (λ c. search needs))
+    tie.close (tie.spec slice-aggregate-word slice-aggregate-word-2 slice-aggregate-word-3 (λ c κs. search needs) (λ c. search needs)
+    (λ c κs. search needs) (λ c. search needs) (λ c. search needs) (λ c. search needs) (λ c κs. search needs) (λ c. search needs) (λ c. search needs)
+    (λ c. search needs) (λ c. search needs) (λ c. search needs) (λ c. search needs) (λ c. search needs) (λ c. search needs))

@@ -14,18 +14,6 @@ abbrev μ-loop : tie.MeasureT-loop
 
 pub put-codes-spec : {M : Type 1} → statement M
 put-codes-spec =
-    tie.close
-    (tie.spec
-    Inv-loop
-    μ-loop
-    (λ c κs. search needs)
-    (λ c. search needs)
-    (λ c κs. search needs)
-    (λ c. search needs)
-    (λ c. search needs)
-    (λ c κs. search needs)
-    (λ c. search (step-laws, needs))
-    (λ c. search (step-laws, needs))
-    (λ c. search (step-end, needs))
-    (λ c. search needs)
+    tie.close (tie.spec Inv-loop μ-loop (λ c κs. search needs) (λ c. search needs) (λ c κs. search needs) (λ c. search needs) (λ c. search needs)
+    (λ c κs. search needs) (λ c. search (step-laws, needs)) (λ c. search (step-laws, needs)) (λ c. search (step-end, needs)) (λ c. search needs)
     (λ c. search needs))

@@ -5,14 +5,6 @@ use Rattle.engine.proofs.call.open.Tie as tie
 
 pub open-spec : {M : Type 1} → statement M
 open-spec =
-    tie.close
-    (tie.spec
-    (λ c κs. search needs)
-    (λ c. search needs)
-    (λ c. search (desk-laws, needs))
-    (λ c. search (desk-laws, needs))
-    (λ c. search (desk-laws, needs))
-    (λ c κs. search (desk-laws, needs))
-    (λ c. search needs)
-    (λ c. search (desk-laws, needs))
+    tie.close (tie.spec (λ c κs. search needs) (λ c. search needs) (λ c. search (desk-laws, needs)) (λ c. search (desk-laws, needs))
+    (λ c. search (desk-laws, needs)) (λ c κs. search (desk-laws, needs)) (λ c. search needs) (λ c. search (desk-laws, needs))
     (λ c. search (desk-laws, needs)))

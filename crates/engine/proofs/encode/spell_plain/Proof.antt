@@ -28,18 +28,5 @@ returns-2 c = search (plain-told, start-told, pick-no, needs)
 
 pub spell-plain-spec : {M : Type 1} → statement M
 spell-plain-spec =
-    tie.close
-    (tie.spec
-    (λ c κs. search needs)
-    (λ c. search needs)
-    (λ c κs. search needs)
-    (λ c. search needs)
-    (λ c. search needs)
-    part-spell-word-end
-    spell-word-requires
-    (λ c κs. search needs)
-    spell-word-requires-2
-    same-length
-    returns
-    same-length-2
-    returns-2)
+    tie.close (tie.spec (λ c κs. search needs) (λ c. search needs) (λ c κs. search needs) (λ c. search needs) (λ c. search needs) part-spell-word-end
+    spell-word-requires (λ c κs. search needs) spell-word-requires-2 same-length returns same-length-2 returns-2)

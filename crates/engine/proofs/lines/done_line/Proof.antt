@@ -9,16 +9,6 @@ add-push-2 c = omega (arith, done-within _ _ _ (c .before .before .before .befor
 
 pub done-line-spec : {M : Type 1} → statement M
 done-line-spec =
-    tie.close
-    (tie.spec
-    (λ c. search (lines-laws, needs))
-    (λ c κs. search (lines-laws, needs))
-    (λ c κs. search (lines-laws, needs))
-    (λ c. search (lines-laws, needs))
-    add-push-2
-    (λ c κs. search (lines-laws, needs))
-    (λ c κs. search (lines-laws, needs))
-    (λ c. search (lines-laws, needs))
-    (λ c. search (lines-laws, needs))
-    (λ c. search (lines-laws, needs))
-    (λ c. search (lines-laws, needs)))
+    tie.close (tie.spec (λ c. search (lines-laws, needs)) (λ c κs. search (lines-laws, needs)) (λ c κs. search (lines-laws, needs))
+    (λ c. search (lines-laws, needs)) add-push-2 (λ c κs. search (lines-laws, needs)) (λ c κs. search (lines-laws, needs))
+    (λ c. search (lines-laws, needs)) (λ c. search (lines-laws, needs)) (λ c. search (lines-laws, needs)) (λ c. search (lines-laws, needs)))

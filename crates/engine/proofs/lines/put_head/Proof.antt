@@ -9,11 +9,5 @@ returns c = head-is (c .before .before .before .before .before .before .args .fl
 
 pub put-head-spec : {M : Type 1} → statement M
 put-head-spec =
-    tie.close
-    (tie.spec
-    (λ c. search needs)
-    (λ c. omega (arith, digit-small (c .before .args .flag)))
-    (λ c. search needs)
-    (λ c κs. search needs)
-    (λ c. search needs)
-    returns)
+    tie.close (tie.spec (λ c. search needs) (λ c. omega (arith, digit-small (c .before .args .flag))) (λ c. search needs) (λ c κs. search needs)
+    (λ c. search needs) returns)

@@ -39,20 +39,6 @@ returns-2 c = put-refused _ _ _ _ _ (c .before .before .before .before .before .
 
 pub put-line-spec : {M : Type 1} → statement M
 put-line-spec =
-    tie.close
-    (tie.spec
-    (λ c κs. search needs)
-    (λ c κs. search needs)
-    sub-spell-at
-    part-spell-at-start
-    part-spell-at-end
-    spell-at-requires
-    (λ c. search needs)
-    done-line-requires
-    (λ c. search needs)
-    (λ c κs. search needs)
-    refused-line-requires
-    same-length
-    returns
-    same-length-2
+    tie.close (tie.spec (λ c κs. search needs) (λ c κs. search needs) sub-spell-at part-spell-at-start part-spell-at-end spell-at-requires
+    (λ c. search needs) done-line-requires (λ c. search needs) (λ c κs. search needs) refused-line-requires same-length returns same-length-2
     returns-2)

@@ -48,28 +48,7 @@ returns-2 c = search (going-stop, needs)
 
 pub put-lines-spec : {M : Type 1} → statement M
 put-lines-spec =
-    tie.close
-    (tie.spec
-    Inv-loop
-    μ-loop
-    (λ c κs. search (going-in, needs))
-    loop-holds
-    (λ c. search (going-in, needs))
-    (λ c. search (going-in, needs))
-    (λ c. search (going-in, needs))
-    (λ c κs. search (going-in, needs))
-    same-length
-    returns
-    (λ c. search (going-in, needs))
-    (λ c. search (going-in, needs))
-    (λ c. search (going-in, needs))
-    put-line-requires
-    (λ c. search needs)
-    add-read
-    add-read-2
-    loop-less
-    loop-again
-    (λ c. search needs)
-    (λ c κs. search needs)
-    same-length-2
-    returns-2)
+    tie.close (tie.spec Inv-loop μ-loop (λ c κs. search (going-in, needs)) loop-holds (λ c. search (going-in, needs)) (λ c. search (going-in, needs))
+    (λ c. search (going-in, needs)) (λ c κs. search (going-in, needs)) same-length returns (λ c. search (going-in, needs))
+    (λ c. search (going-in, needs)) (λ c. search (going-in, needs)) put-line-requires (λ c. search needs) add-read add-read-2 loop-less loop-again
+    (λ c. search needs) (λ c κs. search needs) same-length-2 returns-2)

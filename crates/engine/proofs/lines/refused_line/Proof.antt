@@ -5,17 +5,7 @@ use Rattle.engine.proofs.lines.refused_line.Tie as tie
 
 pub refused-line-spec : {M : Type 1} → statement M
 refused-line-spec =
-    tie.close
-    (tie.spec
-    (λ c κs. search (lines-laws, needs))
-    (λ c. search (lines-laws, needs))
-    (λ c κs. search (lines-laws, needs))
-    (λ c κs. search (lines-laws, needs))
-    (λ c κs. search (lines-laws, needs))
-    (λ c κs. search (lines-laws, needs))
-    (λ c. search (lines-laws, needs))
-    (λ c. search (lines-laws, needs))
-    (λ c κs. search (lines-laws, needs))
-    (λ c. search (lines-laws, needs))
-    (λ c. search (lines-laws, needs))
+    tie.close (tie.spec (λ c κs. search (lines-laws, needs)) (λ c. search (lines-laws, needs)) (λ c κs. search (lines-laws, needs))
+    (λ c κs. search (lines-laws, needs)) (λ c κs. search (lines-laws, needs)) (λ c κs. search (lines-laws, needs)) (λ c. search (lines-laws, needs))
+    (λ c. search (lines-laws, needs)) (λ c κs. search (lines-laws, needs)) (λ c. search (lines-laws, needs)) (λ c. search (lines-laws, needs))
     (λ c. search (lines-laws, needs)))

@@ -20,14 +20,5 @@ returns-4 c = kept-none _ _ _ (c .if1 .left)
 
 pub keep-spec : {M : Type 1} → statement M
 keep-spec =
-    tie.close
-    (tie.spec
-    (λ c. search needs)
-    (λ c. search needs)
-    (λ c. search needs)
-    (λ c κs. search needs)
-    same-length
-    returns
-    returns-2
-    returns-3
+    tie.close (tie.spec (λ c. search needs) (λ c. search needs) (λ c. search needs) (λ c κs. search needs) same-length returns returns-2 returns-3
     returns-4)

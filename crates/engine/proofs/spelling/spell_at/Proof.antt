@@ -33,29 +33,7 @@ returns-4 c = search (at-wrong, needs)
 
 pub spell-at-spec : {M : Type 1} → statement M
 spell-at-spec =
-    tie.close
-    (tie.spec
-    (λ c κs. search needs)
-    (λ c. search needs)
-    (λ c. search needs)
-    have-languages-requires
-    (λ c. search needs)
-    (λ c κs. search needs)
-    (λ c. search needs)
-    (λ c. search needs)
-    part-call-of-end
-    (λ c κs. search needs)
-    (λ c. search needs)
-    (λ c κs. search needs)
-    (λ c. search needs)
-    (λ c. search needs)
-    part-spell-lowered-end
-    spell-lowered-requires
-    (λ c κs. search needs)
-    (λ c. search needs)
-    (λ c. search needs)
-    same-length
-    returns
-    returns-2
-    returns-3
-    returns-4)
+    tie.close (tie.spec (λ c κs. search needs) (λ c. search needs) (λ c. search needs) have-languages-requires (λ c. search needs)
+    (λ c κs. search needs) (λ c. search needs) (λ c. search needs) part-call-of-end (λ c κs. search needs) (λ c. search needs) (λ c κs. search needs)
+    (λ c. search needs) (λ c. search needs) part-spell-lowered-end spell-lowered-requires (λ c κs. search needs) (λ c. search needs)
+    (λ c. search needs) same-length returns returns-2 returns-3 returns-4)

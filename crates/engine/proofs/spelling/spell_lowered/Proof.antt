@@ -38,18 +38,5 @@ returns-3 c = again-told (c .before .before .before .before .before .before .bef
 
 pub spell-lowered-spec : {M : Type 1} → statement M
 spell-lowered-spec =
-    tie.close
-    (tie.spec
-    (λ c κs. search needs)
-    spell-plain-requires
-    same-length
-    returns
-    slice-aggregate-spell-name
-    spell-name-requires
-    (λ c. search needs)
-    (λ c κs. search needs)
-    spell-name-requires-2
-    same-length-2
-    returns-2
-    same-length-3
-    returns-3)
+    tie.close (tie.spec (λ c κs. search needs) spell-plain-requires same-length returns slice-aggregate-spell-name spell-name-requires
+    (λ c. search needs) (λ c κs. search needs) spell-name-requires-2 same-length-2 returns-2 same-length-3 returns-3)

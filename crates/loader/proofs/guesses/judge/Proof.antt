@@ -6,13 +6,5 @@ use Rattle.loader.proofs.guesses.judge.Tie as tie
 
 pub judge-spec : {M : Type 1} → statement M
 judge-spec =
-    tie.close
-    (tie.spec
-    (λ c. search (judge-laws, needs))
-    (λ c κs. search needs)
-    (λ c κs. search needs)
-    (λ c. search needs)
-    (λ c. search needs)
-    (λ c. search (listed-one, judge-laws, needs))
-    (λ c. search (listed-one, judge-laws, needs))
-    (λ c. search (judge-laws, needs)))
+    tie.close (tie.spec (λ c. search (judge-laws, needs)) (λ c κs. search needs) (λ c κs. search needs) (λ c. search needs) (λ c. search needs)
+    (λ c. search (listed-one, judge-laws, needs)) (λ c. search (listed-one, judge-laws, needs)) (λ c. search (judge-laws, needs)))

@@ -5,5 +5,5 @@ use Rattle.loader.proofs.guesses.put_guess.Tie as tie
 
 pub put-guess-spec : {M : Type 1} → statement M
 put-guess-spec =
-    tie.close
-    (tie.spec (λ c. search needs) (λ c κs. search needs) (λ c κs. search needs) (λ c κs. search needs) (λ c. search needs) (λ c. search (guess-put, needs)))
+    tie.close (tie.spec (λ c. search needs) (λ c κs. search needs) (λ c κs. search needs) (λ c κs. search needs) (λ c. search needs)
+    (λ c. search (guess-put, needs)))

@@ -6,14 +6,6 @@ use Rattle.base.proofs.PickLaws.{tests}
 
 pub load-spec : {M : Type 1} → statement M
 load-spec =
-    tie.close
-    (tie.spec
-    (λ c κs. search (loading, tests, needs))
-    (λ c. search (loading, tests, needs))
-    (λ c κs. search (loading, tests, needs))
-    (λ c κs. search (loading, tests, needs))
-    (λ c. search (loading, tests, needs))
-    (λ c. search (loading, tests, needs))
-    (λ c. search (loading, tests, needs))
-    (λ c. search (loading, tests, needs))
-    (λ c. search (loading, tests, needs)))
+    tie.close (tie.spec (λ c κs. search (loading, tests, needs)) (λ c. search (loading, tests, needs)) (λ c κs. search (loading, tests, needs))
+    (λ c κs. search (loading, tests, needs)) (λ c. search (loading, tests, needs)) (λ c. search (loading, tests, needs))
+    (λ c. search (loading, tests, needs)) (λ c. search (loading, tests, needs)) (λ c. search (loading, tests, needs)))

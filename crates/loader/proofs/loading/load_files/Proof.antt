@@ -5,24 +5,8 @@ use Rattle.loader.proofs.loading.load_files.Tie as tie
 
 pub load-files-spec : {M : Type 1} → statement M
 load-files-spec =
-    tie.close
-    (tie.spec
-    (λ c. search (file-laws, needs))
-    (λ c κs. search (file-laws, needs))
-    (λ c. search (file-laws, needs))
-    (λ c. search (file-laws, needs))
-    (λ c. search (file-laws, needs))
-    (λ c. search (file-laws, needs))
-    (λ c. search (file-laws, needs))
-    (λ c κs. search (file-laws, needs))
-    (λ c. search (file-laws, needs))
-    (λ c. search (file-laws, needs))
-    (λ c. search (file-laws, needs))
-    (λ c. search (file-laws, needs))
-    (λ c κs. search (file-laws, needs))
-    (λ c. search (file-laws, needs))
-    (λ c. search (file-laws, needs))
-    (λ c. search (file-laws, needs))
-    (λ c. search (file-laws, needs))
-    (λ c. search (file-laws, needs))
-    (λ c. search (file-laws, needs)))
+    tie.close (tie.spec (λ c. search (file-laws, needs)) (λ c κs. search (file-laws, needs)) (λ c. search (file-laws, needs))
+    (λ c. search (file-laws, needs)) (λ c. search (file-laws, needs)) (λ c. search (file-laws, needs)) (λ c. search (file-laws, needs))
+    (λ c κs. search (file-laws, needs)) (λ c. search (file-laws, needs)) (λ c. search (file-laws, needs)) (λ c. search (file-laws, needs))
+    (λ c. search (file-laws, needs)) (λ c κs. search (file-laws, needs)) (λ c. search (file-laws, needs)) (λ c. search (file-laws, needs))
+    (λ c. search (file-laws, needs)) (λ c. search (file-laws, needs)) (λ c. search (file-laws, needs)) (λ c. search (file-laws, needs)))

@@ -5,21 +5,8 @@ use Rattle.loader.proofs.loading.load_guesses.Tie as tie
 
 pub load-guesses-spec : {M : Type 1} → statement M
 load-guesses-spec =
-    tie.close
-    (tie.spec
-    (λ c κs. search (load-laws, needs))
-    (λ c. search (load-laws, needs))
-    (λ c. search (load-laws, needs))
-    (λ c. search (load-laws, needs))
-    (λ c. search (load-laws, needs))
-    (λ c κs. search (load-laws, needs))
-    (λ c. search (load-laws, needs))
-    (λ c. search (load-laws, needs))
-    (λ c. search (load-laws, needs))
-    (λ c. search (load-laws, needs))
-    (λ c. search (load-laws, needs))
-    (λ c. search (load-laws, needs))
-    (λ c. search (load-laws, needs))
-    (λ c. search (load-laws, needs))
-    (λ c. search (load-laws, needs))
+    tie.close (tie.spec (λ c κs. search (load-laws, needs)) (λ c. search (load-laws, needs)) (λ c. search (load-laws, needs))
+    (λ c. search (load-laws, needs)) (λ c. search (load-laws, needs)) (λ c κs. search (load-laws, needs)) (λ c. search (load-laws, needs))
+    (λ c. search (load-laws, needs)) (λ c. search (load-laws, needs)) (λ c. search (load-laws, needs)) (λ c. search (load-laws, needs))
+    (λ c. search (load-laws, needs)) (λ c. search (load-laws, needs)) (λ c. search (load-laws, needs)) (λ c. search (load-laws, needs))
     (λ c. search (load-laws, needs)))

@@ -5,15 +5,6 @@ use Rattle.loader.proofs.loading.load_names.Tie as tie
 
 pub load-names-spec : {M : Type 1} → statement M
 load-names-spec =
-    tie.close
-    (tie.spec
-    (λ c κs. search (names-laws, needs))
-    (λ c. search (names-laws, needs))
-    (λ c. search (names-laws, needs))
-    (λ c. search (names-laws, needs))
-    (λ c. search (names-laws, needs))
-    (λ c κs. search (names-laws, needs))
-    (λ c. search (names-laws, needs))
-    (λ c. search (names-laws, needs))
-    (λ c. search (names-laws, needs))
-    (λ c. search (names-laws, needs)))
+    tie.close (tie.spec (λ c κs. search (names-laws, needs)) (λ c. search (names-laws, needs)) (λ c. search (names-laws, needs))
+    (λ c. search (names-laws, needs)) (λ c. search (names-laws, needs)) (λ c κs. search (names-laws, needs)) (λ c. search (names-laws, needs))
+    (λ c. search (names-laws, needs)) (λ c. search (names-laws, needs)) (λ c. search (names-laws, needs)))

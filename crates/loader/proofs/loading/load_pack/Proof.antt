@@ -5,15 +5,5 @@ use Rattle.loader.proofs.loading.load_pack.Tie as tie
 
 pub load-pack-spec : {M : Type 1} → statement M
 load-pack-spec =
-    tie.close
-    (tie.spec
-    (λ c. search needs)
-    (λ c κs. search needs)
-    (λ c. search needs)
-    (λ c κs. search needs)
-    (λ c. search (answer-laws, needs))
-    (λ c κs. search needs)
-    (λ c. search needs)
-    (λ c. search needs)
-    (λ c. search (answer-laws, needs))
-    (λ c. search (answer-laws, needs)))
+    tie.close (tie.spec (λ c. search needs) (λ c κs. search needs) (λ c. search needs) (λ c κs. search needs) (λ c. search (answer-laws, needs))
+    (λ c κs. search needs) (λ c. search needs) (λ c. search needs) (λ c. search (answer-laws, needs)) (λ c. search (answer-laws, needs)))

@@ -5,12 +5,5 @@ use Rattle.loader.proofs.loading.write_front.Tie as tie
 
 pub write-front-spec : {M : Type 1} → statement M
 write-front-spec =
-    tie.close
-    (tie.spec
-    (λ c. search needs)
-    (λ c κs. search needs)
-    (λ c κs. search needs)
-    (λ c. search needs)
-    (λ c κs. search needs)
-    (λ c. search needs)
-    (λ c. search (front-put, needs)))
+    tie.close (tie.spec (λ c. search needs) (λ c κs. search needs) (λ c κs. search needs) (λ c. search needs) (λ c κs. search needs)
+    (λ c. search needs) (λ c. search (front-put, needs)))

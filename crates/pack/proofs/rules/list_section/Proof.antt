@@ -5,12 +5,5 @@ use Rattle.pack.proofs.rules.list_section.Tie as tie
 
 pub list-section-spec : {M : Type 1} → statement M
 list-section-spec =
-    tie.close
-    (tie.spec
-    (λ c κs. search (list-laws, needs))
-    (λ c. search (list-laws, needs))
-    (λ c. search (list-laws, needs))
-    (λ c κs. search (list-laws, needs))
-    (λ c. search (list-laws, needs))
-    (λ c. search (list-laws, needs))
-    (λ c. search (list-laws, needs)))
+    tie.close (tie.spec (λ c κs. search (list-laws, needs)) (λ c. search (list-laws, needs)) (λ c. search (list-laws, needs))
+    (λ c κs. search (list-laws, needs)) (λ c. search (list-laws, needs)) (λ c. search (list-laws, needs)) (λ c. search (list-laws, needs)))

@@ -11,16 +11,6 @@ abbrev μ-loop : tie.MeasureT-loop
 
 pub rules-from-spec : {M : Type 1} → statement M
 rules-from-spec =
-    tie.close
-    (tie.spec
-    Inv-loop
-    μ-loop
-    (λ c. search (listing-laws, needs))
-    (λ c κs. search (listing-laws, needs))
-    (λ c. search (listing-laws, needs))
-    (λ c. search (listing-laws, needs))
-    (λ c. search (listing-laws, needs))
-    (λ c. search (listing-laws, needs))
-    (λ c. search (listing-laws, needs))
-    (λ c. search (listing-laws, needs))
-    (λ c. search (listing-laws, needs)))
+    tie.close (tie.spec Inv-loop μ-loop (λ c. search (listing-laws, needs)) (λ c κs. search (listing-laws, needs)) (λ c. search (listing-laws, needs))
+    (λ c. search (listing-laws, needs)) (λ c. search (listing-laws, needs)) (λ c. search (listing-laws, needs)) (λ c. search (listing-laws, needs))
+    (λ c. search (listing-laws, needs)) (λ c. search (listing-laws, needs)))

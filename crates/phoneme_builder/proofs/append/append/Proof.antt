@@ -15,16 +15,6 @@ lengthen-requires c κs = record { text = appending-in (c .before .before .befor
 
 pub append-spec : {M : Type 1} → statement M
 append-spec =
-    tie.close
-    (tie.spec
-    Inv-loop
-    μ-loop
-    (λ c. search (appending-laws, needs))
-    (λ c. search needs)
-    lengthen-requires
-    (λ c. search needs)
-    (λ c. search needs)
-    (λ c. search (appending-laws, needs))
-    (λ c. search needs)
-    (λ c. search (appending-laws, needs))
+    tie.close (tie.spec Inv-loop μ-loop (λ c. search (appending-laws, needs)) (λ c. search needs) lengthen-requires (λ c. search needs)
+    (λ c. search needs) (λ c. search (appending-laws, needs)) (λ c. search needs) (λ c. search (appending-laws, needs))
     (λ c. search (appending-laws, needs)))

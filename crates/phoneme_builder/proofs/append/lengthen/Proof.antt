@@ -6,14 +6,5 @@ use Rattle.phoneme_builder.proofs.append.lengthen.Tie as tie
 
 pub lengthen-spec : {M : Type 1} → statement M
 lengthen-spec =
-    tie.close
-    (tie.spec
-    (λ c κs. search needs)
-    (λ c. search needs)
-    (λ c. search (lengthen-laws, needs))
-    (λ c κs. search needs)
-    (λ c. search needs)
-    (λ c. search needs)
-    (λ c. search needs)
-    (λ c κs. search (lengthen-laws, code-in, needs))
-    (λ c. search (lengthen-laws, needs)))
+    tie.close (tie.spec (λ c κs. search needs) (λ c. search needs) (λ c. search (lengthen-laws, needs)) (λ c κs. search needs) (λ c. search needs)
+    (λ c. search needs) (λ c. search needs) (λ c κs. search (lengthen-laws, code-in, needs)) (λ c. search (lengthen-laws, needs)))

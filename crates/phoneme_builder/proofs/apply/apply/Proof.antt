@@ -16,17 +16,6 @@ apply-text-requires c κs = record { text = applying-in (c .before .before .befo
 
 pub apply-spec : {M : Type 1} → statement M
 apply-spec =
-    tie.close
-    (tie.spec
-    Inv-loop
-    μ-loop
-    (λ c. search (applying-laws, needs))
-    (λ c. search (applying-laws, needs))
-    (λ c. search needs)
-    apply-text-requires
-    (λ c. search needs)
-    (λ c. search needs)
-    (λ c. search (applying-laws, needs))
-    (λ c. search needs)
-    (λ c. search (applying-laws, needs))
-    (λ c. search (applying-laws, needs)))
+    tie.close (tie.spec Inv-loop μ-loop (λ c. search (applying-laws, needs)) (λ c. search (applying-laws, needs)) (λ c. search needs)
+    apply-text-requires (λ c. search needs) (λ c. search needs) (λ c. search (applying-laws, needs)) (λ c. search needs)
+    (λ c. search (applying-laws, needs)) (λ c. search (applying-laws, needs)))

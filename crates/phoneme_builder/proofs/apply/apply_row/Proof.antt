@@ -14,25 +14,8 @@ abbrev μ-loop : tie.MeasureT-loop
 
 pub apply-row-spec : {M : Type 1} → statement M
 apply-row-spec =
-    tie.close
-    (tie.spec
-    Inv-loop
-    μ-loop
-    (λ c. search (offering-laws, needs))
-    (λ c. search (offering-laws, needs))
-    (λ c. search needs)
-    (λ c. search (offering-laws, needs))
-    (λ c κs. search needs)
-    (λ c κs. search needs)
-    (λ c. search needs)
-    (λ c. search (offering-laws, needs))
-    (λ c. search (offering-laws, needs))
-    (λ c. search (offering-laws, needs))
-    (λ c κs. search needs)
-    (λ c κs. search (offering-laws, needs))
-    (λ c. search needs)
-    (λ c. search needs)
-    (λ c. search (offering-laws, needs))
-    (λ c. search needs)
-    (λ c. search (offering-laws, needs))
+    tie.close (tie.spec Inv-loop μ-loop (λ c. search (offering-laws, needs)) (λ c. search (offering-laws, needs)) (λ c. search needs)
+    (λ c. search (offering-laws, needs)) (λ c κs. search needs) (λ c κs. search needs) (λ c. search needs) (λ c. search (offering-laws, needs))
+    (λ c. search (offering-laws, needs)) (λ c. search (offering-laws, needs)) (λ c κs. search needs) (λ c κs. search (offering-laws, needs))
+    (λ c. search needs) (λ c. search needs) (λ c. search (offering-laws, needs)) (λ c. search needs) (λ c. search (offering-laws, needs))
     (λ c. search (offering-laws, needs)))

@@ -14,19 +14,6 @@ abbrev μ-loop : tie.MeasureT-loop
 
 pub final-pass-spec : {M : Type 1} → statement M
 final-pass-spec =
-    tie.close
-    (tie.spec
-    Inv-loop
-    μ-loop
-    (λ c. search (finishing-laws, needs))
-    (λ c κs. search (finishing-laws, needs))
-    (λ c. search needs)
-    (λ c κs. search needs)
-    (λ c. search needs)
-    (λ c. search needs)
-    (λ c. search (finishing-laws, needs))
-    (λ c. search needs)
-    (λ c. search (finishing-laws, needs))
-    (λ c. search needs)
-    (λ c. search (finishing-laws, needs))
-    (λ c. search (finishing-laws, needs)))
+    tie.close (tie.spec Inv-loop μ-loop (λ c. search (finishing-laws, needs)) (λ c κs. search (finishing-laws, needs)) (λ c. search needs)
+    (λ c κs. search needs) (λ c. search needs) (λ c. search needs) (λ c. search (finishing-laws, needs)) (λ c. search needs)
+    (λ c. search (finishing-laws, needs)) (λ c. search needs) (λ c. search (finishing-laws, needs)) (λ c. search (finishing-laws, needs)))

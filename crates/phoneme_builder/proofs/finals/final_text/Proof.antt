@@ -20,15 +20,5 @@ returns-3 c = final-long _ _ (c .before .before .before .before .before .before 
 
 pub final-text-spec : {M : Type 1} → statement M
 final-text-spec =
-    tie.close
-    (tie.spec
-    (λ c κs. search needs)
-    (λ c. search needs)
-    langs-at-requires
-    unite-requires
-    (λ c. search needs)
-    (λ c. search needs)
-    (λ c. search needs)
-    returns
-    returns-2
-    returns-3)
+    tie.close (tie.spec (λ c κs. search needs) (λ c. search needs) langs-at-requires unite-requires (λ c. search needs) (λ c. search needs)
+    (λ c. search needs) returns returns-2 returns-3)

@@ -9,16 +9,5 @@ returns-2 c = letter-long _ _ _ _ _ (c .before .before .before .before .before .
 
 pub pass-unmatched-spec : {M : Type 1} → statement M
 pass-unmatched-spec =
-    tie.close
-    (tie.spec
-    (λ c κs. search needs)
-    (λ c. search needs)
-    (λ c. search needs)
-    (λ c. search needs)
-    (λ c. search needs)
-    (λ c κs. search needs)
-    (λ c. search needs)
-    (λ c. search needs)
-    (λ c. search (letter-laws, needs))
-    returns-2
-    (λ c. search (letter-laws, needs)))
+    tie.close (tie.spec (λ c κs. search needs) (λ c. search needs) (λ c. search needs) (λ c. search needs) (λ c. search needs) (λ c κs. search needs)
+    (λ c. search needs) (λ c. search needs) (λ c. search (letter-laws, needs)) returns-2 (λ c. search (letter-laws, needs)))

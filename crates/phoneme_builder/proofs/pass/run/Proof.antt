@@ -26,21 +26,6 @@ past-requires-2 c κs = skip-within (c .before .before .before .before .before .
 
 pub run-spec : {M : Type 1} → statement M
 run-spec =
-    tie.close
-    (tie.spec
-    Inv-loop
-    μ-loop
-    (λ c. search (running-laws, needs))
-    (λ c κs. search (running-laws, needs))
-    (λ c. search needs)
-    past-requires
-    (λ c κs. search needs)
-    (λ c. search (running-laws, needs))
-    loop-again
-    (λ c. search needs)
-    past-requires-2
-    (λ c. search (running-laws, needs))
-    (λ c. search (running-laws, needs))
-    (λ c. search needs)
-    (λ c. search (running-laws, needs))
-    (λ c. search (running-laws, needs)))
+    tie.close (tie.spec Inv-loop μ-loop (λ c. search (running-laws, needs)) (λ c κs. search (running-laws, needs)) (λ c. search needs) past-requires
+    (λ c κs. search needs) (λ c. search (running-laws, needs)) loop-again (λ c. search needs) past-requires-2 (λ c. search (running-laws, needs))
+    (λ c. search (running-laws, needs)) (λ c. search needs) (λ c. search (running-laws, needs)) (λ c. search (running-laws, needs)))

@@ -5,19 +5,6 @@ use Rattle.phoneme_builder.proofs.pass.turn.Tie as tie
 
 pub turn-spec : {M : Type 1} → statement M
 turn-spec =
-    tie.close
-    (tie.spec
-    (λ c κs. search needs)
-    (λ c. search needs)
-    (λ c. search (turn-laws, needs))
-    (λ c. search (turn-laws, needs))
-    (λ c. search (turn-laws, needs))
-    (λ c κs. search needs)
-    (λ c κs. search (turn-laws, needs))
-    (λ c. search needs)
-    (λ c. search needs)
-    (λ c. search needs)
-    (λ c κs. search needs)
-    (λ c. search (turn-laws, needs))
-    (λ c. search (turn-laws, needs))
-    (λ c. search (turn-laws, needs)))
+    tie.close (tie.spec (λ c κs. search needs) (λ c. search needs) (λ c. search (turn-laws, needs)) (λ c. search (turn-laws, needs))
+    (λ c. search (turn-laws, needs)) (λ c κs. search needs) (λ c κs. search (turn-laws, needs)) (λ c. search needs) (λ c. search needs)
+    (λ c. search needs) (λ c κs. search needs) (λ c. search (turn-laws, needs)) (λ c. search (turn-laws, needs)) (λ c. search (turn-laws, needs)))

@@ -7,10 +7,4 @@ packed-requires : tie.Need-packed-requires
 packed-requires c κs = (search (slot-small, needs), search needs, search needs)
 
 pub insert-text-spec : {M : Type 1} → statement M
-insert-text-spec =
-    tie.close
-    (tie.spec
-    packed-requires
-    (λ c κs. search needs)
-    (λ c. search needs)
-    (λ c. search (inserted, needs)))
+insert-text-spec = tie.close (tie.spec packed-requires (λ c κs. search needs) (λ c. search needs) (λ c. search (inserted, needs)))

@@ -8,11 +8,5 @@ packed-requires c κs = (search (merged-laws, needs), search needs, search needs
 
 pub merged-spec : {M : Type 1} → statement M
 merged-spec =
-    tie.close
-    (tie.spec
-    (λ c κs. search needs)
-    (λ c κs. search needs)
-    (λ c κs. search needs)
-    (λ c κs. search needs)
-    packed-requires
+    tie.close (tie.spec (λ c κs. search needs) (λ c κs. search needs) (λ c κs. search needs) (λ c κs. search needs) packed-requires
     (λ c. search (merged-laws, needs)))

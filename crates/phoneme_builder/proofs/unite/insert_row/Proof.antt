@@ -5,11 +5,5 @@ use Rattle.phoneme_builder.proofs.unite.insert_row.Tie as tie
 
 pub insert-row-spec : {M : Type 1} → statement M
 insert-row-spec =
-    tie.close
-    (tie.spec
-    (λ c. search needs)
-    (λ c κs. search needs)
-    (λ c κs. search needs)
-    (λ c. search needs)
-    (λ c. search needs)
+    tie.close (tie.spec (λ c. search needs) (λ c κs. search needs) (λ c κs. search needs) (λ c. search needs) (λ c. search needs)
     (λ c. search (row-inserted, needs)))

@@ -18,16 +18,6 @@ unite-text-requires c κs =
 
 pub unite-spec : {M : Type 1} → statement M
 unite-spec =
-    tie.close
-    (tie.spec
-    Inv-loop
-    μ-loop
-    (λ c. search (uniting-laws, needs))
-    (λ c. search needs)
-    unite-text-requires
-    (λ c. search needs)
-    (λ c. search needs)
-    (λ c. search (uniting-laws, needs))
-    (λ c. search needs)
-    (λ c. search (uniting-laws, needs))
+    tie.close (tie.spec Inv-loop μ-loop (λ c. search (uniting-laws, needs)) (λ c. search needs) unite-text-requires (λ c. search needs)
+    (λ c. search needs) (λ c. search (uniting-laws, needs)) (λ c. search needs) (λ c. search (uniting-laws, needs))
     (λ c. search (uniting-laws, needs)))

@@ -6,12 +6,5 @@ use Rattle.phoneme_builder.proofs.unite.unite_text.Tie as tie
 
 pub unite-text-spec : {M : Type 1} → statement M
 unite-text-spec =
-    tie.close
-    (tie.spec
-    (λ c κs. search needs)
-    (λ c κs. search needs)
-    (λ c. search needs)
-    (λ c. search needs)
-    (λ c. search needs)
-    (λ c κs. search (copied-fits, code-in, needs))
-    (λ c. search (united-text, copied-entry, needs)))
+    tie.close (tie.spec (λ c κs. search needs) (λ c κs. search needs) (λ c. search needs) (λ c. search needs) (λ c. search needs)
+    (λ c κs. search (copied-fits, code-in, needs)) (λ c. search (united-text, copied-entry, needs)))

@@ -5,11 +5,5 @@ use Rattle.phoneme_builder.proofs.unite.unite_to.Tie as tie
 
 pub unite-to-spec : {M : Type 1} → statement M
 unite-to-spec =
-    tie.close
-    (tie.spec
-    (λ c. search needs)
-    (λ c. search needs)
-    (λ c. search needs)
-    (λ c. search needs)
-    (λ c κs. search needs)
+    tie.close (tie.spec (λ c. search needs) (λ c. search needs) (λ c. search needs) (λ c. search needs) (λ c κs. search needs)
     (λ c. search (united-to, needs)))

@@ -21,15 +21,5 @@ returns-3 c = first-many (c .before .before .final-pass .ensures) _ _ (c .enum-t
 
 pub final-passes-spec : {M : Type 1} → statement M
 final-passes-spec =
-    tie.close
-    (tie.spec
-    (λ c. search needs)
-    final-pass-requires
-    (λ c. search needs)
-    final-pass-requires-2
-    (λ c κs. search needs)
-    (λ c. search needs)
-    (λ c. search needs)
-    returns
-    returns-2
-    returns-3)
+    tie.close (tie.spec (λ c. search needs) final-pass-requires (λ c. search needs) final-pass-requires-2 (λ c κs. search needs) (λ c. search needs)
+    (λ c. search needs) returns returns-2 returns-3)

@@ -14,5 +14,5 @@ returns-3 c = search needs
 
 pub raised-spec : {M : Type 1} → statement M
 raised-spec =
-    tie.close
-    (tie.spec (λ c. search needs) (λ c κs. search needs) (λ c. search needs) (λ c. search needs) (λ c. search (raised-into, needs)) returns-2 returns-3)
+    tie.close (tie.spec (λ c. search needs) (λ c κs. search needs) (λ c. search needs) (λ c. search needs) (λ c. search (raised-into, needs))
+    returns-2 returns-3)

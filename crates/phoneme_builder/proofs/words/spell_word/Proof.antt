@@ -17,13 +17,5 @@ returns-2 c = main-long (main-run _ _ _ _ _ _ _ _ _ _ (c .before .before .before
 
 pub spell-word-spec : {M : Type 1} → statement M
 spell-word-spec =
-    tie.close
-    (tie.spec
-    (λ c κs. search needs)
-    (λ c κs. search needs)
-    (λ c. search needs)
-    final-passes-requires
-    (λ c κs. search needs)
-    (λ c. search needs)
-    returns
-    returns-2)
+    tie.close (tie.spec (λ c κs. search needs) (λ c κs. search needs) (λ c. search needs) final-passes-requires (λ c κs. search needs)
+    (λ c. search needs) returns returns-2)

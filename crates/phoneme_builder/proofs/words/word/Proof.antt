@@ -17,16 +17,5 @@ returns-3 c = word-many (word-capped _ _ _ _ (c .before .before .before .before 
 
 pub word-spec : {M : Type 1} → statement M
 word-spec =
-    tie.close
-    (tie.spec
-    (λ c κs. search needs)
-    (λ c κs. search needs)
-    (λ c κs. search needs)
-    (λ c. search needs)
-    give-requires
-    (λ c. search needs)
-    (λ c. search needs)
-    (λ c. search needs)
-    returns
-    returns-2
-    returns-3)
+    tie.close (tie.spec (λ c κs. search needs) (λ c κs. search needs) (λ c κs. search needs) (λ c. search needs) give-requires (λ c. search needs)
+    (λ c. search needs) (λ c. search needs) returns returns-2 returns-3)

@@ -5,15 +5,6 @@ use Rattle.rule_index.proofs.indexing.index.Tie as tie
 
 pub index-spec : {M : Type 1} → statement M
 index-spec =
-    tie.close
-    (tie.spec
-    (λ c. search (survey-laws, needs))
-    (λ c κs. search (survey-laws, needs))
-    (λ c. search (survey-laws, needs))
-    (λ c. search (survey-laws, needs))
-    (λ c. search (survey-laws, needs))
-    (λ c. search (survey-laws, needs))
-    (λ c κs. search (survey-laws, needs))
-    (λ c. search (survey-laws, needs))
-    (λ c. search (survey-laws, needs))
-    (λ c. search (survey-laws, needs)))
+    tie.close (tie.spec (λ c. search (survey-laws, needs)) (λ c κs. search (survey-laws, needs)) (λ c. search (survey-laws, needs))
+    (λ c. search (survey-laws, needs)) (λ c. search (survey-laws, needs)) (λ c. search (survey-laws, needs)) (λ c κs. search (survey-laws, needs))
+    (λ c. search (survey-laws, needs)) (λ c. search (survey-laws, needs)) (λ c. search (survey-laws, needs)))

@@ -13,22 +13,8 @@ abbrev μ-loop : tie.MeasureT-loop
 
 pub index-list-spec : {M : Type 1} → statement M
 index-list-spec =
-    tie.close
-    (tie.spec
-    Inv-loop
-    μ-loop
-    (λ c κs. search (index-laws, needs))
-    (λ c. omega (arith, list-within (c .before .before .before .pre)))
-    (λ c. search (index-laws, needs))
-    (λ c κs. search (index-laws, needs))
-    (λ c. search (index-laws, needs))
-    (λ c κs. search (index-laws, needs))
-    (λ c κs. search (index-laws, needs))
-    (λ c. search (index-laws, needs))
-    (λ c. search (index-laws, needs))
-    (λ c. search (index-laws, needs))
-    (λ c. search (index-laws, needs))
-    (λ c. search (index-laws, needs))
-    (λ c. search (index-laws, needs))
-    (λ c. search (index-laws, needs))
+    tie.close (tie.spec Inv-loop μ-loop (λ c κs. search (index-laws, needs)) (λ c. omega (arith, list-within (c .before .before .before .pre)))
+    (λ c. search (index-laws, needs)) (λ c κs. search (index-laws, needs)) (λ c. search (index-laws, needs)) (λ c κs. search (index-laws, needs))
+    (λ c κs. search (index-laws, needs)) (λ c. search (index-laws, needs)) (λ c. search (index-laws, needs)) (λ c. search (index-laws, needs))
+    (λ c. search (index-laws, needs)) (λ c. search (index-laws, needs)) (λ c. search (index-laws, needs)) (λ c. search (index-laws, needs))
     (λ c. search (index-laws, needs)))

@@ -12,17 +12,6 @@ abbrev μ-loop : tie.MeasureT-loop
 
 pub index-lists-spec : {M : Type 1} → statement M
 index-lists-spec =
-    tie.close
-    (tie.spec
-    Inv-loop
-    μ-loop
-    (λ c. search (listing-laws, needs))
-    (λ c. search (listing-laws, needs))
-    (λ c. search (listing-laws, needs))
-    (λ c. search (listing-laws, needs))
-    (λ c. search (listing-laws, needs))
-    (λ c κs. search (listing-laws, needs))
-    (λ c. search (listing-laws, needs))
-    (λ c. search (listing-laws, needs))
-    (λ c. search (listing-laws, needs))
-    (λ c. search (listing-laws, needs)))
+    tie.close (tie.spec Inv-loop μ-loop (λ c. search (listing-laws, needs)) (λ c. search (listing-laws, needs)) (λ c. search (listing-laws, needs))
+    (λ c. search (listing-laws, needs)) (λ c. search (listing-laws, needs)) (λ c κs. search (listing-laws, needs)) (λ c. search (listing-laws, needs))
+    (λ c. search (listing-laws, needs)) (λ c. search (listing-laws, needs)) (λ c. search (listing-laws, needs)))

@@ -14,27 +14,9 @@ abbrev μ-loop : tie.MeasureT-loop
 
 pub first-between-spec : {M : Type 1} → statement M
 first-between-spec =
-    tie.close
-    (tie.spec
-    Inv-loop
-    μ-loop
-    (λ c. search (finding-laws, needs))
-    (λ c κs. search (finding-laws, needs))
-    (λ c. search (finding-laws, needs))
-    (λ c. search (finding-laws, needs))
-    (λ c. search (finding-laws, needs))
-    (λ c. search (finding-laws, needs))
-    (λ c. search (finding-laws, needs))
-    (λ c. search (finding-laws, needs))
-    (λ c. search (finding-laws, needs))
-    (λ c. search (finding-laws, needs))
-    (λ c. search (finding-laws, needs))
-    (λ c. search (finding-laws, needs))
-    (λ c κs. search (finding-laws, needs))
-    (λ c κs. search (finding-laws, needs))
-    (λ c. search (finding-laws, needs))
-    (λ c. search (finding-laws, needs))
-    (λ c. search (finding-laws, needs))
-    (λ c. search (finding-laws, needs))
-    (λ c. search (finding-laws, needs))
-    (λ c. search (finding-laws, needs)))
+    tie.close (tie.spec Inv-loop μ-loop (λ c. search (finding-laws, needs)) (λ c κs. search (finding-laws, needs)) (λ c. search (finding-laws, needs))
+    (λ c. search (finding-laws, needs)) (λ c. search (finding-laws, needs)) (λ c. search (finding-laws, needs)) (λ c. search (finding-laws, needs))
+    (λ c. search (finding-laws, needs)) (λ c. search (finding-laws, needs)) (λ c. search (finding-laws, needs)) (λ c. search (finding-laws, needs))
+    (λ c. search (finding-laws, needs)) (λ c κs. search (finding-laws, needs)) (λ c κs. search (finding-laws, needs))
+    (λ c. search (finding-laws, needs)) (λ c. search (finding-laws, needs)) (λ c. search (finding-laws, needs)) (λ c. search (finding-laws, needs))
+    (λ c. search (finding-laws, needs)) (λ c. search (finding-laws, needs)))

@@ -5,20 +5,6 @@ use Rattle.rule_index.proofs.matching.first_match.Tie as tie
 
 pub first-match-spec : {M : Type 1} → statement M
 first-match-spec =
-    tie.close
-    (tie.spec
-    (λ c. search (look-laws, needs))
-    (λ c. search (look-laws, needs))
-    (λ c. search needs)
-    (λ c κs. search needs)
-    (λ c. search needs)
-    (λ c. search needs)
-    (λ c. search needs)
-    (λ c. search needs)
-    (λ c. search needs)
-    (λ c. search needs)
-    (λ c. search needs)
-    (λ c. search needs)
-    (λ c. search needs)
-    (λ c κs. search needs)
-    (λ c. search (look-laws, needs)))
+    tie.close (tie.spec (λ c. search (look-laws, needs)) (λ c. search (look-laws, needs)) (λ c. search needs) (λ c κs. search needs)
+    (λ c. search needs) (λ c. search needs) (λ c. search needs) (λ c. search needs) (λ c. search needs) (λ c. search needs) (λ c. search needs)
+    (λ c. search needs) (λ c. search needs) (λ c κs. search needs) (λ c. search (look-laws, needs)))

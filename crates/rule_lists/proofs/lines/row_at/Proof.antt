@@ -5,20 +5,6 @@ use Rattle.rule_lists.proofs.lines.row_at.Tie as tie
 
 pub row-at-spec : {M : Type 1} → statement M
 row-at-spec =
-    tie.close
-    (tie.spec
-    (λ c κs. search needs)
-    (λ c. search needs)
-    (λ c. search needs)
-    (λ c. search needs)
-    (λ c κs. search needs)
-    (λ c. search needs)
-    (λ c. search needs)
-    (λ c. search needs)
-    (λ c. search needs)
-    (λ c. search row-laws)
-    (λ c. search row-laws)
-    (λ c. search row-laws)
-    (λ c. search row-laws)
-    (λ c. search row-laws)
-    (λ c. search row-laws))
+    tie.close (tie.spec (λ c κs. search needs) (λ c. search needs) (λ c. search needs) (λ c. search needs) (λ c κs. search needs) (λ c. search needs)
+    (λ c. search needs) (λ c. search needs) (λ c. search needs) (λ c. search row-laws) (λ c. search row-laws) (λ c. search row-laws)
+    (λ c. search row-laws) (λ c. search row-laws) (λ c. search row-laws))

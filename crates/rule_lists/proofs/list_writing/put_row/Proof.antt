@@ -5,21 +5,7 @@ use Rattle.rule_lists.proofs.list_writing.put_row.Tie as tie
 
 pub put-row-spec : {M : Type 1} → statement M
 put-row-spec =
-    tie.close
-    (tie.spec
-    (λ c κs. search needs)
-    (λ c. search needs)
-    (λ c. search needs)
-    (λ c. search needs)
-    (λ c κs. search needs)
-    (λ c. search needs)
-    (λ c. search needs)
-    (λ c. search needs)
-    (λ c. search needs)
-    (λ c. search (writing-laws, needs))
-    (λ c. search needs)
-    (λ c. search (writing-laws, needs))
-    (λ c. search (writing-laws, needs))
-    (λ c. search (writing-laws, needs))
-    (λ c. search (writing-laws, needs))
+    tie.close (tie.spec (λ c κs. search needs) (λ c. search needs) (λ c. search needs) (λ c. search needs) (λ c κs. search needs) (λ c. search needs)
+    (λ c. search needs) (λ c. search needs) (λ c. search needs) (λ c. search (writing-laws, needs)) (λ c. search needs)
+    (λ c. search (writing-laws, needs)) (λ c. search (writing-laws, needs)) (λ c. search (writing-laws, needs)) (λ c. search (writing-laws, needs))
     (λ c. search (writing-laws, needs)))

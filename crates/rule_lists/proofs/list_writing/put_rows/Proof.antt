@@ -14,18 +14,6 @@ abbrev μ-loop : tie.MeasureT-loop
 
 pub put-rows-spec : {M : Type 1} → statement M
 put-rows-spec =
-    tie.close
-    (tie.spec
-    Inv-loop
-    μ-loop
-    (λ c. search (rows-laws, needs))
-    (λ c κs. search (rows-laws, needs))
-    (λ c. search (rows-laws, needs))
-    (λ c. search (rows-laws, needs))
-    (λ c. search (rows-laws, needs))
-    (λ c κs. search (rows-laws, needs))
-    (λ c. search (rows-laws, needs))
-    (λ c. search (rows-laws, needs))
-    (λ c. search (rows-laws, needs))
-    (λ c. search (rows-laws, needs))
-    (λ c. search (rows-laws, needs)))
+    tie.close (tie.spec Inv-loop μ-loop (λ c. search (rows-laws, needs)) (λ c κs. search (rows-laws, needs)) (λ c. search (rows-laws, needs))
+    (λ c. search (rows-laws, needs)) (λ c. search (rows-laws, needs)) (λ c κs. search (rows-laws, needs)) (λ c. search (rows-laws, needs))
+    (λ c. search (rows-laws, needs)) (λ c. search (rows-laws, needs)) (λ c. search (rows-laws, needs)) (λ c. search (rows-laws, needs)))

@@ -23,28 +23,9 @@ loop-again c = (search needs, search needs, search needs, search (all-laws, need
 
 pub write-all-spec : {M : Type 1} → statement M
 write-all-spec =
-    tie.close
-    (tie.spec
-    Inv-loop
-    μ-loop
-    (λ c. search (all-laws, needs))
-    (λ c κs. search (all-laws, needs))
-    (λ c. search (all-laws, needs))
-    (λ c. search (all-laws, needs))
-    (λ c. search (all-laws, needs))
-    (λ c. search (all-laws, needs))
-    write-three-requires
-    (λ c. search (all-laws, needs))
-    (λ c. search (all-laws, needs))
-    loop-again
-    (λ c. search (all-laws, needs))
-    (λ c. search (all-laws, needs))
-    (λ c. search (all-laws, needs))
-    (λ c. search (all-laws, needs))
-    (λ c. search (all-laws, needs))
-    (λ c. search (all-laws, needs))
-    (λ c κs. search (all-laws, needs))
-    (λ c. search (all-laws, needs))
-    (λ c. search (all-laws, needs))
-    (λ c. search (all-laws, needs))
+    tie.close (tie.spec Inv-loop μ-loop (λ c. search (all-laws, needs)) (λ c κs. search (all-laws, needs)) (λ c. search (all-laws, needs))
+    (λ c. search (all-laws, needs)) (λ c. search (all-laws, needs)) (λ c. search (all-laws, needs)) write-three-requires
+    (λ c. search (all-laws, needs)) (λ c. search (all-laws, needs)) loop-again (λ c. search (all-laws, needs)) (λ c. search (all-laws, needs))
+    (λ c. search (all-laws, needs)) (λ c. search (all-laws, needs)) (λ c. search (all-laws, needs)) (λ c. search (all-laws, needs))
+    (λ c κs. search (all-laws, needs)) (λ c. search (all-laws, needs)) (λ c. search (all-laws, needs)) (λ c. search (all-laws, needs))
     (λ c. search (all-laws, needs)))

@@ -18,21 +18,6 @@ put-rows-requires c κs = (
 
 pub write-list-spec : {M : Type 1} → statement M
 write-list-spec =
-    tie.close
-    (tie.spec
-    (λ c κs. search needs)
-    (λ c. search needs)
-    collect-requires
-    (λ c. search needs)
-    sort-requires
-    put-rows-requires
-    (λ c. search needs)
-    (λ c. search needs)
-    (λ c. search needs)
-    (λ c. search needs)
-    (λ c. search needs)
-    (λ c. search (file-laws, needs))
-    (λ c. search needs)
-    (λ c. search needs)
-    (λ c. search (file-laws, needs))
-    (λ c. search (file-laws, needs)))
+    tie.close (tie.spec (λ c κs. search needs) (λ c. search needs) collect-requires (λ c. search needs) sort-requires put-rows-requires
+    (λ c. search needs) (λ c. search needs) (λ c. search needs) (λ c. search needs) (λ c. search needs) (λ c. search (file-laws, needs))
+    (λ c. search needs) (λ c. search needs) (λ c. search (file-laws, needs)) (λ c. search (file-laws, needs)))

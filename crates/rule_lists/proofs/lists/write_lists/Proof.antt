@@ -5,26 +5,7 @@ use Rattle.rule_lists.proofs.lists.write_lists.Tie as tie
 
 pub write-lists-spec : {M : Type 1} → statement M
 write-lists-spec =
-    tie.close
-    (tie.spec
-    (λ c. search needs)
-    (λ c. search needs)
-    (λ c. search needs)
-    (λ c. search needs)
-    (λ c κs. search needs)
-    (λ c. search needs)
-    (λ c. search needs)
-    (λ c. search needs)
-    (λ c. search needs)
-    (λ c κs. search needs)
-    (λ c. search needs)
-    (λ c. search needs)
-    (λ c. search needs)
-    (λ c. search needs)
-    (λ c κs. search needs)
-    (λ c. search needs)
-    (λ c. search (prefix-laws, needs))
-    (λ c. search needs)
-    (λ c. search (prefix-laws, needs))
-    (λ c. search needs)
-    (λ c. search (prefix-laws, needs)))
+    tie.close (tie.spec (λ c. search needs) (λ c. search needs) (λ c. search needs) (λ c. search needs) (λ c κs. search needs) (λ c. search needs)
+    (λ c. search needs) (λ c. search needs) (λ c. search needs) (λ c κs. search needs) (λ c. search needs) (λ c. search needs) (λ c. search needs)
+    (λ c. search needs) (λ c κs. search needs) (λ c. search needs) (λ c. search (prefix-laws, needs)) (λ c. search needs)
+    (λ c. search (prefix-laws, needs)) (λ c. search needs) (λ c. search (prefix-laws, needs)))

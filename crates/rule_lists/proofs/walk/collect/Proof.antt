@@ -17,26 +17,7 @@ returns-3 c = collects _ _ _ _ _ (c .before .before .before .before .before .bef
 
 pub collect-spec : {M : Type 1} → statement M
 collect-spec =
-    tie.close
-    (tie.spec
-    walk-requires
-    (λ c. search needs)
-    (λ c. search needs)
-    (λ c. search needs)
-    (λ c. search collect-laws)
-    walk-requires-2
-    (λ c. search needs)
-    (λ c. search needs)
-    (λ c. search needs)
-    (λ c. search needs)
-    (λ c. search needs)
-    returns-2
-    (λ c. search needs)
-    (λ c. search needs)
-    returns-3
-    (λ c. search needs)
-    (λ c. search needs)
-    (λ c. search collect-laws)
-    (λ c. search needs)
-    (λ c. search needs)
+    tie.close (tie.spec walk-requires (λ c. search needs) (λ c. search needs) (λ c. search needs) (λ c. search collect-laws) walk-requires-2
+    (λ c. search needs) (λ c. search needs) (λ c. search needs) (λ c. search needs) (λ c. search needs) returns-2 (λ c. search needs)
+    (λ c. search needs) returns-3 (λ c. search needs) (λ c. search needs) (λ c. search collect-laws) (λ c. search needs) (λ c. search needs)
     (λ c. search collect-laws))

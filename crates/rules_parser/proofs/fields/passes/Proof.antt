@@ -6,15 +6,5 @@ use Rattle.base.proofs.PickLaws.{cases}
 
 pub passes-spec : {M : Type 1} → statement M
 passes-spec =
-    tie.close
-    (tie.spec
-    (λ c. search needs)
-    (λ c. search needs)
-    (λ c. search needs)
-    (λ c. search needs)
-    (λ c. search (kinds, cases))
-    (λ c. search (kinds, cases))
-    (λ c. search (kinds, cases))
-    (λ c. search (kinds, cases))
-    (λ c. search (kinds, cases))
-    (λ c. search (kinds, cases)))
+    tie.close (tie.spec (λ c. search needs) (λ c. search needs) (λ c. search needs) (λ c. search needs) (λ c. search (kinds, cases))
+    (λ c. search (kinds, cases)) (λ c. search (kinds, cases)) (λ c. search (kinds, cases)) (λ c. search (kinds, cases)) (λ c. search (kinds, cases)))

@@ -5,16 +5,5 @@ use Rattle.rules_parser.proofs.files.comment.Tie as tie
 
 pub comment-spec : {M : Type 1} → statement M
 comment-spec =
-    tie.close
-    (tie.spec
-    (λ c κs. search needs)
-    (λ c. search comments)
-    (λ c. search needs)
-    (λ c κs. search needs)
-    (λ c. search needs)
-    (λ c κs. search needs)
-    (λ c κs. search needs)
-    (λ c. search needs)
-    (λ c. search comments)
-    (λ c. search comments)
-    (λ c. search comments))
+    tie.close (tie.spec (λ c κs. search needs) (λ c. search comments) (λ c. search needs) (λ c κs. search needs) (λ c. search needs)
+    (λ c κs. search needs) (λ c κs. search needs) (λ c. search needs) (λ c. search comments) (λ c. search comments) (λ c. search comments))

@@ -5,13 +5,5 @@ use Rattle.rules_parser.proofs.files.text_end.Tie as tie
 
 pub text-end-spec : {M : Type 1} → statement M
 text-end-spec =
-    tie.close
-    (tie.spec
-    (λ c κs. search needs)
-    (λ c. search needs)
-    (λ c. search needs)
-    (λ c. search needs)
-    (λ c. search ends)
-    (λ c. search ends)
-    (λ c. search ends)
-    (λ c. search ends))
+    tie.close (tie.spec (λ c κs. search needs) (λ c. search needs) (λ c. search needs) (λ c. search needs) (λ c. search ends) (λ c. search ends)
+    (λ c. search ends) (λ c. search ends))

@@ -5,16 +5,5 @@ use Rattle.rules_parser.proofs.lines.accept_told.Tie as tie
 
 pub accept-told-spec : {M : Type 1} → statement M
 accept-told-spec =
-    tie.close
-    (tie.spec
-    (λ c κs. search needs)
-    (λ c. search needs)
-    (λ c κs. search needs)
-    (λ c κs. search needs)
-    (λ c κs. search needs)
-    (λ c. search needs)
-    (λ c κs. search needs)
-    (λ c κs. search needs)
-    (λ c. search texts)
-    (λ c. search texts)
-    (λ c. search texts))
+    tie.close (tie.spec (λ c κs. search needs) (λ c. search needs) (λ c κs. search needs) (λ c κs. search needs) (λ c κs. search needs)
+    (λ c. search needs) (λ c κs. search needs) (λ c κs. search needs) (λ c. search texts) (λ c. search texts) (λ c. search texts))

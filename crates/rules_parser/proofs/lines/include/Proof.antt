@@ -18,6 +18,4 @@ unfolding includeAt
 returns-3 c = search (in-order, cases)
 
 pub include-spec : {M : Type 1} → statement M
-include-spec =
-    tie.close
-    (tie.spec (λ c κs. search needs) (λ c. search needs) (λ c κs. search needs) (λ c. search needs) returns returns-2 returns-3)
+include-spec = tie.close (tie.spec (λ c κs. search needs) (λ c. search needs) (λ c κs. search needs) (λ c. search needs) returns returns-2 returns-3)

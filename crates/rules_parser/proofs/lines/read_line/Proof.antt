@@ -5,13 +5,5 @@ use Rattle.rules_parser.proofs.lines.read_line.Tie as tie
 
 pub read-line-spec : {M : Type 1} → statement M
 read-line-spec =
-    tie.close
-    (tie.spec
-    (λ c κs. search needs)
-    (λ c κs. search needs)
-    (λ c κs. search needs)
-    (λ c κs. search needs)
-    (λ c. search any-line)
-    (λ c. search any-line)
-    (λ c. search any-line)
-    (λ c. search any-line))
+    tie.close (tie.spec (λ c κs. search needs) (λ c κs. search needs) (λ c κs. search needs) (λ c κs. search needs) (λ c. search any-line)
+    (λ c. search any-line) (λ c. search any-line) (λ c. search any-line))
