@@ -12,6 +12,7 @@ use Rattle.choices.specs.Texts.{Text}
 use Rattle.languages.specs.Contracts.{decoded, IsCode}
 use Rattle.languages.specs.declared.sets.LanguageSet.{LanguageSet}
 use Rattle.choices.specs.Apply.{Entry, apply, start}
+use Rattle.phonemes.specs.Expressions.{bar}
 use Rattle.refusals.specs.Numbers.{numberOf}
 use Rattle.refusals.specs.declared.Refusal.the-variants.{TextTooLong, TooManyTexts}
 use Rattle.phoneme_builder.specs.Sets.{Spelling, refusal, texts}
@@ -259,6 +260,17 @@ textsIn store slots n = slotTexts (part 0 store) (part 0 slots) n
 unfoldable pub barred : List Text → ℕ
 barred [] = 0
 barred (t ∷ ts) = suc (length t) + barred ts
+
+-- a bar and t stand in out from a place on, and r is the place behind them
+pub record PutBarred (out out′ : List ℕ) (at : ℕ) (t : Text) (r : ℕ) : Type 0 where
+  pub buffer : out′ ≡ sets out at (bar ∷ t)
+  pub place : r ≡ at + 1 + length t
+
+-- set 0 has n texts, one at least, and joined they fit into out from a place on
+pub record Joins (store slots : List (List ℕ)) (n : ℕ) (out : List ℕ) (at : ℕ) : Type 0 where
+  pub texts : TextsIn store slots n
+  pub some : 0 < n
+  pub room : at + length (joined (textsIn store slots n)) ≤ length out
 
 -- t in out from a place on, where it fits there
 unfoldable pub placed : List ℕ → ℕ → Text → List ℕ
