@@ -232,7 +232,7 @@ pub fn word(
         guesses: by.guesses,
         set,
     };
-    let mut alts = [0u64; 256];
+    let mut alts = [0u64; MOST];
     match spell_word(store, slots, &mut alts, pack, table, within, langs, word) {
         Finished::Into { texts, flag } => Worded::Done {
             length: give(store, slots, texts, out, at),
