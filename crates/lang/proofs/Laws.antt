@@ -17,9 +17,10 @@ use Rattle.letters.specs.declared.utf8.Step.{Step}
 use Rattle.letters.specs.declared.utf8.Step.the-variants.{Char, Ill, End}
 use Rattle.letters.proofs.Utf8Laws.{char-at}
 use Rattle.lang.specs.Patterns.{Piece, exactly, box, stray, middle, insideOf, boxLength, boxPiece, charPiece, charLength, pieceAt, lengthAt, listedBox, goodPiece, patternPiecesIn, patternPieces, allGood, framed, inForms, takes, fitsAt, fitsAnywhere, matchesIn, matchesOf}
-use Rattle.lang.proofs.PieceLaws.{piece-bytes, pieces-cons}
-use Rattle.lang.proofs.FormLaws.{listed-none}
-use Rattle.lang.proofs.Fits.{anywhere-here}
+use Rattle.lang.proofs
+use proofs.PieceLaws.{piece-bytes, pieces-cons}
+use proofs.FormLaws.{listed-none}
+use proofs.Fits.{anywhere-here}
 use Rattle.texts.proofs.Chars.{has-nil, has-cons}
 use Rattle.base.proofs.PickLaws.{pick-true, pick-false, pick-inv, pick-all, and-yes, and-inv}
 use Rattle.base.proofs.Arms.{clash}
@@ -37,7 +38,7 @@ pub record Match (start : Bool) (xs : List Piece) (end : Bool) (cs : List ℕ) :
   pub whole : cs ≡ before ++ (hit ++ after)
   pub taken : Taken xs hit
   pub first : start ≡ true → before ≡ []
-  pub last : end ≡ true → after ≡ []
+  pub to-end : end ≡ true → after ≡ []
 
 -- ---- from a place on
 
@@ -62,16 +63,16 @@ record Front (xs : List Piece) (end : Bool) (cs : List ℕ) : Type 0 where
   after : List ℕ
   whole : cs ≡ hit ++ after
   taken : Taken xs hit
-  last : end ≡ true → after ≡ []
+  to-end : end ≡ true → after ≡ []
 
 taken-first : (xs : List Piece) (end : Bool) (cs : List ℕ) → fitsAt xs end cs ≡ true → Front xs end cs
 unfolding fitsAt
-taken-first [] end cs e = record { hit = []; after = cs; whole = refl; taken = none; last = none-left end cs e }
+taken-first [] end cs e = record { hit = []; after = cs; whole = refl; taken = none; to-end = none-left end cs e }
 taken-first (x ∷ xs) end [] e = absurd (false≢true e)
 taken-first (x ∷ xs) end (c ∷ cs) e =
     let w = and-inv (takes x c) (fitsAt xs end cs) e in
     let r = taken-first xs end cs (w .1) in
-    record { hit = c ∷ r .hit; after = r .after; whole = ap (λ (l : List ℕ). c ∷ l) (r .whole); taken = one (w .0) (r .taken); last = r .last }
+    record { hit = c ∷ r .hit; after = r .after; whole = ap (λ (l : List ℕ). c ∷ l) (r .whole); taken = one (w .0) (r .taken); to-end = r .to-end }
 
 -- ---- from any place on
 
@@ -93,13 +94,13 @@ anywhere xs end (c ∷ cs) after e = pick-all (λ (b : Bool). b ≡ true) _ _ _ 
 at-start : (xs : List Piece) (end : Bool) (cs : List ℕ) → fitsAt xs end cs ≡ true → Match true xs end cs
 at-start xs end cs e =
     let f = taken-first xs end cs e in
-    record { before = []; hit = f .hit; after = f .after; whole = f .whole; taken = f .taken; first = λ _. refl; last = f .last }
+    record { before = []; hit = f .hit; after = f .after; whole = f .whole; taken = f .taken; first = λ _. refl; to-end = f .to-end }
 
 at-any : (xs : List Piece) (end : Bool) (cs : List ℕ) → fitsAnywhere xs end cs ≡ true → Match false xs end cs
 at-any xs end cs e =
     let w = place xs end cs e in
     let f = taken-first xs end (w .1) (w .3) in
-    record { before = w .0; hit = f .hit; after = f .after; whole = w .2 ∙ ap (λ (l : List ℕ). w .0 ++ l) (f .whole); taken = f .taken; first = λ q. absurd (false≢true q); last = f .last }
+    record { before = w .0; hit = f .hit; after = f .after; whole = w .2 ∙ ap (λ (l : List ℕ). w .0 ++ l) (f .whole); taken = f .taken; first = λ q. absurd (false≢true q); to-end = f .to-end }
 
 pub found : (start : Bool) (xs : List Piece) (end : Bool) (cs : List ℕ) → matchesIn start xs end cs ≡ true → Match start xs end cs
 unfolding matchesIn pick
@@ -108,8 +109,8 @@ found false xs end cs e = at-any xs end cs e
 
 pub finds : (start : Bool) (xs : List Piece) (end : Bool) (cs : List ℕ) → Match start xs end cs → matchesIn start xs end cs ≡ true
 unfolding matchesIn pick
-finds true xs end cs m = rw (m .whole, m .first refl) (fits-taken end (m .after) (m .taken) (m .last))
-finds false xs end cs m = rw (m .whole) (anywhere xs end (m .before) (m .hit ++ m .after) (fits-taken end (m .after) (m .taken) (m .last)))
+finds true xs end cs m = rw (m .whole, m .first refl) (fits-taken end (m .after) (m .taken) (m .to-end))
+finds false xs end cs m = rw (m .whole) (anywhere xs end (m .before) (m .hit ++ m .after) (fits-taken end (m .after) (m .taken) (m .to-end)))
 
 -- a pattern matches a name exactly when there is such a match
 abbrev pub Matches : List ℕ → List ℕ → Type 0

@@ -25,8 +25,9 @@ use Rattle.letters.specs.declared.utf8.Step.the-variants.{Char, Ill, End}
 use Rattle.letters.proofs.Utf8Laws.{decode-one, char-at, char-drop, char-length, ill-in, encode-one, encode-two, encode-three, encode-four}
 use Rattle.letters.proofs.CodesLaws.{codes-char, codes-ill, codes-end}
 use Rattle.texts.specs.Parts.{firstIs, lastIs, placeOf, has, caret, dollar, opening, closing}
-use Rattle.lang.specs.Patterns.{Piece, boxLength, charPiece, pieceAt, lengthAt, charLength, patternPieces, middle, takes, fitsAt, fitsAnywhere, matchesIn, matchesOf}
-use Rattle.lang.specs.Contracts.{beginsWithOther, bitOf, signatureOf, hasBit, mayIn, mayMatch}
+use Rattle.lang.specs
+use specs.Patterns.{Piece, boxLength, charPiece, pieceAt, lengthAt, charLength, patternPieces, middle, takes, fitsAt, fitsAnywhere, matchesIn, matchesOf}
+use specs.Contracts.{beginsWithOther, bitOf, signatureOf, hasBit, mayIn, mayMatch}
 use Rattle.lang.proofs.PieceLaws.{next-fits, pieces-cons, piece-char, piece-bytes, next-less}
 use Rattle.base.proofs.Stores.{rest-is}
 use Rattle.texts.proofs.Chars.{has-cons}
@@ -141,7 +142,7 @@ char-in bits s a p k n e i h =
     let w = char-at s p k n e in
     let size : length (encode k) ≡ n = char-length s p k n e in
     let byte : getD (encode k) i 0 ≡ getD s (p + i) 0 = ap (λ (l : List ℕ). getD l i 0) (w .bytes) ∙ getD-take n (drop p s) i 0 (omega arith) ∙ getD-drop p s i 0 in
-    ap (hasBit bits) byte ∙ a (p + i) (omega (arith, w .end))
+    ap (hasBit bits) byte ∙ a (p + i) (omega arith)
 
 module _ (bits : ℕ) (s : List ℕ) (a : In bits s) where
   covers-by : (p : ℕ) (r : Step) → decodeAt s p ≡ r → ((q : ℕ) → length s - q < length s - p → Covers bits (codesOf (drop q s))) → Covers bits (codesOf (drop p s))

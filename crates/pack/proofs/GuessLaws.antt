@@ -20,21 +20,25 @@ use Rattle.rule.specs.Matching.{ruleText}
 use Rattle.lang.specs.Patterns.{inForms, matchesOf}
 use Rattle.lang.specs.Contracts.{signatureOf, mayMatch}
 use Rattle.lang.proofs.Shortcuts.{may-not}
-use Rattle.strings.specs.Reading.{Read, cut, got, andRead, readByte, readNumber, readText, readMany, placeIn}
-use Rattle.pack.specs.Packs.{Guess, guess, readGuess, readGuesses, all, guessGood, guessesGood}
-use Rattle.pack.specs.Guessing.{narrowedBy, narrowedByAll, leftOver, allListed, guessed}
-use Rattle.pack.specs.Contracts.{endIn, allFrom, guessesFrom, placedGuess, guessStandsAt, guessesAt, guessedAt}
+use Rattle.strings.specs.Reading.{Read, cut, got, andRead, readByte, readNumber, readMany, placeIn}
+use Rattle.pack.specs
+use specs.Packs.{Guess, guess, readGuess, readGuesses, all, guessGood, guessesGood}
+use specs.Guessing.{narrowedBy, narrowedByAll, leftOver, allListed, guessed}
+use specs.Contracts.{endIn, allFrom, guessesFrom, placedGuess, guessStandsAt, guessesAt, guessedAt}
 use Rattle.strings.specs.Contracts.{ByteIs, numberAt, stringAt, behind, readSome}
 use Rattle.strings.specs.declared.Number.{Number}
 use Rattle.strings.specs.declared.Number.the-variants as number
-use Rattle.pack.specs.declared.sections.Section.{Section}
-use Rattle.pack.specs.declared.sections.Section.the-variants.{End, Bad}
-use Rattle.pack.specs.declared.guessing.GuessAt.{GuessAt}
-use Rattle.pack.specs.declared.guessing.GuessAt.the-variants as guesses
-use Rattle.pack.proofs.Readers.{guess-ends}
-use Rattle.strings.proofs.Readers.{EndOf, end-here, place-drop, then-inv, byte-ends, number-ends, byte-some, byte-none, count-of, count-cut, mask-of, mask-cut, text-is, text-cut, TextThen, reads-on, text-then, some-one, some-cut}
+use specs.declared
+use declared.sections.Section.{Section}
+use declared.sections.Section.the-variants.{End, Bad}
+use declared.guessing.GuessAt.{GuessAt}
+use declared.guessing.GuessAt.the-variants as guesses
+use Rattle.pack.proofs
+use proofs.Readers.{guess-ends}
+use proofs.RuleLaws.{then-text}
+use Rattle.strings.proofs.Readers.{EndOf, end-here, place-drop, then-inv, byte-ends, number-ends, byte-some, byte-none, count-of, count-cut, mask-of, mask-cut, text-is, text-cut, text-then, some-one, some-cut}
 use Rattle.base.proofs.Arms.{clash}
-use Rattle.pack.proofs.Judging.{runs-out, fails, section-ends, section-faulty, judge-fine, judge-faulty, walk-on, walk-off, walk-end, counted-cut, counted-much, counted-many}
+use proofs.Judging.{runs-out, fails, section-ends, section-faulty, judge-fine, judge-faulty, walk-on, walk-off, walk-end, counted-cut, counted-much, counted-many}
 use Rattle.base.proofs.PickLaws.{and-first, and-second}
 
 -- ---- a guessing rule at a place
@@ -64,7 +68,7 @@ module _ (s : List ℕ) (at : ℕ) (h : at < length s) (y : Number) (g : y ≡ n
           let accept : b ≡ getD s at 0 = k .is in
           let end : e ≡ placeIn s (drop e s) = sym (place-drop s e (w .fits)) in
           let start : a ≡ placeIn s (drop e s) - length (take (e - a) (drop a s)) =
-          omega (arith, place-drop s e (w .fits), length-take (e - a) (drop a s), length-drop a s, w .fits, w .size) in
+          omega (arith, place-drop s e (w .fits), length-take (e - a) (drop a s), length-drop a s) in
           rw (byte-some s at h, mask-reads, w .reads) (cc)
 
 pub ruleset guess-at-laws = (guess-none, guess-cut-mask, guess-cut-text, guess-whole, needs)
@@ -75,55 +79,40 @@ pub record GuessIs (s : List ℕ) (at b m a e : ℕ) : Type 0 where
   pub fits : e ≤ length s
   pub reads : readGuess (drop at s) ≡ got (guess b m (take (e - a) (drop a s))) (drop e s)
 
-guess-is-3 : (s : List ℕ) (at d x n : ℕ) (g : Guess) (q : List ℕ) (b m a e : ℕ) → readGuess (drop at s) ≡ got g q
-    → TextThen s d (λ p t. got (guess x n p) t) g q → placedGuess s (got g q) ≡ guesses.At b m a e → GuessIs s at b m a e
-unfolding placedGuess
-guess-is-3 s at d x n g q b m a e r (reads-on p w h) k =
-    let rest : drop (d + 1 + length p) s ≡ q = cc in
-    let is : guess x n p ≡ g = cc in
-    let accept : g .accept ≡ b = cc in
-    let mask : g .mask ≡ m = cc in
-    let pattern : p ≡ g .pattern = ap (λ (y : Guess). y .pattern) is in
-    let end : placeIn s q ≡ e = cc in
-    let start : placeIn s q - length (g .pattern) ≡ a = cc in
-    let place : placeIn s q ≡ d + 1 + length p = sym (ap (placeIn s) rest) ∙ place-drop s (d + 1 + length p) (w .fits) in
-    let size : length p ≡ length (g .pattern) = ap length pattern in
-    let from : a ≡ d + 1 = omega (arith, start, place, size) in
-    let n : e - a ≡ length p = omega (arith, end, place, from) in
-    let text : g .pattern ≡ take (e - a) (drop a s) = sym pattern ∙ sym (w .text) ∙ ap₂ (λ (i j : ℕ). take i (drop j s)) (sym n) (sym from) in
-    let to : d + 1 + length p ≡ e = sym place ∙ end in
-    record {
-      order = omega (arith, n, from, to);
-      fits = omega (arith, w .fits, to);
-      reads = r ∙ ap₂ (λ (y : Guess) (l : List ℕ). got y l) (λ i. record { accept = accept i; mask = mask i; pattern = text i }) (sym rest ∙ ap (λ (i : ℕ). drop i s) to);
-    }
-
 rest-drop : (s r q : List ℕ) (d : ℕ) → r ≡ drop d s → (v : EndOf r q) → q ≡ drop (d + v .at) s
 rest-drop s r q d e v = v .is ∙ ap (drop (v .at)) e ∙ drop-drop (v .at) d s
 
-module _ (s : List ℕ) (at : ℕ) (g : Guess) (q : List ℕ) (b m a e : ℕ) (r : readGuess (drop at s) ≡ got g q) (k : placedGuess s (got g q) ≡ guesses.At b m a e) where
-  guess-is-2 : (x : ℕ) (l : List ℕ) (d : ℕ) → l ≡ drop d s → (n : ℕ) (l₂ : List ℕ) → readNumber 4 l ≡ got n l₂ → andRead (readText l₂) (λ p t. got (guess x n p) t) ≡ got g q → GuessIs s at b m a e
-  guess-is-2 x l d h n l₂ i j =
-      let v : EndOf l l₂ = number-ends 4 l n l₂ i in
-      let f : l₂ ≡ drop (d + v .at) s = rest-drop s l l₂ d h v in
-      let o : andRead (readText (drop (d + v .at) s)) (λ p t. got (guess x n p) t) ≡ got g q =
-      ap (λ (y : List ℕ). andRead (readText y) (λ p t. got (guess x n p) t)) (sym f) ∙ j in
-      guess-is-3 s at (d + v .at) x n g q b m a e r (text-then s (d + v .at) (λ p t. got (guess x n p) t) g q o) k
-
-  guess-is-1 : (x : ℕ) (l : List ℕ) → readByte (drop at s) ≡ got x l → andRead (readNumber 4 l) (λ n t. andRead (readText t) (λ p u. got (guess x n p) u)) ≡ got g q → GuessIs s at b m a e
-  guess-is-1 x l i j =
-      let o = then-inv (readNumber 4 l) _ g q j in
-      let v : EndOf (drop at s) l = byte-ends (drop at s) x l i in
-      guess-is-2 x l (at + v .at) (rest-drop s (drop at s) l at refl v) (o .0) (o .1) (o .2) (o .3)
-
-  guess-is-0 : GuessIs s at b m a e
-  unfolding readGuess
-  guess-is-0 = let o = then-inv (readByte (drop at s)) _ g q r in guess-is-1 (o .0) (o .1) (o .2) (o .3)
-
 is-by : (s : List ℕ) (at b m a e : ℕ) (x : Read Guess) → readGuess (drop at s) ≡ x → placedGuess s x ≡ guesses.At b m a e → GuessIs s at b m a e
-unfolding placedGuess
+unfolding readGuess placedGuess
 is-by s at b m a e cut g h = clash (cc)
-is-by s at b m a e (got r q) g h = guess-is-0 s at r q b m a e g h
+is-by s at b m a e (got g q) r k =
+    let i = then-inv (readByte (drop at s)) _ g q r in
+    let j = then-inv (readNumber 4 (i .1)) _ g q (i .3) in
+    let v = byte-ends (drop at s) (i .0) (i .1) (i .2) in
+    let u = number-ends 4 (i .1) (j .0) (j .1) (j .2) in
+    let d : ℕ = at + v .at + u .at in
+    let there : j .1 ≡ drop d s = rest-drop s (i .1) (j .1) (at + v .at) (rest-drop s (drop at s) (i .1) at refl v) u in
+    let w = then-text (text-then s d (λ p t. got (guess (i .0) (j .0) p) t) g q (rw there at (j .3))) in
+    let parts = w .rest in
+    let rest : drop (d + 1 + length (w .text)) s ≡ q = cc in
+    let is : guess (i .0) (j .0) (w .text) ≡ g = cc in
+    let accept : g .accept ≡ b = cc in
+    let mask : g .mask ≡ m = cc in
+    let pattern : w .text ≡ g .pattern = ap (λ (y : Guess). y .pattern) is in
+    let end : placeIn s q ≡ e = cc in
+    let start : placeIn s q - length (g .pattern) ≡ a = cc in
+    let place : placeIn s q ≡ d + 1 + length (w .text) = sym (ap (placeIn s) rest) ∙ place-drop s (d + 1 + length (w .text)) (w .read .fits) in
+    let size : length (w .text) ≡ length (g .pattern) = ap length pattern in
+    let from : a ≡ d + 1 = omega arith in
+    let n : e - a ≡ length (w .text) = omega arith in
+    let text : g .pattern ≡ take (e - a) (drop a s) = sym pattern ∙ sym (w .read .text) ∙ ap₂ (λ (i j : ℕ). take i (drop j s)) (sym n) (sym from) in
+    let to : d + 1 + length (w .text) ≡ e = sym place ∙ end in
+    let fits = w .read .fits in
+    record {
+      order = omega arith;
+      fits = omega arith;
+      reads = r ∙ ap₂ (λ (y : Guess) (l : List ℕ). got y l) (λ i. record { accept = accept i; mask = mask i; pattern = text i }) (sym rest ∙ ap (λ (i : ℕ). drop i s) to);
+    }
 
 cut-by : (s : List ℕ) (at : ℕ) (x : Read Guess) → readGuess (drop at s) ≡ x → placedGuess s x ≡ guesses.Cut → readGuess (drop at s) ≡ cut
 unfolding placedGuess

@@ -11,9 +11,12 @@ use Rattle.strings.specs.Reading.{Read, cut, got, andRead, readNumber, readMany
 use Rattle.strings.specs.Contracts.{numberAt}
 use Rattle.strings.specs.declared.Number.{Number}
 use Rattle.strings.specs.declared.Number.the-variants as number
-use Rattle.pack.specs.Contracts.{judge, endIn, allFrom}
-use Rattle.pack.specs.declared.sections.Section.{Section}
-use Rattle.pack.specs.declared.sections.Section.the-variants.{End, Bad}
+use Rattle.pack.specs
+use specs.PlaceContracts.{judge}
+use specs.Contracts.{endIn, allFrom}
+use specs.declared
+use declared.sections.Section.{Section}
+use declared.sections.Section.the-variants.{End, Bad}
 use Rattle.strings.proofs.Readers.{EndOf, Ends, end-then, end-is, end-within, place-drop, many-length, count-of, count-cut}
 use Rattle.base.proofs.Arms.{clash}
 use Rattle.base.proofs.PickLaws.{pick-true, pick-false, pick-same, pick-and}
@@ -75,7 +78,7 @@ ending-by s good f l e v w (fine a r g h y) =
       value = a;
       reads = g ∙ ap (got a) (end-is o ∙ ap (λ (n : ℕ). drop n s) at);
       passes = h;
-      fits = omega (arith, at, end-within o);
+      fits = omega (arith, end-within o);
     }
 
 faulty-by : {A : Type 0} (s : List ℕ) (good : A → Bool) (rd : Read A) → Judged Bad good rd (λ a r. End (placeIn s r)) Bad → Faulty good rd
@@ -96,48 +99,53 @@ module _ {A : Type 0} (s : List ℕ) (good : A → Bool) (f : List ℕ → Read 
 suc-of : (n : ℕ) → 0 < n → n ≡ suc (n - 1)
 suc-of n h = omega arith
 
-module _ {A S : Type 0} (s : List ℕ) (f : List ℕ → Read A) (ok : S → A → Bool) (next : S → A → S) (last : S → Bool) where
+module _ {A S : Type 0} (s : List ℕ) (f : List ℕ → Read A) (ok : S → A → Bool) (next : S → A → S) (final : S → Bool) where
+  abbrev judgedIn : S → Read (List A) → Section
+  judgedIn st = endIn s (allFrom ok next final st)
+
   over : (st : S) (a : A) (x : Read (List A))
-      → endIn s (allFrom ok next last st) (andRead x (λ rest q. got (a ∷ rest) q)) ≡ pick (ok st a) (endIn s (allFrom ok next last (next st a)) x) Bad
+      → judgedIn st (andRead x (λ rest q. got (a ∷ rest) q)) ≡ pick (ok st a) (judgedIn (next st a) x) Bad
   unfolding endIn judge andRead allFrom
   over st a cut = sym (pick-same (ok st a) Bad)
-  over st a (got rest q) = pick-and (ok st a) (allFrom ok next last (next st a) rest) (End (placeIn s q)) Bad
+  over st a (got rest q) = pick-and (ok st a) (allFrom ok next final (next st a) rest) (End (placeIn s q)) Bad
 
   one : (st : S) (n : ℕ) (l : List ℕ) (a : A) (r : List ℕ) → f l ≡ got a r
-      → endIn s (allFrom ok next last st) (readMany f (suc n) l) ≡ pick (ok st a) (endIn s (allFrom ok next last (next st a)) (readMany f n r)) Bad
+      → judgedIn st (readMany f (suc n) l) ≡ pick (ok st a) (judgedIn (next st a) (readMany f n r)) Bad
   unfolding readMany andRead
-  one st n l a r e = ap (λ (x : Read A). endIn s (allFrom ok next last st) (andRead x (λ y q. andRead (readMany f n q) (λ rest t. got (y ∷ rest) t)))) e ∙ over st a (readMany f n r)
+  one st n l a r e = ap (λ (x : Read A). judgedIn st (andRead x (λ y q. andRead (readMany f n q) (λ rest t. got (y ∷ rest) t)))) e ∙ over st a (readMany f n r)
 
-  none : (st : S) (n : ℕ) (l : List ℕ) → f l ≡ cut → endIn s (allFrom ok next last st) (readMany f (suc n) l) ≡ Bad
+  none : (st : S) (n : ℕ) (l : List ℕ) → f l ≡ cut → judgedIn st (readMany f (suc n) l) ≡ Bad
   unfolding readMany andRead endIn judge
-  none st n l e = ap (λ (x : Read A). endIn s (allFrom ok next last st) (andRead x (λ y q. andRead (readMany f n q) (λ rest t. got (y ∷ rest) t)))) e
+  none st n l e = ap (λ (x : Read A). judgedIn st (andRead x (λ y q. andRead (readMany f n q) (λ rest t. got (y ∷ rest) t)))) e
 
   pub walk-on : (st : S) (n : ℕ) (l : List ℕ) (a : A) (r : List ℕ) → 0 < n → f l ≡ got a r → ok st a ≡ true
-      → endIn s (allFrom ok next last st) (readMany f n l) ≡ endIn s (allFrom ok next last (next st a)) (readMany f (n - 1) r)
+      → judgedIn st (readMany f n l) ≡ judgedIn (next st a) (readMany f (n - 1) r)
   walk-on st n l a r h e g =
-      ap (λ (m : ℕ). endIn s (allFrom ok next last st) (readMany f m l)) (suc-of n h) ∙ one st (n - 1) l a r e ∙ pick-true _ _ _ g
+      ap (λ (m : ℕ). judgedIn st (readMany f m l)) (suc-of n h) ∙ one st (n - 1) l a r e ∙ pick-true _ _ _ g
 
-  off : (st : S) (n : ℕ) (l : List ℕ) → Faulty (ok st) (f l) → endIn s (allFrom ok next last st) (readMany f (suc n) l) ≡ Bad
+  off : (st : S) (n : ℕ) (l : List ℕ) → Faulty (ok st) (f l) → judgedIn st (readMany f (suc n) l) ≡ Bad
   off st n l (runs-out e) = none st n l e
   off st n l (fails a r e g) = one st n l a r e ∙ pick-false _ _ _ g
 
-  pub walk-off : (st : S) (n : ℕ) (l : List ℕ) → 0 < n → Faulty (ok st) (f l) → endIn s (allFrom ok next last st) (readMany f n l) ≡ Bad
-  walk-off st n l h x = ap (λ (m : ℕ). endIn s (allFrom ok next last st) (readMany f m l)) (suc-of n h) ∙ off st (n - 1) l x
+  pub walk-off : (st : S) (n : ℕ) (l : List ℕ) → 0 < n → Faulty (ok st) (f l) → judgedIn st (readMany f n l) ≡ Bad
+  walk-off st n l h x = ap (λ (m : ℕ). judgedIn st (readMany f m l)) (suc-of n h) ∙ off st (n - 1) l x
 
-  pub walk-end : (st : S) (n at : ℕ) → n ≤ 0 → at ≤ length s → endIn s (allFrom ok next last st) (readMany f n (drop at s)) ≡ pick (last st) (End at) Bad
+  pub walk-end : (st : S) (n at : ℕ) → n ≤ 0 → at ≤ length s → judgedIn st (readMany f n (drop at s)) ≡ pick (final st) (End at) Bad
   unfolding readMany endIn judge allFrom
-  walk-end st zero at h w = ap (λ (e : ℕ). pick (last st) (End e) Bad) (place-drop s at w)
+  walk-end st zero at h w = ap (λ (e : ℕ). pick (final st) (End e) Bad) (place-drop s at w)
   walk-end st (suc n) at h w = absurd (not-suc-le-zero h)
+
+-- more than `most` of a kind
+pub much-by : {A : Type 0} (f : List ℕ → Read A) (whole : List A → Bool) (most : ℕ) → ((xs : List A) → most < length xs → whole xs ≡ false)
+    → (l : List ℕ) (n : ℕ) (x : Read (List A)) → readMany f n l ≡ x → most < n → Faulty whole x
+much-by f whole most over l n cut e h = runs-out refl
+much-by f whole most over l n (got xs q) e h = fails xs q refl (over xs (omega (arith, many-length f n l xs q e)))
 
 -- ---- a count of two bytes, at most `most`, and as many of a kind: `each` is the test of a list that is not too long
 
 module _ {A : Type 0} (s : List ℕ) (f : List ℕ → Read A) (whole each : List A → Bool) (most : ℕ)
     (over : (xs : List A) → most < length xs → whole xs ≡ false) (under : (xs : List A) → length xs ≤ most → whole xs ≡ each xs)
     (at : ℕ) (r : Number) (p : r ≡ numberAt 2 s at) where
-  much-by : (l : List ℕ) (n : ℕ) (x : Read (List A)) → readMany f n l ≡ x → most < n → Faulty whole x
-  much-by l n cut e h = runs-out refl
-  much-by l n (got xs q) e h = fails xs q refl (over xs (omega (arith, many-length f n l xs q e)))
-
   pub counted-cut : r ≡ number.Cut → Bad ≡ endIn s whole (andRead (readNumber 2 (drop at s)) (λ m t. readMany f m t))
   unfolding endIn andRead judge
   counted-cut q = rw (count-cut s at r p q) refl
@@ -149,7 +157,7 @@ module _ {A : Type 0} (s : List ℕ) (f : List ℕ → Read A) (whole each : Lis
 
     pub counted-much : most < n → Bad ≡ endIn s whole (andRead (readNumber 2 (drop at s)) (λ m t. readMany f m t))
     unfolding endIn
-    counted-much h = sym (ap (endIn s whole) counted-reads ∙ judge-faulty _ _ _ _ (much-by _ n _ refl h))
+    counted-much h = sym (ap (endIn s whole) counted-reads ∙ judge-faulty _ _ _ _ (much-by f whole most over _ n _ refl h))
 
     pub counted-many : (x : Section) → n ≤ most → x ≡ endIn s each (readMany f n (drop d s)) → x ≡ endIn s whole (andRead (readNumber 2 (drop at s)) (λ m t. readMany f m t))
     unfolding endIn

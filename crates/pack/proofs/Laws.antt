@@ -2,52 +2,54 @@
 -- Assumes nothing.
 use mathlib.Core.Path.{_≡_, refl, sym, ap, ap₂, subst, _∙_}
 use mathlib.Core.Bool.{Bool, true, false}
-use mathlib.Core.List.{List, [], _∷_, _++_, append-assoc}
+use mathlib.Core.List.{List, [], _∷_}
 use Prim.Native.Nat.{ℕ, zero, suc, _+_, _-_, _^_, _≤_, _<_, zero-le, min}
 use native.Mathlib.Nat.{not-suc-le-zero, le-of-suc-le-suc, lt-of-le-of-lt}
 use native.Mathlib.Omega.{arith}
 use lib.Bits.{and-le-l}
 use lib.Pow.{pow-pos}
 use lib.Dec.{eqb, leb, ltb}
-use lib.ListN.{length, getD, take, drop, length-append, length-drop, take-append-drop}
-use lib.Seq.{take-append-seam, length-take-le}
+use lib.ListN.{length, getD, take, drop, length-append, length-drop}
+use lib.Seq.{take-append-seam}
 use borrow.Author.Tests.{leb-true, ltb-true, ltb-false, eqb-true, eq-eqb}
 use Rattle.base.specs.Pick.{pick}
 use Rattle.base.proofs.One.{one}
-use Rattle.strings.specs.Reading.{strings, stringsOf, Read, cut, got, andRead, readByte, readNumber, readText, readMany, placeIn, isNil}
+use Rattle.strings.specs.Reading.{strings, stringsOf, Read, got, readByte, readNumber, readMany, placeIn, isNil}
 use Rattle.languages.specs.declared.sets.LanguageSet.{LanguageSet}
 use Rattle.languages.specs.declared.sets.LanguageSet.the-variants.{Any}
 use Rattle.languages.proofs.Laws.{without-below, any-below, mask-below}
 use Rattle.strings.proofs.Laws.{strings-none, strings-all, strings-one}
 use Rattle.letters.specs.Reading.{firstIll}
 use Rattle.letters.specs.declared.utf8.Found.the-variants.{Nothing}
-use Rattle.rule.specs.Matching.{ruleText}
 use Rattle.rule.proofs.Formed.{text-formed}
 use Rattle.phonemes.specs.Expressions.{checkedOf}
 use Rattle.phonemes.specs.declared.answers.Expression.the-variants.{Good}
 use Rattle.lang.specs.Patterns.{matchesOf}
-use Rattle.pack.specs.Packs.{Guess, Pack, Verdict, accepted, refused, readNames, readGuess, readGuesses, readRule, readList, all, listGood, namesGood, guessesGood, section, namesIn, listCount, listSections, endSection, packOf, stringsLength}
+use Rattle.pack.specs
+use specs.Packs.{Guess, Pack, Verdict, accepted, refused, readNames, readGuess, readGuesses, readRule, readList, all, listGood, namesGood, guessesGood, section, namesIn, listCount, listSections, endSection, packOf, stringsLength}
 use Rattle.rule_lines.proofs.Laws.{good-texts, good-pattern, good-expression}
 use Rattle.rule_lines.specs.Rules.{Rule, ruleGood}
-use Rattle.pack.specs.PlaceContracts.{surveyedOf, foundIn, placesOf, SurveyIs, placedRule, placedFrom, ruleStandsAt, countIn, ruleCount, listAt}
+use specs.PlaceContracts.{surveyedOf, foundIn, placesOf, SurveyIs, placedRule, placedFrom, ruleStandsAt, countIn, ruleCount, listAt}
 use Rattle.strings.specs.Contracts.{behind, readSome, numberIn, numberAt}
-use Rattle.pack.specs.Guessing.{narrowedBy, narrowedByAll, leftOver, allListed, guessed}
-use Rattle.pack.specs.Contracts.{restPlaces, guessesAt, guessedAt}
-use Rattle.pack.specs.declared.rules.RuleAt.{RuleAt}
-use Rattle.pack.specs.declared.rules.RuleAt.the-variants as rules
-use Rattle.pack.specs.declared.sections.Surveyed.{Surveyed}
-use Rattle.pack.specs.declared.sections.Surveyed.the-variants as surveyed
-use Rattle.pack.proofs.NumberLaws.{surveyed-one}
-use Rattle.pack.proofs.Readers.{names-ends, guesses-ends, list-ends}
+use specs.Guessing.{narrowedBy, narrowedByAll, leftOver, allListed, guessed}
+use specs.Contracts.{restPlaces, guessesAt, guessedAt}
+use specs.declared
+use declared.rules.RuleAt.{RuleAt}
+use declared.rules.RuleAt.the-variants as rules
+use declared.sections.Surveyed.{Surveyed}
+use declared.sections.Surveyed.the-variants as surveyed
+use Rattle.pack.proofs
+use proofs.NumberLaws.{surveyed-one}
+use proofs.Readers.{names-ends, guesses-ends, list-ends}
 use Rattle.strings.proofs.Readers.{EndOf, Ends, end-here, end-then, end-is, end-within, place-drop, then-inv, many-length, byte-ends, byte-some, byte-none, count-of}
 use Rattle.base.proofs.Arms.{clash}
-use Rattle.pack.proofs.Judging.{Judged, fine, faulty, judged, judge-fine, Ending}
-use Rattle.pack.proofs.RuleLaws.{RuleIs, rule-read, rule-is}
-use Rattle.pack.proofs.SectionLaws.{section-is, found-one, names-end, names-few, rest-reads, rest-places}
+use proofs.Judging.{Judged, fine, faulty, judged, judge-fine, Ending}
+use proofs.RuleLaws.{RuleIs, rule-read, rule-is}
+use proofs.SectionLaws.{section-is, found-one, written, written-length, names-written, names-end, names-few, rest-reads, rest-places}
 use Rattle.base.proofs.PickLaws.{pick-all, and-inv}
 use Rattle.languages.specs.Contracts.{BitsBelow}
 
--- the promise of a survey allows one answer and one table
+-- the promise of a survey allows one answer and one content of `places`
 pub survey-one : {s t o o′ : List ℕ} {r r′ : Surveyed} → SurveyIs s t r o → SurveyIs s t r′ o′ → (r ≡ r′) × (o ≡ o′)
 survey-one a b = (surveyed-one _ _ (one (a .result) (b .result)), one (a .buffer) (b .buffer))
 
@@ -128,11 +130,6 @@ module _ (s : List ℕ) (c n e : ℕ) (k : e ≤ length s) (g : readByte (drop c
       let rest : drop (c + 1) s ≡ drop e s = cc in
       omega (arith, ap length rest, length-drop (c + 1) s, length-drop e s)
 
-lists-to : (s nm : List ℕ) {n m e d x z : ℕ} {ls rs : List (List Rule)} → n ≡ m → e ≡ d → ls ≡ rs → x ≡ z → ListsAt s nm n e ls x → ListsAt s nm m d rs z
-lists-to s nm {m = m} {e = e} {d = d} {x = x} {ls = ls} {rs = rs} a b c f l =
-    subst (λ (o : ℕ). ListsAt s nm m d rs o) f (subst (λ (o : List (List Rule)). ListsAt s nm m d o x) c
-    (subst (λ (o : ℕ). ListsAt s nm m o ls x) b (subst (λ (o : ℕ). ListsAt s nm o e ls x) a l)))
-
 pack-4 : (s : List ℕ) (p : Pack) (g c : ℕ) (w : Ending s namesGood (readNames s) g) (v : Ending s (guessesGood (length (w .value))) (readGuesses (drop g s)) c) (n e : ℕ)
     → readByte (drop c s) ≡ got n (drop e s) → n ≡ listCount (length (w .value)) → e ≤ length s
     → Behind s (take (g - 1) (drop 1 s)) n e (λ ls d. endSection s (record { names = w .value; guesses = v .value; lists = ls }) d) p → IsPack s p
@@ -152,7 +149,7 @@ pack-4 s p g c w v n e r q h (lists-then ls x k l y) =
       rules = guesses;
       room = byte-in s c n e h r;
       count = byte-value s c n e h r ∙ count;
-      lists = lists-to s (take (g - 1) (drop 1 s)) count (byte-next s c n e h r) lists end l;
+      lists = rw (← count, ← byte-next s c n e h r, ← lists, ← end) l;
     }
 
 pack-3 : (s : List ℕ) (p : Pack) (g c : ℕ) (w : Ending s namesGood (readNames s) g) (v : Ending s (guessesGood (length (w .value))) (readGuesses (drop g s)) c)
@@ -160,14 +157,10 @@ pack-3 : (s : List ℕ) (p : Pack) (g c : ℕ) (w : Ending s namesGood (readName
     (λ n q. listSections s (take (g - 1) (drop 1 s)) n q (λ ls d. endSection s (record { names = w .value; guesses = v .value; lists = ls }) d)) p → IsPack s p
 pack-3 s p g c w v (staged e u y) = pack-4 s p g c w v (u .value) e (u .reads) (eqb-true _ _ (u .passes)) (u .fits) (lists-behind s _ (u .value) e _ p (u .fits) y)
 
-pack-2 : (s : List ℕ) (p : Pack) → packOf s ≡ accepted p → (g c : ℕ) (w : Ending s namesGood (readNames s) g) (v : Ending s (guessesGood (length (w .value))) (readGuesses (drop g s)) c) → IsPack s p
-pack-2 s p e g c w v = pack-3 s p g c w v (stage s _ _ readByte (drop c s) _ p byte-ends (end-here s c (v .fits)) (sym (rest-reads s g w c v) ∙ e))
-
-pack-1 : (s : List ℕ) (p : Pack) → packOf s ≡ accepted p → (g : ℕ) (w : Ending s namesGood (readNames s) g)
-    → Stage s (guessesGood (length (w .value))) (readGuesses (drop g s))
-    (λ guesses b. section (placeIn s b) (λ (n : ℕ). eqb n (listCount (length (w .value)))) (readByte b)
-    (λ n c. listSections s (namesIn s (drop g s)) n c (λ lists d. endSection s (record { names = w .value; guesses = guesses; lists = lists }) d))) p → IsPack s p
-pack-1 s p e g w (staged c v y) = pack-2 s p e g c w v
+pack-1 : (s : List ℕ) (p : Pack) → packOf s ≡ accepted p → (g : ℕ) (w : Ending s namesGood (readNames s) g) {k : List Guess → List ℕ → Verdict}
+    → Stage s (guessesGood (length (w .value))) (readGuesses (drop g s)) k p → IsPack s p
+pack-1 s p e g w (staged c v y) =
+    pack-3 s p g c w v (stage s _ _ readByte (drop c s) _ p byte-ends (end-here s c (v .fits)) (sym (rest-reads s g w c v) ∙ e))
 
 pack-0 : (s : List ℕ) (p : Pack) → packOf s ≡ accepted p
     → Stage s namesGood (readNames s)
@@ -184,13 +177,7 @@ is-pack s p e = pack-0 s p e (stage s 0 namesGood readNames s _ p names-ends (en
 -- ---- a rule keeps to the rules of the files
 
 pub record GoodRule (nm : List ℕ) (r : Rule) : Type 0 where
-  pub pattern-text : ruleText (r .pattern) ≡ true
-  pub left-text : ruleText (r .left) ≡ true
-  pub right-text : ruleText (r .right) ≡ true
-  pub expression-text : ruleText (r .expression) ≡ true
   pub pattern-formed : firstIll (r .pattern) ≡ Nothing
-  pub left-formed : firstIll (r .left) ≡ Nothing
-  pub right-formed : firstIll (r .right) ≡ Nothing
   pub expression-formed : firstIll (r .expression) ≡ Nothing
   pub pattern-some : 0 < length (r .pattern)
   pub alternatives : ℕ
@@ -201,35 +188,18 @@ good-rule nm r e =
     let t = good-texts nm r e in
     let n = good-expression nm r e in
     record {
-      pattern-text = t .pattern;
-      left-text = t .left;
-      right-text = t .right;
-      expression-text = t .expression;
       pattern-formed = text-formed (r .pattern) (t .pattern);
-      left-formed = text-formed (r .left) (t .left);
-      right-formed = text-formed (r .right) (t .right);
       expression-formed = text-formed (r .expression) (t .expression);
       pattern-some = good-pattern nm r e;
       alternatives = n .0;
       expression = n .1;
     }
 
--- where the pack is bytes, each string has at most 255
-pub record ShortRule (r : Rule) : Type 0 where
-  pub pattern : length (r .pattern) < 256
-  pub left : length (r .left) < 256
-  pub right : length (r .right) < 256
-  pub expression : length (r .expression) < 256
-
-pub short-rule : (s : List ℕ) (at : ℕ) (r : Rule) (q : List ℕ) → ((i : ℕ) → getD s i 0 < 256) → readRule (drop at s) ≡ got r q → ShortRule r
-short-rule s at r q b e =
+-- where the pack is bytes, an expression has at most 255
+pub short-expression : (s : List ℕ) (at : ℕ) (r : Rule) (q : List ℕ) → ((i : ℕ) → getD s i 0 < 256) → readRule (drop at s) ≡ got r q → length (r .expression) < 256
+short-expression s at r q b e =
     let w = rule-read s at r q e in
-    record {
-      pattern = omega (arith, w .pattern .size, b at);
-      left = omega (arith, w .left .size, b (at + 1 + length (r .pattern)));
-      right = omega (arith, w .right .size, b (at + 1 + length (r .pattern) + 1 + length (r .left)));
-      expression = omega (arith, w .expression .size, b (at + 1 + length (r .pattern) + 1 + length (r .left) + 1 + length (r .right)));
-    }
+    omega (arith, b (at + 1 + length (r .pattern) + 1 + length (r .left) + 1 + length (r .right)))
 
 -- ---- the rules of a list, one after the other
 
@@ -254,47 +224,22 @@ module _ (s nm : List ℕ) (at : ℕ) (x : Rule) (r : List ℕ) (o : readRule (d
       one-rule placed-at w value k (ih _ rest)
 
 -- what a caller of `rule_at` learns there
-record Held (s nm : List ℕ) (a b c d e f g h : ℕ) (r : Rule) (rs : List Rule) : Type 0 where
-  pattern : take (b - a) (drop a s) ≡ r .pattern
-  left : take (d - c) (drop c s) ≡ r .left
-  right : take (f - e) (drop e s) ≡ r .right
-  expression : take (h - g) (drop g s) ≡ r .expression
-  good : ruleGood nm r ≡ true
-  rest : RulesAt s nm h rs
+pub record Held (s nm : List ℕ) (a b c d e f g h : ℕ) (r : Rule) (rs : List Rule) : Type 0 where
+  pub pattern : take (b - a) (drop a s) ≡ r .pattern
+  pub good : ruleGood nm r ≡ true
+  pub rest : RulesAt s nm h rs
 
-held-by : (s nm : List ℕ) (at a b c d e f g h : ℕ) (r : Rule) (rs : List Rule) → rules.At a b c d e f g h ≡ ruleStandsAt s at → RulesAt s nm at (r ∷ rs) → Held s nm a b c d e f g h r rs
-held-by s nm at a b c d e f g h r rs o (one-rule {a = a′} {b = b′} {c = c′} {d = d′} {e = e′} {f = f′} {g = g′} {h = h′} p w v k l) =
+pub held-by : (s nm : List ℕ) (at a b c d e f g h : ℕ) (r : Rule) (rs : List Rule) → rules.At a b c d e f g h ≡ ruleStandsAt s at → RulesAt s nm at (r ∷ rs) → Held s nm a b c d e f g h r rs
+held-by s nm at a b c d e f g h r rs o (one-rule {a = a′} {b = b′} {h = h′} p w v k l) =
     let same = o ∙ p in
     let ea : a ≡ a′ = cc in
     let eb : b ≡ b′ = cc in
-    let ec : c ≡ c′ = cc in
-    let ed : d ≡ d′ = cc in
-    let ee : e ≡ e′ = cc in
-    let ef : f ≡ f′ = cc in
-    let eg : g ≡ g′ = cc in
     let eh : h ≡ h′ = cc in
     record {
       pattern = ap₂ (λ (x y : ℕ). take (x - y) (drop y s)) eb ea ∙ w .pattern ∙ ap (λ (y : Rule). y .pattern) v;
-      left = ap₂ (λ (x y : ℕ). take (x - y) (drop y s)) ed ec ∙ w .left ∙ ap (λ (y : Rule). y .left) v;
-      right = ap₂ (λ (x y : ℕ). take (x - y) (drop y s)) ef ee ∙ w .right ∙ ap (λ (y : Rule). y .right) v;
-      expression = ap₂ (λ (x y : ℕ). take (x - y) (drop y s)) eh eg ∙ w .expression ∙ ap (λ (y : Rule). y .expression) v;
       good = k;
       rest = subst (λ (x : ℕ). RulesAt s nm x rs) (sym eh) l;
     }
-
-module _ (s nm : List ℕ) (at : ℕ) (r : Rule) (rs : List Rule) (l : RulesAt s nm at (r ∷ rs)) (x : RuleAt) (o : x ≡ ruleStandsAt s at) where
-  module _ (a b c d e f g h : ℕ) (q : x ≡ rules.At a b c d e f g h) where
-    held-here : Held s nm a b c d e f g h r rs
-    held-here = held-by s nm at a b c d e f g h r rs (sym q ∙ o) l
-
-    pub held-pattern : take (b - a) (drop a s) ≡ r .pattern
-    held-pattern = held-here .pattern
-
-    pub held-good : GoodRule nm r
-    held-good = good-rule nm r (held-here .good)
-
-    pub held-rest : RulesAt s nm h rs
-    held-rest = held-here .rest
 
 -- one is there
 never-cut : (s nm : List ℕ) (at : ℕ) (r : Rule) (rs : List Rule) → rules.Cut ≡ ruleStandsAt s at → RulesAt s nm at (r ∷ rs) → ⊥
@@ -337,7 +282,7 @@ module _ (s nm : List ℕ) (at : ℕ) (rs : List Rule) (q : List ℕ) (k : listG
       record {
         count = ap countIn o ∙ sym (many-length readRule n l rs q e);
         few = leb-true _ _ (list-parts .0);
-        fits = omega (arith, w .ends, w .fits);
+        fits = omega arith;
         held = rules-by s nm n (at + 2) l rs q (sym rest ∙ ap (λ (x : ℕ). drop x s) (w .ends)) e (list-parts .1);
       }
 
@@ -350,23 +295,9 @@ unfolding readSome behind
 rules-some s nm no-rule = refl
 rules-some s nm (one-rule p w v k l) = rw (w .reads) (ap₂ (λ (x : Rule) (xs : List Rule). x ∷ xs) v (rules-some s nm l))
 
--- the list at a place of any bytes, read rule by rule
-pub rules-start : (s : List ℕ) (place n : ℕ) → n ≡ ruleCount s place → listAt s place ≡ readSome readRule n (drop (place + 2) s)
-unfolding listAt
-rules-start s place n e = ap (λ (k : ℕ). readSome readRule k (drop (place + 2) s)) (sym e)
-
-pub rules-cut : (n : ℕ) (l : List ℕ) → readRule l ≡ cut → readSome readRule n l ≡ []
-unfolding readSome behind
-rules-cut zero l e = refl
-rules-cut (suc n) l e = rw e refl
-
-pub rules-done : (n : ℕ) (l : List ℕ) → n ≤ 0 → readSome readRule n l ≡ []
-unfolding readSome
-rules-done zero l h = refl
-rules-done (suc n) l h = absurd (not-suc-le-zero h)
-
 list-some : (s nm : List ℕ) (place : ℕ) (rs : List Rule) → ListIs s nm place rs → listAt s place ≡ rs
-list-some s nm place rs w = rules-start s place (length rs) (sym (w .count)) ∙ rules-some s nm (w .held)
+unfolding listAt
+list-some s nm place rs w = rw (w .count) (rules-some s nm (w .held))
 
 -- ---- the lists, by the places that a survey leaves
 
@@ -400,53 +331,13 @@ lists-length : (s nm : List ℕ) {n at end : ℕ} {ls : List (List Rule)} → Li
 lists-length s nm no-list = refl
 lists-length s nm (one-list w l) = ap suc (lists-length s nm l)
 
--- ---- the names, as strings behind their length bytes
-
-unfoldable written : List (List ℕ) → List ℕ
-written [] = []
-written (t ∷ ts) = length t ∷ (t ++ written ts)
-
-written-by : (n : ℕ) (l t q : List ℕ) (b : Bool) → leb n (length l) ≡ b → pick b (got (take n l) (drop n l)) cut ≡ got t q → n ∷ l ≡ length t ∷ (t ++ q)
-unfolding pick
-written-by n l t q false p e = clash (cc)
-written-by n l t q true p e =
-    let text : take n l ≡ t = cc in
-    let rest : drop n l ≡ q = cc in
-    let size : n ≡ length t = sym (sym (ap length text) ∙ length-take-le n l (leb-true _ _ p)) in
-    ap₂ (λ (x : ℕ) (y : List ℕ). x ∷ y) size (sym (take-append-drop n l) ∙ ap₂ (λ (x y : List ℕ). x ++ y) text rest)
-
-text-written : (l t q : List ℕ) → readText l ≡ got t q → l ≡ length t ∷ (t ++ q)
-unfolding readText
-text-written [] t q e = clash (cc)
-text-written (n ∷ l) t q e = written-by n l t q _ refl e
-
-many-written : (n : ℕ) (l : List ℕ) (xs : List (List ℕ)) (r : List ℕ) → readMany readText n l ≡ got xs r → l ≡ written xs ++ r
-unfolding readMany written
-many-written zero l xs r e = let none : [] ≡ xs = cc in let rest : l ≡ r = cc in rest ∙ ap (λ (x : List (List ℕ)). written x ++ r) none
-many-written (suc n) l xs r e =
-    let i = then-inv (readText l) _ xs r e in
-    let j = then-inv (readMany readText n (i .1)) _ xs r (i .3) in
-    let whole : i .0 ∷ j .0 ≡ xs = cc in
-    let rest : j .1 ≡ r = cc in
-    text-written l (i .0) (i .1) (i .2) ∙ ap (λ (x : List ℕ). length (i .0) ∷ (i .0 ++ x)) (many-written n (i .1) (j .0) (j .1) (j .2))
-    ∙ sym (ap (λ (x : List ℕ). length (i .0) ∷ x) (append-assoc (i .0) (written (j .0)) (j .1)))
-    ∙ ap₂ (λ (x : List (List ℕ)) (y : List ℕ). written x ++ y) whole rest
-
-written-length : (xs : List (List ℕ)) → length (written xs) ≡ stringsLength xs
-unfolding written stringsLength
-written-length [] = refl
-written-length (t ∷ ts) = omega (arith, length-append t (written ts), written-length ts)
+-- ---- the strings of the names' bytes
 
 written-strings : (f : ℕ) (xs : List (List ℕ)) → length (written xs) ≤ f → strings f (written xs) ≡ xs
 unfolding written
 written-strings f [] h = strings-none f
 written-strings zero (t ∷ ts) h = absurd (not-suc-le-zero h)
 written-strings (suc f) (t ∷ ts) h = strings-one f t (written ts) ∙ ap (λ (x : List (List ℕ)). t ∷ x) (written-strings f ts (omega (arith, length-append t (written ts))))
-
-names-written : (s : List ℕ) (xs : List (List ℕ)) (r : List ℕ) → readNames s ≡ got xs r → drop 1 s ≡ written xs ++ r
-unfolding readNames readByte andRead
-names-written [] xs r e = clash (cc)
-names-written (b ∷ s) xs r e = many-written b s xs r e
 
 -- ---- guessing
 
@@ -486,7 +377,7 @@ module _ (s : List ℕ) (p : Pack) (g : ℕ) (e : packOf s ≡ accepted p) (q : 
   pub names-strings : stringsOf (take (g - 1) (drop 1 s)) ≡ p .names
   names-strings =
       let w = is .front in
-      let size : g - 1 ≡ length (written (w .value)) = omega (arith, q, written-length (w .value), ap stringsLength (is .names)) in
+      let size : g - 1 ≡ length (written (w .value)) = omega (arith, written-length (w .value), ap stringsLength (is .names)) in
       let bytes : take (g - 1) (drop 1 s) ≡ written (w .value) =
       ap₂ take size (names-written s (w .value) _ (w .reads)) ∙ take-append-seam (written (w .value)) (drop (is .guesses) s) in
       ap stringsOf bytes ∙ strings-all (written (w .value)) ∙ written-strings _ (w .value) (omega arith) ∙ is .names
@@ -581,5 +472,3 @@ unfolding guessedAt
 guess-below s place n name r e h =
     let k : min 32 n ≡ n = omega arith in
     subst (BitsBelow n) (sym (e ∙ ap (λ (m : ℕ). guessed m (guessesAt s place) name) k)) (guessed-below n (guessesAt s place) name)
-
-pub ruleset pack-laws = (languages-few, guesses-within, names-strings, guesses-held, guess-told, lists-counted, places-counted, list-held, list-told, list-fits, surveyed-pack, guessed-below, guess-below, good-rule, short-rule)

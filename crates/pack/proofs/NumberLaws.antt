@@ -2,11 +2,13 @@
 use mathlib.Core.Path.{_≡_, refl, ap}
 use Rattle.refusals.specs.Numbers.{numberOf}
 use Rattle.base.proofs.Arms.{clash}
-use Rattle.pack.specs.Numbers.{checkedNumbers, surveyedNumbers}
-use Rattle.pack.specs.declared.sections.Checked.{Checked}
-use Rattle.pack.specs.declared.sections.Checked.the-variants as checked
-use Rattle.pack.specs.declared.sections.Surveyed.{Surveyed}
-use Rattle.pack.specs.declared.sections.Surveyed.the-variants as surveyed
+use Rattle.pack.specs
+use specs.Numbers.{checkedNumbers, surveyedNumbers}
+use specs.declared
+use declared.sections.Checked.{Checked}
+use declared.sections.Checked.the-variants as checked
+use declared.sections.Surveyed.{Surveyed}
+use declared.sections.Surveyed.the-variants as surveyed
 
 pub checked-one : (r d : Checked) → checkedNumbers r ≡ checkedNumbers d → r ≡ d
 unfolding checkedNumbers numberOf

@@ -1,4 +1,5 @@
 -- A rule by its places, and the loop over a list. Assumes nothing.
+use borrow.Author.Needs.{needs}
 use mathlib.Core.Path.{_≡_, refl, sym, ap, ap₂, subst, _∙_}
 use mathlib.Core.Bool.{Bool, true, false}
 use mathlib.Core.List.{List, [], _∷_}
@@ -11,30 +12,33 @@ use Rattle.base.specs.Pick.{pick, and}
 use Rattle.rule.specs.Matching.{firstCode}
 use Rattle.strings.specs.declared.Next.{Next}
 use Rattle.strings.specs.declared.Next.the-variants as next
-use Rattle.strings.specs.Reading.{Read, cut, got, andRead, readText, readMany, placeIn}
-use Rattle.pack.specs.Packs.{readRule, readList, all, orderedByCode, listGood}
+use Rattle.strings.specs.Reading.{Read, cut, got, andRead, readMany, placeIn}
+use Rattle.pack.specs
+use specs.Packs.{readRule, readList, all, orderedByCode, listGood}
 use Rattle.rule_lines.specs.Rules.{Rule, rule, ruleGood}
-use Rattle.pack.specs.PlaceContracts.{placedFrom, placedRule, ruleStandsAt, countIn, ruleCount}
-use Rattle.pack.specs.Contracts.{judge, endIn, allFrom, ruleFits, rulesFrom, ruledAs, ruledIn}
+use specs.PlaceContracts.{judge, placedFrom, placedRule, ruleStandsAt, countIn, ruleCount}
+use specs.Contracts.{endIn, allFrom, ruleFits, rulesFrom, ruledAs, ruledIn}
 use Rattle.strings.specs.Contracts.{numberAt, stringAt}
 use Rattle.strings.specs.declared.Number.{Number}
 use Rattle.strings.specs.declared.Number.the-variants as number
-use Rattle.pack.specs.declared.sections.Section.{Section}
-use Rattle.pack.specs.declared.sections.Section.the-variants.{End, Bad}
-use Rattle.pack.specs.declared.rules.RuleAt.{RuleAt}
-use Rattle.pack.specs.declared.rules.RuleAt.the-variants as rules
-use Rattle.pack.specs.declared.rules.Ruled.{Ruled}
-use Rattle.pack.specs.declared.rules.Ruled.the-variants as ruled
-use Rattle.pack.proofs.Readers.{rule-ends}
+use specs.declared
+use declared.sections.Section.{Section}
+use declared.sections.Section.the-variants.{End, Bad}
+use declared.rules.RuleAt.{RuleAt}
+use declared.rules.RuleAt.the-variants as rules
+use declared.rules.Ruled.{Ruled}
+use declared.rules.Ruled.the-variants as ruled
+use Rattle.pack.proofs
+use proofs.Readers.{rule-ends}
 use Rattle.strings.proofs.Readers.{end-here, end-then, end-is, end-within, place-drop, count-of, count-cut, TextIs, text-is, text-cut, TextRead, TextThen, reads-on, text-then}
 use Rattle.base.proofs.Arms.{clash}
-use Rattle.pack.proofs.Judging.{Faulty, runs-out, Judged, fine, faulty, judged, judge-faulty, walk-on, walk-off, walk-end, counted-cut, counted-much, counted-many}
+use proofs.Judging.{Faulty, runs-out, Judged, fine, faulty, judged, judge-faulty, walk-on, walk-off, walk-end, counted-cut, counted-much, counted-many}
 use Rattle.base.proofs.PickLaws.{pick-true, pick-false, and-yes, and-first, and-second}
 
 -- ---- the strings of a rule, one after the other
 
 part-length : (s : List ℕ) (p a e : ℕ) → TextIs s p a e → length (take (e - a) (drop a s)) ≡ e - a
-part-length s p a e w = omega (arith, length-take (e - a) (drop a s), length-drop a s, w .fits, w .size)
+part-length s p a e w = omega (arith, length-take (e - a) (drop a s), length-drop a s)
 
 module _ (s : List ℕ) (place : ℕ) (x₁ : Next) (g₁ : x₁ ≡ stringAt s place) where
   pub rule-cut-1 : x₁ ≡ next.Cut → rules.Cut ≡ ruleStandsAt s place
@@ -77,17 +81,17 @@ module _ (s : List ℕ) (place : ℕ) (x₁ : Next) (g₁ : x₁ ≡ stringAt s 
             let p : ℕ = length (take (b - a) (drop a s)) in
             let l : ℕ = length (take (c - a₂) (drop a₂ s)) in
             let r : ℕ = length (take (d - a₃) (drop a₃ s)) in
-            let f₁ : b ≡ place + 1 + p = omega (arith, l₁, w .begins, w .size) in
-            let f₂ : c ≡ place + 2 + p + l = omega (arith, f₁, l₂, v .begins, v .size) in
-            let f₃ : d ≡ place + 3 + p + l + r = omega (arith, f₂, l₃, u .begins, u .size) in
-            let f₄ : e ≡ place + 4 + p + l + r + length (take (e - a₄) (drop a₄ s)) = omega (arith, f₃, l₄, t .begins, t .size) in
+            let f₁ : b ≡ place + 1 + p = omega arith in
+            let f₂ : c ≡ place + 2 + p + l = omega arith in
+            let f₃ : d ≡ place + 3 + p + l + r = omega arith in
+            let f₄ : e ≡ place + 4 + p + l + r + length (take (e - a₄) (drop a₄ s)) = omega arith in
             let g₁ : a ≡ place + 1 = w .begins in
-            let g₂ : a₂ ≡ place + 2 + p = omega (arith, f₁, v .begins) in
-            let g₃ : a₃ ≡ place + 3 + p + l = omega (arith, f₂, u .begins) in
-            let g₄ : a₄ ≡ place + 4 + p + l + r = omega (arith, f₃, t .begins) in
+            let g₂ : a₂ ≡ place + 2 + p = omega arith in
+            let g₃ : a₃ ≡ place + 3 + p + l = omega arith in
+            let g₄ : a₄ ≡ place + 4 + p + l + r = omega arith in
             rw (w .reads, v .reads, u .reads, t .reads) (cc)
 
-pub ruleset rule-at-laws = (rule-cut-1, rule-cut-2, rule-cut-3, rule-cut-4, rule-whole)
+pub ruleset rule-at-laws = (rule-cut-1, rule-cut-2, rule-cut-3, rule-cut-4, rule-whole, needs)
 
 -- a rule that is read, by its texts
 pub record RuleRead (s : List ℕ) (at : ℕ) (r : Rule) (q : List ℕ) : Type 0 where
@@ -97,29 +101,26 @@ pub record RuleRead (s : List ℕ) (at : ℕ) (r : Rule) (q : List ℕ) : Type 0
   pub expression : TextRead s (at + 1 + length (r .pattern) + 1 + length (r .left) + 1 + length (r .right)) (r .expression)
   pub rest : q ≡ drop (at + 1 + length (r .pattern) + 1 + length (r .left) + 1 + length (r .right) + 1 + length (r .expression)) s
 
-module _ (s : List ℕ) (at : ℕ) (x : Rule) (q : List ℕ) where
-  read-4 : (p f r : List ℕ) → TextRead s at p → TextRead s (at + 1 + length p) f → TextRead s (at + 1 + length p + 1 + length f) r
-      → TextThen s (at + 1 + length p + 1 + length f + 1 + length r) (λ e d. got (rule p f r e) d) x q → RuleRead s at x q
-  read-4 p f r w v u (reads-on e t g) =
-      let is : rule p f r e ≡ x = cc in
-      let rest : drop (at + 1 + length p + 1 + length f + 1 + length r + 1 + length e) s ≡ q = cc in
-      let one : RuleRead s at (rule p f r e) q = record { pattern = w; left = v; right = u; expression = t; rest = sym rest } in
-      subst (λ (y : Rule). RuleRead s at y q) is one
+-- the next string, and what is read behind it
+pub record Then {B : Type 0} (s : List ℕ) (p : ℕ) (k : List ℕ → List ℕ → Read B) (b : B) (q : List ℕ) : Type 0 where
+  pub text : List ℕ
+  pub read : TextRead s p text
+  pub rest : k text (drop (p + 1 + length text) s) ≡ got b q
 
-  read-3 : (p f : List ℕ) → TextRead s at p → TextRead s (at + 1 + length p) f
-      → TextThen s (at + 1 + length p + 1 + length f) (λ r c. andRead (readText c) (λ e d. got (rule p f r e) d)) x q → RuleRead s at x q
-  read-3 p f w v (reads-on r u g) = read-4 p f r w v u (text-then s _ _ x q g)
+pub then-text : {B : Type 0} {s : List ℕ} {p : ℕ} {k : List ℕ → List ℕ → Read B} {b : B} {q : List ℕ} → TextThen s p k b q → Then s p k b q
+then-text (reads-on t w g) = record { text = t; read = w; rest = g }
 
-  read-2 : (p : List ℕ) → TextRead s at p
-      → TextThen s (at + 1 + length p) (λ f b. andRead (readText b) (λ r c. andRead (readText c) (λ e d. got (rule p f r e) d))) x q → RuleRead s at x q
-  read-2 p w (reads-on f v g) = read-3 p f w v (text-then s _ _ x q g)
-
-  read-1 : TextThen s at (λ p a. andRead (readText a) (λ f b. andRead (readText b) (λ r c. andRead (readText c) (λ e d. got (rule p f r e) d)))) x q → RuleRead s at x q
-  read-1 (reads-on p w g) = read-2 p w (text-then s _ _ x q g)
-
-  pub rule-read : readRule (drop at s) ≡ got x q → RuleRead s at x q
-  unfolding readRule
-  rule-read g = read-1 (text-then s at _ x q g)
+pub rule-read : (s : List ℕ) (at : ℕ) (x : Rule) (q : List ℕ) → readRule (drop at s) ≡ got x q → RuleRead s at x q
+unfolding readRule
+rule-read s at x q g =
+    let p = then-text (text-then s at _ x q g) in
+    let f = then-text (text-then s (at + 1 + length (p .text)) _ x q (p .rest)) in
+    let r = then-text (text-then s (at + 1 + length (p .text) + 1 + length (f .text)) _ x q (f .rest)) in
+    let e = then-text (text-then s (at + 1 + length (p .text) + 1 + length (f .text) + 1 + length (r .text)) _ x q (r .rest)) in
+    let parts = e .rest in
+    let is : rule (p .text) (f .text) (r .text) (e .text) ≡ x = cc in
+    let rest : drop (at + 1 + length (p .text) + 1 + length (f .text) + 1 + length (r .text) + 1 + length (e .text)) s ≡ q = cc in
+    subst (λ (y : Rule). RuleRead s at y q) is (record { pattern = p .read; left = f .read; right = r .read; expression = e .read; rest = sym rest })
 
 -- a rule at a place, by its places
 pub record RuleIs (s : List ℕ) (at a b c d e f g h : ℕ) : Type 0 where
@@ -141,11 +142,12 @@ pub record RuleIs (s : List ℕ) (at a b c d e f g h : ℕ) : Type 0 where
 
 -- the part that a text is, by where it starts and ends
 part-is : (s : List ℕ) (p a e : ℕ) (t : List ℕ) → TextRead s p t → a ≡ p + 1 → e ≡ p + 1 + length t → take (e - a) (drop a s) ≡ t
-part-is s p a e t w f g = let n : e - a ≡ length t = omega (arith, f, g) in ap₂ (λ (x y : ℕ). take x (drop y s)) n f ∙ w .text
+part-is s p a e t w f g = let n : e - a ≡ length t = omega arith in ap₂ (λ (x y : ℕ). take x (drop y s)) n f ∙ w .text
 
-placed : (s : List ℕ) (at a b c d e f g h : ℕ) (r : Rule) (q : List ℕ) → readRule (drop at s) ≡ got r q → placedRule at (got r q) ≡ rules.At a b c d e f g h → RuleIs s at a b c d e f g h
+is-by : (s : List ℕ) (at a b c d e f g h : ℕ) (x : Read Rule) → readRule (drop at s) ≡ x → placedRule at x ≡ rules.At a b c d e f g h → RuleIs s at a b c d e f g h
 unfolding placedRule placedFrom
-placed s at a b c d e f g h r q o k =
+is-by s at a b c d e f g h cut o k = clash (cc)
+is-by s at a b c d e f g h (got r q) o k =
     let w = rule-read s at r q o in
     let ea : at + 1 ≡ a = cc in
     let eb : at + 1 + length (r .pattern) ≡ b = cc in
@@ -155,29 +157,24 @@ placed s at a b c d e f g h r q o k =
     let ef : at + 3 + length (r .pattern) + length (r .left) + length (r .right) ≡ f = cc in
     let eg : at + 4 + length (r .pattern) + length (r .left) + length (r .right) ≡ g = cc in
     let eh : at + 4 + length (r .pattern) + length (r .left) + length (r .right) + length (r .expression) ≡ h = cc in
-    let fh : at + 1 + length (r .pattern) + 1 + length (r .left) + 1 + length (r .right) + 1 + length (r .expression) ≡ h = omega (arith, eh) in
+    let fh : at + 1 + length (r .pattern) + 1 + length (r .left) + 1 + length (r .right) + 1 + length (r .expression) ≡ h = omega arith in
     record {
       value = r;
       reads = o ∙ ap (got r) (w .rest ∙ ap (λ (n : ℕ). drop n s) fh);
-      begins = omega (arith, ea);
-      one = omega (arith, ea, eb);
-      two = omega (arith, eb, ec);
-      three = omega (arith, ec, ed);
-      four = omega (arith, ed, ee);
-      five = omega (arith, ee, ef);
-      six = omega (arith, ef, eg);
-      seven = omega (arith, eg, eh);
-      fits = omega (arith, w .expression .fits, fh);
+      begins = omega arith;
+      one = omega arith;
+      two = omega arith;
+      three = omega arith;
+      four = omega arith;
+      five = omega arith;
+      six = omega arith;
+      seven = omega arith;
+      fits = omega arith;
       pattern = part-is s at a b (r .pattern) (w .pattern) (sym ea) (sym eb);
-      left = part-is s _ c d (r .left) (w .left) (omega (arith, ec)) (omega (arith, ed));
-      right = part-is s _ e f (r .right) (w .right) (omega (arith, ee)) (omega (arith, ef));
-      expression = part-is s _ g h (r .expression) (w .expression) (omega (arith, eg)) (omega (arith, eh));
+      left = part-is s _ c d (r .left) (w .left) (omega arith) (omega arith);
+      right = part-is s _ e f (r .right) (w .right) (omega arith) (omega arith);
+      expression = part-is s _ g h (r .expression) (w .expression) (omega arith) (omega arith);
     }
-
-is-by : (s : List ℕ) (at a b c d e f g h : ℕ) (x : Read Rule) → readRule (drop at s) ≡ x → placedRule at x ≡ rules.At a b c d e f g h → RuleIs s at a b c d e f g h
-unfolding placedRule
-is-by s at a b c d e f g h cut o k = clash (cc)
-is-by s at a b c d e f g h (got r q) o k = placed s at a b c d e f g h r q o k
 
 cut-by : (s : List ℕ) (at : ℕ) (x : Read Rule) → readRule (drop at s) ≡ x → placedRule at x ≡ rules.Cut → readRule (drop at s) ≡ cut
 unfolding placedRule placedFrom
@@ -203,18 +200,18 @@ pub rules-none : (s : List ℕ) (at : ℕ) (r : Number) → r ≡ numberAt 2 s a
 unfolding ruleCount countIn
 rules-none s at r p q = sym (ap countIn (count-cut s at r p q))
 
-pub ruleset count-laws = (rules-many, rules-none)
+pub ruleset count-laws = (rules-many, rules-none, needs)
 
 -- ---- a rule behind another
 
 module _ (names : List ℕ) (least end : ℕ) (p l r e : List ℕ) (code : ℕ) (h : code ≡ firstCode p) where
   pub behind-below : code < least → ruled.Bad ≡ ruledAs names least end (rule p l r e)
   unfolding ruledAs ruleFits
-  behind-below o = let low : firstCode p < least = omega (arith, h) in sym (pick-false _ _ _ (and-first _ _ (lt-leb _ _ low)))
+  behind-below o = let low : firstCode p < least = omega arith in sym (pick-false _ _ _ (and-first _ _ (lt-leb _ _ low)))
 
   module _ (t : Bool) (k : t ≡ ruleGood names (rule p l r e)) (o : least ≤ code) where
     high : leb least (firstCode p) ≡ true
-    high = let up : least ≤ firstCode p = omega (arith, h) in le-leb _ _ up
+    high = let up : least ≤ firstCode p = omega arith in le-leb _ _ up
 
     pub behind-bad : t ≡ false → ruled.Bad ≡ ruledAs names least end (rule p l r e)
     unfolding ruledAs ruleFits
@@ -224,7 +221,7 @@ module _ (names : List ℕ) (least end : ℕ) (p l r e : List ℕ) (code : ℕ) 
     unfolding ruledAs ruleFits
     behind-good v = ap (ruled.Next end) h ∙ sym (pick-true _ _ _ (and-yes _ _ high (sym k ∙ v)))
 
-pub ruleset behind-laws = (behind-below, behind-bad, behind-good)
+pub ruleset behind-laws = (behind-below, behind-bad, behind-good, needs)
 
 module _ (s : List ℕ) (at : ℕ) (x : RuleAt) (o : x ≡ ruleStandsAt s at) where
   pub next-cut : (names : List ℕ) (least : ℕ) → x ≡ rules.Cut → ruled.Bad ≡ ruledIn s names least (readRule (drop at s))
@@ -239,19 +236,19 @@ module _ (s : List ℕ) (at : ℕ) (x : RuleAt) (o : x ≡ ruleStandsAt s at) wh
     pattern-order = here .one
 
     pub pattern-fits : b ≤ length s
-    pattern-fits = let w = here in omega (arith, w .two, w .three, w .four, w .five, w .six, w .seven, w .fits)
+    pattern-fits = let w = here in omega arith
 
     pub left-order : c ≤ d
     left-order = here .three
 
     pub left-fits : d ≤ length s
-    left-fits = let w = here in omega (arith, w .four, w .five, w .six, w .seven, w .fits)
+    left-fits = let w = here in omega arith
 
     pub right-order : e ≤ f
     right-order = here .five
 
     pub right-fits : f ≤ length s
-    right-fits = let w = here in omega (arith, w .six, w .seven, w .fits)
+    right-fits = let w = here in omega arith
 
     pub expression-order : g ≤ h
     expression-order = here .seven
@@ -272,7 +269,7 @@ module _ (s : List ℕ) (at : ℕ) (x : RuleAt) (o : x ≡ ruleStandsAt s at) wh
         ∙ ap (λ (n : ℕ). ruledAs names least n (here .value)) (sym (place-drop s h (here .fits)))
         ∙ sym (ap (ruledIn s names least) (here .reads))
 
-pub ruleset next-rule-laws = (next-cut, pattern-order, pattern-fits, left-order, left-fits, right-order, right-fits, expression-order, expression-fits, next-rule)
+pub ruleset next-rule-laws = (next-cut, pattern-order, pattern-fits, left-order, left-fits, right-order, right-fits, expression-order, expression-fits, next-rule, needs)
 
 -- ---- the rules of a list
 
@@ -302,7 +299,7 @@ ruling-by s names at least e code w (fine r q g h y) =
       reads = g ∙ ap (got r) (end-is o ∙ ap (λ (n : ℕ). drop n s) place);
       passes = h;
       first = cc;
-      fits = omega (arith, place, end-within o);
+      fits = omega (arith, end-within o);
     }
 
 off-by : (s names : List ℕ) (at least : ℕ)
@@ -331,7 +328,7 @@ module _ {s names : List ℕ} {start count at left least : ℕ} (w : Listing s n
   unfolding rulesFrom pick
   listing-done h = sym (w .is ∙ walk-end s readRule (ruleFits names) (λ m r. firstCode (r .pattern)) (λ m. true) least left at h (w .within))
 
-pub ruleset listing-laws = (listing-start, listing-next, listing-bad, listing-done)
+pub ruleset listing-laws = (listing-start, listing-next, listing-bad, listing-done, needs)
 
 -- ---- a list is good where each of its rules is, behind the one before
 
@@ -344,7 +341,7 @@ unfolding orderedByCode firstFits and
 ordered-is x [] = refl
 ordered-is x (y ∷ xs) = refl
 
-swap : (l g a o : Bool) → and (and l g) (and a o) ≡ and (and g a) (and l o)
+pub swap : (l g a o : Bool) → and (and l g) (and a o) ≡ and (and g a) (and l o)
 unfolding and
 swap true true a o = refl
 swap true false a o = refl
@@ -398,4 +395,4 @@ module _ (s names : List ℕ) (at : ℕ) (r : Number) (p : r ≡ numberAt 2 s at
     unfolding readList
     list-many = counted-many s readRule (listGood names) (rulesFrom names 0) 4096 (list-not names) (list-is names) at r p n d q
 
-pub ruleset list-laws = (list-cut, list-much, list-starts, list-many)
+pub ruleset list-laws = (list-cut, list-much, list-starts, list-many, needs)

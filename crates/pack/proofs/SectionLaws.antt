@@ -1,14 +1,14 @@
 -- The names, the lists and the survey: the loops over them, and that the sections one after the other are the pack. Assumes nothing.
 use mathlib.Core.Path.{_≡_, refl, sym, ap, ap₂, _∙_}
 use mathlib.Core.Bool.{Bool, true, false}
-use mathlib.Core.List.{List, [], _∷_}
+use mathlib.Core.List.{List, [], _∷_, _++_, append-assoc}
 use Prim.Native.Nat.{ℕ, zero, suc, _+_, _-_, _*_, _≤_, _<_, zero-le}
 use native.Mathlib.Nat.{not-suc-le-zero}
 use native.Mathlib.Numerals.{add-one}
 use native.Mathlib.Omega.{arith}
-use lib.Dec.{eqb}
-use lib.ListN.{length, getD, take, drop, set, length-drop, length-set}
-use lib.Seq.{sets, set-out}
+use lib.Dec.{eqb, leb}
+use lib.ListN.{length, getD, take, drop, set, length-append, length-drop, length-set, take-append-drop}
+use lib.Seq.{sets, set-out, length-take-le}
 use borrow.Author.Needs.{needs}
 use borrow.Author.Tests.{le-leb, lt-leb, leb-true, eq-eqb, ne-eqb}
 use Rattle.base.specs.Pick.{pick, and}
@@ -21,24 +21,28 @@ use Rattle.languages.proofs.Laws.{name-some}
 use Rattle.strings.specs.declared.Next.{Next}
 use Rattle.strings.specs.declared.Next.the-variants as next
 use Rattle.strings.specs.Reading.{Read, cut, got, andRead, readByte, readText, readMany, placeIn, isNil}
-use Rattle.pack.specs.Packs.{Pack, Verdict, accepted, refused, readNames, readGuesses, readList, all, holds, any, namesGood, guessesGood, listGood, section, namesIn, listCount, listSections, endSection, packOf, verdictOf, stringsLength}
+use Rattle.pack.specs
+use specs.Packs.{Pack, Verdict, accepted, refused, readNames, readGuesses, readList, all, holds, any, namesGood, guessesGood, listGood, section, namesIn, listCount, listSections, endSection, packOf, verdictOf, stringsLength}
 use Rattle.rule_lines.specs.Rules.{Rule}
-use Rattle.pack.specs.PlaceContracts.{surveyedOf, behindRule, foundIn, placesOf, SurveyIs}
-use Rattle.pack.specs.Contracts.{judge, endIn, allFrom, past, follows, metBy, namesFrom, listsEnd, ListsAre, ended, restOf, restPlaces, RestIs}
+use specs.PlaceContracts.{surveyedOf, judge, foundIn, placesOf, SurveyIs}
+use specs.Contracts.{endIn, allFrom, past, follows, metBy, namesFrom, listsEnd, ListsAre, ended, restOf, restPlaces, RestIs}
 use Rattle.strings.specs.Contracts.{ByteIs, stringAt}
-use Rattle.pack.specs.declared.sections.Section.{Section}
-use Rattle.pack.specs.declared.sections.Section.the-variants.{End, Bad}
-use Rattle.pack.specs.declared.sections.Lists.{Lists}
-use Rattle.pack.specs.declared.sections.Lists.the-variants as lists
-use Rattle.pack.specs.declared.sections.Checked.{Checked}
-use Rattle.pack.specs.declared.sections.Checked.the-variants as checked
-use Rattle.pack.specs.declared.sections.Surveyed.{Surveyed}
-use Rattle.pack.specs.declared.sections.Surveyed.the-variants as surveyed
-use Rattle.pack.proofs.NumberLaws.{surveyed-one, surveyed-told}
-use Rattle.pack.proofs.Readers.{names-ends, guesses-ends, list-ends}
-use Rattle.strings.proofs.Readers.{EndOf, end-here, end-then, end-length, place-drop, then-inv, many-length, byte-ends, byte-some, byte-none, text-is, text-cut, text-read, text-rest}
+use specs.declared
+use declared.sections.Section.{Section}
+use declared.sections.Section.the-variants.{End, Bad}
+use declared.sections.Lists.{Lists}
+use declared.sections.Lists.the-variants as lists
+use declared.sections.Checked.{Checked}
+use declared.sections.Checked.the-variants as checked
+use declared.sections.Surveyed.{Surveyed}
+use declared.sections.Surveyed.the-variants as surveyed
+use Rattle.pack.proofs
+use proofs.NumberLaws.{surveyed-one, surveyed-told}
+use proofs.RuleLaws.{swap}
+use proofs.Readers.{names-ends, guesses-ends, list-ends}
+use Rattle.strings.proofs.Readers.{EndOf, end-here, end-then, end-length, place-drop, then-inv, many-length, byte-ends, byte-some, byte-none, text-is, text-cut}
 use Rattle.base.proofs.Arms.{clash}
-use Rattle.pack.proofs.Judging.{Faulty, runs-out, fails, Ending, section-ends, section-faulty, judge-fine, judge-faulty, judge-same, walk-on, walk-off, walk-end}
+use proofs.Judging.{Faulty, runs-out, fails, Ending, much-by, section-ends, section-faulty, judge-fine, judge-faulty, judge-same, walk-on, walk-off, walk-end}
 use Rattle.base.proofs.PickLaws.{pick-true, pick-false, and-first, and-inv, and-assoc, pick-map}
 
 -- ---- the names, one after the other
@@ -71,14 +75,6 @@ unfolding pick
 met-is true t h = refl
 met-is false t h = refl
 
-swap : (o l a i h : Bool) → and (and o l) (and a (and i h)) ≡ and (and l a) (and o (and i h))
-unfolding and
-swap true true a i h = refl
-swap true false a i h = refl
-swap false true true i h = refl
-swap false true false i h = refl
-swap false false a i h = refl
-
 -- the loop's test of what is left, from the name before it and whether `any` was met
 names-nil : (p : List ℕ) (m : Bool) → namesFrom (past p m) [] ≡ and (all languageName []) (and (shift p []) (and (increasing []) (pick m true (holds any []))))
 unfolding namesFrom allFrom all shift increasing holds and pick
@@ -93,7 +89,7 @@ names-cons p x m xs ih =
     ap (and (follows p x)) (ih
     ∙ ap (and (all languageName xs)) (sym (and-assoc (shift x xs) (increasing xs) (pick (metBy m x) true (holds any xs)))
     ∙ ap₂ and (sym (increasing-is x xs)) (met-is m (sameText x any) (holds any xs))))
-    ∙ swap (isLess (orderOf p x)) (languageName x) (all languageName xs) (increasing (x ∷ xs)) (pick m true (pick (sameText x any) true (holds any xs)))
+    ∙ swap (isLess (orderOf p x)) (languageName x) (all languageName xs) _
 
 names-are : (p : List ℕ) (m : Bool) (xs : List (List ℕ)) → namesFrom (past p m) xs ≡ and (all languageName xs) (and (shift p xs) (and (increasing xs) (pick m true (holds any xs))))
 names-are p m [] = names-nil p m
@@ -125,10 +121,6 @@ names-not : (xs : List (List ℕ)) → 32 < length xs → namesGood xs ≡ false
 unfolding namesGood
 names-not xs h = and-first _ _ (lt-leb _ _ h)
 
-much-by : (l : List ℕ) (n : ℕ) (x : Read (List (List ℕ))) → readMany readText n l ≡ x → 32 < n → Faulty namesGood x
-much-by l n cut e h = runs-out refl
-much-by l n (got xs q) e h = let long : 32 < length xs = omega (arith, many-length readText n l xs q e) in fails xs q refl (names-not xs long)
-
 names-reads : (s : List ℕ) → (length s ≡ 0 → ⊥) → readNames s ≡ readMany readText (getD s 0 0) (drop 1 s)
 unfolding readNames readByte andRead
 names-reads [] h = absurd (h refl)
@@ -145,7 +137,7 @@ module _ (s : List ℕ) (n : ℕ) (h : length s ≡ 0 → ⊥) (b : ByteIs s 0 n
 
   pub names-much : 32 < n → Bad ≡ endIn s namesGood (readNames s)
   unfolding endIn
-  names-much l = sym (ap (endIn s namesGood) reads-n ∙ judge-faulty _ _ _ _ (much-by _ n _ refl l))
+  names-much l = sym (ap (endIn s namesGood) reads-n ∙ judge-faulty _ _ _ _ (much-by readText namesGood 32 names-not _ n _ refl l))
 
 pub record Naming (s : List ℕ) (from at left : ℕ) (met : Bool) : Type 0 where
   pub order : from ≤ at
@@ -169,7 +161,7 @@ module _ {s : List ℕ} {from at left : ℕ} {met : Bool} (w : Naming s from at 
 
     module _ (a e : ℕ) (q : x ≡ next.Whole a e) where
       pub name-order : a ≤ e
-      name-order = let v = text-is s at x g a e q in omega (arith, v .size)
+      name-order = let v = text-is s at x g a e q in omega arith
 
       pub name-fits : e ≤ length s
       name-fits = text-is s at x g a e q .fits
@@ -203,20 +195,15 @@ pub ruleset naming-laws = (names-none, names-much, naming-start, naming-cut, nam
 pub put-out : (l : List ℕ) (k v : ℕ) → length l ≤ k → l ≡ set l k v
 put-out l k v h = sym (set-out l k v h)
 
-pub record Found (s names : List ℕ) (start count : ℕ) (table : List ℕ) (at left k : ℕ) (table′ : List ℕ) : Type 0 where
+pub record Found (s names : List ℕ) (start count : ℕ) (places : List ℕ) (at left k : ℕ) (places′ : List ℕ) : Type 0 where
   pub within : at ≤ length s
   pub counted : k + left ≡ count
-  pub same : length table′ ≡ length table
+  pub same : length places′ ≡ length places
   pub is : listsEnd s names count (drop start s) ≡ listsEnd s names left (drop at s)
-  pub stored : sets table 0 (foundIn s names count (drop start s)) ≡ sets table′ k (foundIn s names left (drop at s))
+  pub stored : sets places 0 (foundIn s names count (drop start s)) ≡ sets places′ k (foundIn s names left (drop at s))
 
-pub found-start : (s names : List ℕ) (start count : ℕ) (table : List ℕ) → start ≤ length s → Found s names start count table start count 0 table
-found-start s names start count table h = record { within = h; counted = omega arith; same = refl; is = refl; stored = refl }
-
-after-is : {A : Type 0} (good : A → Bool) (rd : Read A) (k : A → List ℕ → List ℕ) → behindRule good rd k ≡ judge [] good rd k
-unfolding behindRule judge
-after-is good cut k = refl
-after-is good (got a r) k = refl
+pub found-start : (s names : List ℕ) (start count : ℕ) (places : List ℕ) → start ≤ length s → Found s names start count places start count 0 places
+found-start s names start count places h = record { within = h; counted = omega arith; same = refl; is = refl; stored = refl }
 
 ends-one : (s names : List ℕ) (n : ℕ) (r : List ℕ) (rules : List Rule) (q : List ℕ) → 0 < n → readList r ≡ got rules q → listGood names rules ≡ true
     → listsEnd s names n r ≡ listsEnd s names (n - 1) q
@@ -234,50 +221,50 @@ pub found-one : (s names : List ℕ) (n : ℕ) (r : List ℕ) (rules : List Rule
 unfolding foundIn
 found-one s names zero r rules q h e g = absurd (not-suc-le-zero h)
 found-one s names (suc n) r rules q h e g =
-    let m : n ≡ suc n - 1 = omega arith in after-is _ _ _ ∙ judge-fine _ _ _ _ rules q e g ∙ ap (λ (k : ℕ). placeIn s r ∷ foundIn s names k q) m
+    let m : n ≡ suc n - 1 = omega arith in judge-fine _ _ _ _ rules q e g ∙ ap (λ (k : ℕ). placeIn s r ∷ foundIn s names k q) m
 
 found-none : (s names : List ℕ) (n : ℕ) (r : List ℕ) → Faulty (listGood names) (readList r) → foundIn s names n r ≡ []
 unfolding foundIn
 found-none s names zero r f = refl
-found-none s names (suc n) r f = after-is _ _ _ ∙ judge-faulty _ _ _ _ f
+found-none s names (suc n) r f = judge-faulty _ _ _ _ f
 
-module _ {s names : List ℕ} {start count : ℕ} {table : List ℕ} {at left k : ℕ} {table′ : List ℕ} (w : Found s names start count table at left k table′) where
+module _ {s names : List ℕ} {start count : ℕ} {places : List ℕ} {at left k : ℕ} {places′ : List ℕ} (w : Found s names start count places at left k places′) where
   module _ (x : Section) (g : x ≡ endIn s (listGood names) (readList (drop at s))) (h : 0 < left) where
-    pub found-next : (e : ℕ) (table″ : List ℕ) → x ≡ End e → table″ ≡ set table′ k at → Found s names start count table e (left - 1) (k + 1) table″
-    found-next e table″ q f =
+    pub found-next : (e : ℕ) (places″ : List ℕ) → x ≡ End e → places″ ≡ set places′ k at → Found s names start count places e (left - 1) (k + 1) places″
+    found-next e places″ q f =
         let o = section-ends s (listGood names) readList (drop at s) x g list-ends (end-here s at (w .within)) e q in
         record {
           within = o .fits;
-          counted = omega (arith, w .counted);
-          same = ap length f ∙ length-set table′ k at ∙ w .same;
+          counted = omega arith;
+          same = ap length f ∙ length-set places′ k at ∙ w .same;
           is = w .is ∙ ends-one s names left _ (o .value) _ h (o .reads) (o .passes);
-          stored = w .stored ∙ ap (sets table′ k) (found-one s names left _ (o .value) _ h (o .reads) (o .passes))
-              ∙ ap₂ (λ (l : List ℕ) (v : ℕ). sets l v (foundIn s names (left - 1) (drop e s))) (ap (set table′ k) (place-drop s at (w .within)) ∙ sym f) (sym (add-one k));
+          stored = w .stored ∙ ap (sets places′ k) (found-one s names left _ (o .value) _ h (o .reads) (o .passes))
+              ∙ ap₂ (λ (l : List ℕ) (v : ℕ). sets l v (foundIn s names (left - 1) (drop e s))) (ap (set places′ k) (place-drop s at (w .within)) ∙ sym f) (sym (add-one k));
         }
 
-    pub found-fault : x ≡ Bad → ListsAre s names count start table (lists.Fault at) table′
+    pub found-fault : x ≡ Bad → ListsAre s names count start places (lists.Fault at) places′
     found-fault q =
         let o = section-faulty s (listGood names) readList (drop at s) x g q in
         record {
           result = sym (w .is ∙ ends-none s names left _ h o ∙ ap lists.Fault (place-drop s at (w .within)));
-          buffer = sym (w .stored ∙ ap (sets table′ k) (found-none s names left _ o));
+          buffer = sym (w .stored ∙ ap (sets places′ k) (found-none s names left _ o));
         }
 
-  pub found-done : left ≤ 0 → ListsAre s names count start table (lists.Done at) table′
+  pub found-done : left ≤ 0 → ListsAre s names count start places (lists.Done at) places′
   unfolding listsEnd foundIn
   found-done h =
       let none : left ≡ 0 = omega arith in
       record {
         result = sym (w .is ∙ ap (λ (n : ℕ). listsEnd s names n (drop at s)) none ∙ ap lists.Done (place-drop s at (w .within)));
-        buffer = sym (w .stored ∙ ap (λ (n : ℕ). sets table′ k (foundIn s names n (drop at s))) none);
+        buffer = sym (w .stored ∙ ap (λ (n : ℕ). sets places′ k (foundIn s names n (drop at s))) none);
       }
 
 pub ruleset found-laws = (found-start, found-next, found-fault, found-done, needs)
 
 -- ---- the list count, the lists and the end
 
-module _ (s names : List ℕ) (n at : ℕ) (table : List ℕ) where
-  pub rest-none : length s ≤ at → at ≤ length s → RestIs s names n at table (checked.Refused at) table
+module _ (s names : List ℕ) (n at : ℕ) (places : List ℕ) where
+  pub rest-none : length s ≤ at → at ≤ length s → RestIs s names n at places (checked.Refused at) places
   unfolding restOf restPlaces judge
   rest-none h w = record { result = rw (byte-none s at h) (ap checked.Refused (sym (place-drop s at w))); buffer = rw (byte-none s at h) refl }
 
@@ -285,33 +272,33 @@ module _ (s names : List ℕ) (n at : ℕ) (table : List ℕ) where
     byte-reads : readByte (drop at s) ≡ got k (drop (at + 1) s)
     byte-reads = byte-some s at h ∙ ap (λ (x : ℕ). got x (drop (at + 1) s)) (sym (b .is))
 
-    pub rest-count : (k ≡ 3 * n + 2 → ⊥) → RestIs s names n at table (checked.Refused at) table
+    pub rest-count : (k ≡ 3 * n + 2 → ⊥) → RestIs s names n at places (checked.Refused at) places
     unfolding restOf restPlaces listCount
     rest-count e =
         let f : Faulty (λ (c : ℕ). eqb c (3 * n + 2)) (readByte (drop at s)) = fails k _ byte-reads (ne-eqb _ _ e) in
         let w : at ≤ length s = omega arith in
         record {
           result = sym (judge-faulty _ _ _ _ f ∙ ap checked.Refused (place-drop s at w));
-          buffer = sym (ap (sets table 0) (judge-faulty _ _ _ _ f));
+          buffer = sym (ap (sets places 0) (judge-faulty _ _ _ _ f));
         }
 
-    module _ (e : k ≡ 3 * n + 2) (x : Lists) (table′ : List ℕ) (l : ListsAre s names k (at + 1) table x table′) where
-      rest-by : (y : Checked) → y ≡ ended s x → RestIs s names n at table y table′
+    module _ (e : k ≡ 3 * n + 2) (x : Lists) (places′ : List ℕ) (l : ListsAre s names k (at + 1) places x places′) where
+      rest-by : (y : Checked) → y ≡ ended s x → RestIs s names n at places y places′
       unfolding restOf restPlaces listCount
       rest-by y q = record {
         result = q ∙ ap (ended s) (l .result) ∙ sym (judge-fine _ _ _ _ k _ byte-reads (eq-eqb _ _ e));
-        buffer = l .buffer ∙ ap (sets table 0) (sym (judge-fine _ _ _ _ k _ byte-reads (eq-eqb _ _ e)));
+        buffer = l .buffer ∙ ap (sets places 0) (sym (judge-fine _ _ _ _ k _ byte-reads (eq-eqb _ _ e)));
       }
 
-      pub rest-fault : (p : ℕ) → x ≡ lists.Fault p → RestIs s names n at table (checked.Refused p) table′
+      pub rest-fault : (p : ℕ) → x ≡ lists.Fault p → RestIs s names n at places (checked.Refused p) places′
       unfolding ended
       rest-fault p q = rest-by _ (sym (ap (ended s) q))
 
-      pub rest-ends : (p : ℕ) → x ≡ lists.Done p → p ≡ length s → RestIs s names n at table checked.Accepted table′
+      pub rest-ends : (p : ℕ) → x ≡ lists.Done p → p ≡ length s → RestIs s names n at places checked.Accepted places′
       unfolding ended
       rest-ends p q f = rest-by _ (sym (ap (ended s) q ∙ pick-true _ _ _ (eq-eqb _ _ f)))
 
-      pub rest-more : (p : ℕ) → x ≡ lists.Done p → (p ≡ length s → ⊥) → RestIs s names n at table (checked.Refused p) table′
+      pub rest-more : (p : ℕ) → x ≡ lists.Done p → (p ≡ length s → ⊥) → RestIs s names n at places (checked.Refused p) places′
       unfolding ended
       rest-more p q f = rest-by _ (sym (ap (ended s) q ∙ pick-false _ _ _ (ne-eqb _ _ f)))
 
@@ -349,7 +336,7 @@ told-step names place good x k j e =
 nil-is : (s r : List ℕ) → EndOf s r → isNil r ≡ eqb (placeIn s r) (length s)
 unfolding isNil placeIn
 nil-is s [] v = sym (eq-eqb (length s - 0) (length s) (omega arith))
-nil-is s (x ∷ r) v = sym (ne-eqb (length s - suc (length r)) (length s) (λ e. omega (arith, end-length v, v .within)))
+nil-is s (x ∷ r) v = sym (ne-eqb (length s - suc (length r)) (length s) (λ e. omega (arith, end-length v)))
 
 end-by : (s : List ℕ) (names : List (List ℕ)) (e : ℕ) (p : Pack) (t : Bool) → p .names ≡ names → surveyedOf (pick t (accepted p) (refused e)) ≡ told names (pick t checked.Accepted (checked.Refused e))
 unfolding surveyedOf told pick
@@ -371,24 +358,45 @@ lists-told s nm names (suc n) r mk v h =
 
 -- ---- what the names tell
 
-text-bytes : (l t q : List ℕ) → readText l ≡ got t q → length l ≡ 1 + length t + length q
-text-bytes l t q e =
-    let w = text-read l 0 t q e in
-    let r : length q ≡ length l - (0 + 1 + length t) = ap length (text-rest l 0 t q e) ∙ length-drop (0 + 1 + length t) l in
-    omega (arith, w .fits, r)
+unfoldable pub written : List (List ℕ) → List ℕ
+written [] = []
+written (t ∷ ts) = length t ∷ (t ++ written ts)
 
-many-bytes : (n : ℕ) (l : List ℕ) (xs : List (List ℕ)) (r : List ℕ) → readMany readText n l ≡ got xs r → length l ≡ stringsLength xs + length r
-unfolding readMany stringsLength
-many-bytes zero l xs r e =
-    let none : xs ≡ [] = cc in
-    let rest : l ≡ r = cc in
-    omega (arith, ap stringsLength none, ap length rest)
-many-bytes (suc n) l xs r e =
+written-by : (n : ℕ) (l t q : List ℕ) (b : Bool) → leb n (length l) ≡ b → pick b (got (take n l) (drop n l)) cut ≡ got t q → n ∷ l ≡ length t ∷ (t ++ q)
+unfolding pick
+written-by n l t q false p e = clash (cc)
+written-by n l t q true p e =
+    let text : take n l ≡ t = cc in
+    let rest : drop n l ≡ q = cc in
+    let size : n ≡ length t = sym (sym (ap length text) ∙ length-take-le n l (leb-true _ _ p)) in
+    ap₂ (λ (x : ℕ) (y : List ℕ). x ∷ y) size (sym (take-append-drop n l) ∙ ap₂ (λ (x y : List ℕ). x ++ y) text rest)
+
+text-written : (l t q : List ℕ) → readText l ≡ got t q → l ≡ length t ∷ (t ++ q)
+unfolding readText
+text-written [] t q e = clash (cc)
+text-written (n ∷ l) t q e = written-by n l t q _ refl e
+
+many-written : (n : ℕ) (l : List ℕ) (xs : List (List ℕ)) (r : List ℕ) → readMany readText n l ≡ got xs r → l ≡ written xs ++ r
+unfolding readMany written
+many-written zero l xs r e = let none : [] ≡ xs = cc in let rest : l ≡ r = cc in rest ∙ ap (λ (x : List (List ℕ)). written x ++ r) none
+many-written (suc n) l xs r e =
     let i = then-inv (readText l) _ xs r e in
     let j = then-inv (readMany readText n (i .1)) _ xs r (i .3) in
     let whole : i .0 ∷ j .0 ≡ xs = cc in
     let rest : j .1 ≡ r = cc in
-    omega (arith, text-bytes l (i .0) (i .1) (i .2), many-bytes n (i .1) (j .0) (j .1) (j .2), ap stringsLength whole, ap length rest)
+    text-written l (i .0) (i .1) (i .2) ∙ ap (λ (x : List ℕ). length (i .0) ∷ (i .0 ++ x)) (many-written n (i .1) (j .0) (j .1) (j .2))
+    ∙ sym (ap (λ (x : List ℕ). length (i .0) ∷ x) (append-assoc (i .0) (written (j .0)) (j .1)))
+    ∙ ap₂ (λ (x : List (List ℕ)) (y : List ℕ). written x ++ y) whole rest
+
+pub written-length : (xs : List (List ℕ)) → length (written xs) ≡ stringsLength xs
+unfolding written stringsLength
+written-length [] = refl
+written-length (t ∷ ts) = omega (arith, length-append t (written ts), written-length ts)
+
+pub names-written : (s : List ℕ) (xs : List (List ℕ)) (r : List ℕ) → readNames s ≡ got xs r → drop 1 s ≡ written xs ++ r
+unfolding readNames readByte andRead
+names-written [] xs r e = clash (cc)
+names-written (b ∷ s) xs r e = many-written b s xs r e
 
 pub names-count : (s : List ℕ) (xs : List (List ℕ)) (r : List ℕ) → readNames s ≡ got xs r → length xs ≡ getD s 0 0
 unfolding readNames readByte andRead
@@ -398,16 +406,16 @@ names-count (b ∷ s) xs r e = many-length readText b s xs r e
 pub names-bytes : (s : List ℕ) (xs : List (List ℕ)) (r : List ℕ) → readNames s ≡ got xs r → length s ≡ 1 + stringsLength xs + length r
 unfolding readNames readByte andRead
 names-bytes [] xs r e = clash (cc)
-names-bytes (b ∷ s) xs r e = omega (arith, many-bytes b s xs r e)
+names-bytes (b ∷ s) xs r e = omega (arith, ap length (many-written b s xs r e), length-append (written xs) r, written-length xs)
 
 -- the names' section of s ends at g
 module _ (s : List ℕ) (g : ℕ) (w : Ending s namesGood (readNames s) g) where
   pub names-end : g ≡ 1 + stringsLength (w .value)
-  names-end = omega (arith, names-bytes s (w .value) _ (w .reads), length-drop g s, w .fits)
+  names-end = omega (arith, names-bytes s (w .value) _ (w .reads), length-drop g s)
 
   pub names-in : namesIn s (drop g s) ≡ take (g - 1) (drop 1 s)
   unfolding namesIn
-  names-in = let e : length s - 1 - length (drop g s) ≡ g - 1 = omega (arith, length-drop g s, w .fits, names-end) in ap (λ (n : ℕ). take n (drop 1 s)) e
+  names-in = let e : length s - 1 - length (drop g s) ≡ g - 1 = omega (arith, length-drop g s, names-end) in ap (λ (n : ℕ). take n (drop 1 s)) e
 
   pub names-few : length (w .value) ≤ 32
   unfolding namesGood
@@ -435,20 +443,20 @@ module _ (s : List ℕ) (g : ℕ) (w : Ending s namesGood (readNames s) g) where
     pub rest-places : placesOf s ≡ restPlaces s (take (g - 1) (drop 1 s)) (length (w .value)) (drop c s)
     unfolding placesOf restPlaces
     rest-places =
-        after-is _ _ _ ∙ judge-fine _ _ _ _ (w .value) _ (w .reads) (w .passes)
-        ∙ after-is _ _ _ ∙ judge-fine _ _ _ _ (v .value) _ (v .reads) (v .passes)
-        ∙ after-is _ _ _ ∙ ap (λ (nm : List ℕ). judge [] (λ (n : ℕ). eqb n (listCount (length (w .value)))) (readByte (drop c s)) (λ n q. foundIn s nm n q)) names-in
+        judge-fine _ _ _ _ (w .value) _ (w .reads) (w .passes)
+        ∙ judge-fine _ _ _ _ (v .value) _ (v .reads) (v .passes)
+        ∙ ap (λ (nm : List ℕ). judge [] (λ (n : ℕ). eqb n (listCount (length (w .value)))) (readByte (drop c s)) (λ n q. foundIn s nm n q)) names-in
 
 -- ---- the survey
 
-module _ (s table : List ℕ) (x₁ : Section) (e₁ : x₁ ≡ endIn s namesGood (readNames s)) where
-  pub survey-names : x₁ ≡ Bad → SurveyIs s table (surveyed.Refused 0) table
+module _ (s places : List ℕ) (x₁ : Section) (e₁ : x₁ ≡ endIn s namesGood (readNames s)) where
+  pub survey-names : x₁ ≡ Bad → SurveyIs s places (surveyed.Refused 0) places
   unfolding packOf placesOf surveyedOf
   survey-names q =
       let f = section-faulty s namesGood readNames s x₁ e₁ q in
       record {
         result = surveyed-told _ _ (sym (ap surveyedOf (section-is _ _ _ _ ∙ judge-faulty _ _ _ _ f)));
-        buffer = sym (ap (sets table 0) (after-is _ _ _ ∙ judge-faulty _ _ _ _ f));
+        buffer = sym (ap (sets places 0) (judge-faulty _ _ _ _ f));
       }
 
   module _ (g : ℕ) (q₁ : x₁ ≡ End g) where
@@ -472,14 +480,14 @@ module _ (s table : List ℕ) (x₁ : Section) (e₁ : x₁ ≡ endIn s namesGoo
         e₂′ : x₂ ≡ endIn s (guessesGood (length (front .value))) (readGuesses (drop g s))
         e₂′ = e₂ ∙ ap (λ (k : ℕ). endIn s (guessesGood k) (readGuesses (drop g s))) (sym count)
 
-        pub survey-guesses : x₂ ≡ Bad → SurveyIs s table (surveyed.Refused g) table
+        pub survey-guesses : x₂ ≡ Bad → SurveyIs s places (surveyed.Refused g) places
         unfolding packOf placesOf surveyedOf
         survey-guesses q =
             let f = section-faulty s _ readGuesses (drop g s) x₂ e₂′ q in
             record {
               result = surveyed-told _ _ (sym (ap surveyedOf (section-is _ _ _ _ ∙ judge-fine _ _ _ _ (front .value) _ (front .reads) (front .passes) ∙ section-is _ _ _ _ ∙ judge-faulty _ _ _ _ f)
                   ∙ ap surveyed.Refused (place-drop s g (front .fits))));
-              buffer = sym (ap (sets table 0) (after-is _ _ _ ∙ judge-fine _ _ _ _ (front .value) _ (front .reads) (front .passes) ∙ after-is _ _ _ ∙ judge-faulty _ _ _ _ f));
+              buffer = sym (ap (sets places 0) (judge-fine _ _ _ _ (front .value) _ (front .reads) (front .passes) ∙ judge-faulty _ _ _ _ f));
             }
 
         module _ (c : ℕ) (q₂ : x₂ ≡ End c) where
@@ -489,18 +497,18 @@ module _ (s table : List ℕ) (x₁ : Section) (e₁ : x₁ ≡ endIn s namesGoo
           pub survey-counted : c ≤ length s
           survey-counted = middle .fits
 
-          module _ (x₃ : Checked) (table′ : List ℕ) (r : RestIs s (take (g - 1) (drop 1 s)) n c table x₃ table′) where
-            survey-by : (y : Surveyed) → y ≡ told (front .value) x₃ → SurveyIs s table y table′
+          module _ (x₃ : Checked) (places′ : List ℕ) (r : RestIs s (take (g - 1) (drop 1 s)) n c places x₃ places′) where
+            survey-by : (y : Surveyed) → y ≡ told (front .value) x₃ → SurveyIs s places y places′
             survey-by y f = record {
               result = surveyed-told _ _ (f ∙ sym (rest-told s g front c middle ∙ ap (told (front .value)) (ap (λ (k : ℕ). restOf s (take (g - 1) (drop 1 s)) k (drop c s)) count ∙ sym (r .result))));
-              buffer = r .buffer ∙ ap (sets table 0) (sym (rest-places s g front c middle ∙ ap (λ (k : ℕ). restPlaces s (take (g - 1) (drop 1 s)) k (drop c s)) count));
+              buffer = r .buffer ∙ ap (sets places 0) (sym (rest-places s g front c middle ∙ ap (λ (k : ℕ). restPlaces s (take (g - 1) (drop 1 s)) k (drop c s)) count));
             }
 
-            pub survey-refused : (p : ℕ) → x₃ ≡ checked.Refused p → SurveyIs s table (surveyed.Refused p) table′
+            pub survey-refused : (p : ℕ) → x₃ ≡ checked.Refused p → SurveyIs s places (surveyed.Refused p) places′
             unfolding told
             survey-refused p q = survey-by _ (sym (ap (told (front .value)) q))
 
-            pub survey-accepted : x₃ ≡ checked.Accepted → SurveyIs s table (surveyed.Accepted n g) table′
+            pub survey-accepted : x₃ ≡ checked.Accepted → SurveyIs s places (surveyed.Accepted n g) places′
             unfolding told
             survey-accepted q = survey-by _ (sym (ap (told (front .value)) q ∙ ap₂ (λ (i j : ℕ). surveyed.Accepted i j) count (sym (names-end s g front))))
 
@@ -518,7 +526,7 @@ unfolding surveyedOf verdictOf
 refused-by (accepted k) p e = clash (cc)
 refused-by (refused k) p e = cc
 
-module _ (s table : List ℕ) (x : Surveyed) (table′ : List ℕ) (w : SurveyIs s table x table′) where
+module _ (s places : List ℕ) (x : Surveyed) (places′ : List ℕ) (w : SurveyIs s places x places′) where
   pub check-accepted : (n g : ℕ) → x ≡ surveyed.Accepted n g → checked.Accepted ≡ verdictOf (packOf s)
   check-accepted n g q = accepted-by (packOf s) n g (sym (surveyed-one _ _ (w .result)) ∙ q)
 

@@ -14,7 +14,7 @@ use Rattle.rule.specs.Matching.{firstCode}
 use Rattle.strings.specs.Reading.{Read, cut, got, readByte, readNumber, placeIn}
 use Rattle.pack.specs.Packs.{Guess, readGuess, readList, any, guessGood, listGood, listCount}
 use Rattle.rule_lines.specs.Rules.{Rule, ruleGood, rule}
-use Rattle.pack.specs.PlaceContracts.{foundIn}
+use Rattle.pack.specs.PlaceContracts.{judge, foundIn}
 use Rattle.strings.specs.Contracts.{behind, readSome}
 use Rattle.strings.specs.declared.Number.{Number}
 use Rattle.strings.specs.declared.Number.the-variants as number
@@ -37,19 +37,14 @@ guessesAt s place = behind (readNumber 2 (drop place s)) (λ n r. readSome readG
 unfoldable pub guessedAt : List ℕ → ℕ → ℕ → List ℕ → LanguageSet
 guessedAt s place n name = guessed (min 32 n) (guessesAt s place) name
 
--- a section that is read and good, and what is said where it is not
-unfoldable pub judge : {A R : Type 0} → R → (A → Bool) → Read A → (A → List ℕ → R) → R
-judge bad good cut k = bad
-judge bad good (got a r) k = pick (good a) (k a r) bad
-
 -- where a section of s ends, or that it is at fault
 unfoldable pub endIn : {A : Type 0} → List ℕ → (A → Bool) → Read A → Section
 endIn s good rd = judge Bad good rd (λ a r. End (placeIn s r))
 
 -- a test of each of a list in turn, over a state
 unfoldable pub allFrom : {A S : Type 0} → (S → A → Bool) → (S → A → S) → (S → Bool) → S → List A → Bool
-allFrom ok next last st [] = last st
-allFrom ok next last st (x ∷ xs) = and (ok st x) (allFrom ok next last (next st x) xs)
+allFrom ok next final st [] = final st
+allFrom ok next final st (x ∷ xs) = and (ok st x) (allFrom ok next final (next st x) xs)
 
 -- ---- names: the name before, and whether `any` was met
 
@@ -108,9 +103,9 @@ listsEnd s names (suc n) r = judge (lists.Fault (placeIn s r)) (listGood names) 
 
 -- ---- the list count, the lists and the end
 
-pub record ListsAre (s names : List ℕ) (n at : ℕ) (table : List ℕ) (r : Lists) (table′ : List ℕ) : Type 0 where
+pub record ListsAre (s names : List ℕ) (n at : ℕ) (places : List ℕ) (r : Lists) (places′ : List ℕ) : Type 0 where
   pub result : r ≡ listsEnd s names n (drop at s)
-  pub buffer : table′ ≡ sets table 0 (foundIn s names n (drop at s))
+  pub buffer : places′ ≡ sets places 0 (foundIn s names n (drop at s))
 
 unfoldable pub ended : List ℕ → Lists → Checked
 ended s (lists.Done e) = pick (eqb e (length s)) checked.Accepted (checked.Refused e)
@@ -123,6 +118,6 @@ restOf s names n r =
 unfoldable pub restPlaces : List ℕ → List ℕ → ℕ → List ℕ → List ℕ
 restPlaces s names n r = judge [] (λ (c : ℕ). eqb c (listCount n)) (readByte r) (λ c q. foundIn s names c q)
 
-pub record RestIs (s names : List ℕ) (n at : ℕ) (table : List ℕ) (r : Checked) (table′ : List ℕ) : Type 0 where
+pub record RestIs (s names : List ℕ) (n at : ℕ) (places : List ℕ) (r : Checked) (places′ : List ℕ) : Type 0 where
   pub result : r ≡ restOf s names n (drop at s)
-  pub buffer : table′ ≡ sets table 0 (restPlaces s names n (drop at s))
+  pub buffer : places′ ≡ sets places 0 (restPlaces s names n (drop at s))

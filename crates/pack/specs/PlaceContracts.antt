@@ -25,28 +25,28 @@ unfoldable pub surveyedOf : Verdict → Surveyed
 surveyedOf (accepted p) = surveyed.Accepted (length (p .names)) (1 + stringsLength (p .names))
 surveyedOf (refused n) = surveyed.Refused n
 
--- the places found behind a section that is read and good
-unfoldable pub behindRule : {A : Type 0} → (A → Bool) → Read A → (A → List ℕ → List ℕ) → List ℕ
-behindRule good cut k = []
-behindRule good (got a r) k = pick (good a) (k a r) []
+-- a section that is read and good, and what is said where it is not
+unfoldable pub judge : {A R : Type 0} → R → (A → Bool) → Read A → (A → List ℕ → R) → R
+judge bad good cut k = bad
+judge bad good (got a r) k = pick (good a) (k a r) bad
 
 -- the places of n lists in s, from what is left on, up to the first at fault
 unfoldable pub foundIn : List ℕ → List ℕ → ℕ → List ℕ → List ℕ
 foundIn s names zero r = []
-foundIn s names (suc n) r = behindRule (listGood names) (readList r) (λ rules q. placeIn s r ∷ foundIn s names n q)
+foundIn s names (suc n) r = judge [] (listGood names) (readList r) (λ rules q. placeIn s r ∷ foundIn s names n q)
 
 -- the places of the lists of s, in order, before the first fault
 unfoldable pub placesOf : List ℕ → List ℕ
 placesOf s =
-    behindRule namesGood (readNames s) (λ names a.
-    behindRule (guessesGood (length names)) (readGuesses a) (λ guesses b.
-    behindRule (λ (n : ℕ). eqb n (listCount (length names))) (readByte b) (λ n c.
+    judge [] namesGood (readNames s) (λ names a.
+    judge [] (guessesGood (length names)) (readGuesses a) (λ guesses b.
+    judge [] (λ (n : ℕ). eqb n (listCount (length names))) (readByte b) (λ n c.
     foundIn s (namesIn s a) n c)))
 
--- the promise of a survey: the verdict, and the places stored from the table's front on, as far as it goes
-pub record SurveyIs (s table : List ℕ) (r : Surveyed) (table′ : List ℕ) : Type 0 where
+-- the promise of a survey: the verdict, and the places stored in the buffer from its front on, as far as it goes
+pub record SurveyIs (s places : List ℕ) (r : Surveyed) (places′ : List ℕ) : Type 0 where
   pub result : surveyedNumbers r ≡ surveyedNumbers (surveyedOf (packOf s))
-  pub buffer : table′ ≡ sets table 0 (placesOf s)
+  pub buffer : places′ ≡ sets places 0 (placesOf s)
 
 -- ---- a rule by its places
 

@@ -1,4 +1,5 @@
 -- The character where no rule matches, and the bytes of a pack's names. Assumes nothing.
+use borrow.Author.Needs.{needs}
 use mathlib.Core.Path.{_≡_, refl, sym, ap, _∙_}
 use mathlib.Core.List.{List, [], _∷_}
 use Prim.Native.Nat.{ℕ, zero, suc, _-_, _≤_, _<_, min}
@@ -8,8 +9,9 @@ use Rattle.letters.specs.Utf8.{decodeAt}
 use Rattle.letters.specs.declared.utf8.Step.{Step}
 use Rattle.letters.specs.declared.utf8.Step.the-variants.{Char, Ill, End}
 use Rattle.letters.proofs.Utf8Laws.{char-at}
-use Rattle.phoneme_builder.specs.Passes.{stepLength}
-use Rattle.phoneme_builder.specs.Contracts.{StepIn, namesIn}
+use Rattle.phoneme_builder.specs
+use specs.Passes.{stepLength}
+use specs.Contracts.{StepIn, namesIn}
 
 -- ---- the character where none matches
 
@@ -32,7 +34,7 @@ module _ (word : List ℕ) (place : ℕ) (r : Step) (e : r ≡ decodeAt word pla
 pub step-one : (word : List ℕ) (place : ℕ) → place < length word → StepIn word place 1
 step-one word place h = record { some = omega arith; within = omega arith }
 
-pub ruleset char-laws = (bytes-char, bytes-ill, bytes-end, step-char, step-one)
+pub ruleset char-laws = (bytes-char, bytes-ill, bytes-end, step-char, step-one, needs)
 
 -- ---- the names
 
@@ -47,7 +49,7 @@ take-min (x ∷ l) zero =
     rw none
 take-min (x ∷ l) (suc n) =
     let one : min (suc n) (suc (length l)) ≡ suc (min n (length l)) = omega arith in
-    rw one (ap (λ (r : List ℕ). x ∷ r) (take-min l n))
+    rw one (ap (_∷_ x) (take-min l n))
 
 module _ (s : List ℕ) (guesses end : ℕ) (e : end ≡ min guesses (length s)) where
   pub names-some : take (end - 1) (drop 1 s) ≡ namesIn s guesses
@@ -61,4 +63,4 @@ module _ (s : List ℕ) (guesses end : ℕ) (e : end ≡ min guesses (length s))
       let none : end - 1 ≡ 0 = omega arith in
       sym (ap (λ (n : ℕ). take n (drop 1 s)) none) ∙ names-some
 
-pub ruleset names-laws = (names-some, names-none)
+pub ruleset names-laws = (names-some, names-none, needs)

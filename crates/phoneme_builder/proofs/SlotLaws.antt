@@ -1,4 +1,5 @@
 -- Laws of three numbers in one. Assumes nothing.
+use borrow.Author.Needs.{needs}
 use mathlib.Core.Path.{_≡_}
 use Prim.Native.Nat.{ℕ, _<_}
 use native.Mathlib.Omega.{arith}
@@ -23,7 +24,7 @@ pub coded-small : (g : LanguageSet) → BitsBelow 32 g → coded g < 17179869184
 unfolding coded BitsBelow
 coded-small Any h = omega arith
 coded-small NoLanguages h = omega arith
-coded-small (SomeLanguages x) h = omega (arith, h)
+coded-small (SomeLanguages x) h = omega arith
 
 pub code-small : {g : ℕ} → IsCode g → g < 17179869184
 code-small c = rw (c .is) (coded-small (c .set) (c .below))
@@ -37,7 +38,7 @@ module _ (x g l m : ℕ) (el : l ≡ langsOf x) (em : m ≡ codesMerged l g) whe
   pub merged-is : (y row long : ℕ) → row ≡ firstOf x → long ≡ secondOf x → y ≡ slotOf m row long → y ≡ slotMerged x g
   merged-is y row long er ew e = rw (er, ew, em, el) at e
 
-pub ruleset merged-laws = (merged-small, merged-is)
+pub ruleset merged-laws = (merged-small, merged-is, needs)
 
 -- no languages added to those of a slot: it stays as it was
 pub kept-slot : (x : ℕ) → slotMerged x 0 ≡ x

@@ -4,6 +4,7 @@ use Prim.Native.Nat.{ℕ, zero, suc, _+_, _-_, _*_, _/_, _%_, _≤_, _<_}
 use mathlib.Core.Path.{_≡_}
 use mathlib.Core.List.{List, [], _∷_, _++_, map}
 use lib.ListN.{length, take, drop, getD}
+use lib.Seq.{sets}
 use Rattle.letters.specs.Order.{orderOf}
 use Rattle.languages.specs.Contracts.{decoded, codesMerged, IsCode}
 use Rattle.languages.specs.declared.sets.LanguageSet.{LanguageSet}
@@ -57,17 +58,9 @@ entry t g = record { text = t; langs = g }
 abbrev pub alternative : Text → LanguageSet → Alternative
 alternative t g = record { text = t; langs = g }
 
--- d with its first elements replaced by those of t
-unfoldable pub over : List ℕ → List ℕ → List ℕ
-over d [] = d
-over [] (x ∷ t) = []
-over (y ∷ d) (x ∷ t) = x ∷ over d t
-
 -- d with its elements from index p on replaced by those of t
 unfoldable pub put : List ℕ → ℕ → List ℕ → List ℕ
-put d zero t = over d t
-put [] (suc p) t = []
-put (y ∷ d) (suc p) t = y ∷ put d p t
+put d p t = sets d p t
 
 -- ---- three numbers in one: languages, and row and length of a text or start and end of an alternative
 
@@ -305,7 +298,7 @@ OfferedTo a b to t g u h limit r = OfferedUnder (entry t (decoded g)) (alternati
 
 pub record RowOffers (a : Arena) (to : Target) (g : ℕ) (expr alts : List ℕ) (most : Most) : Type 0 where
   pub set : SetAt a (to .set) (to .count)
-  pub table : AltsIn expr alts (most .alternatives)
+  pub parts : AltsIn expr alts (most .alternatives)
   pub few : most .limit ≤ MOST
   pub code : IsCode g
 
@@ -315,7 +308,7 @@ RowOffered a b to t g expr alts most r = OfferedUnder (entry t (decoded g)) (alt
 pub record TextOffers (a : Arena) (from i : ℕ) (to : Target) (expr alts : List ℕ) (most : Most) : Type 0 where
   pub text : TextIn (a .slots) from i
   pub set : SetAt a (to .set) (to .count)
-  pub table : AltsIn expr alts (most .alternatives)
+  pub parts : AltsIn expr alts (most .alternatives)
   pub few : most .limit ≤ MOST
 
 abbrev pub TextOffered : Arena → Arena → ℕ → ℕ → Target → List ℕ → List ℕ → Most → Applied → Type 0
@@ -333,7 +326,7 @@ sourceOf a sets = entriesAt a (sets .from) (sets .count)
 
 pub record Applies (a : Arena) (sets : Between) (expr alts : List ℕ) (most : Most) : Type 0 where
   pub sides : BetweenIn a sets
-  pub table : AltsIn expr alts (most .alternatives)
+  pub parts : AltsIn expr alts (most .alternatives)
   pub few : most .limit ≤ MOST
 
 abbrev pub AppliedTo : Arena → Arena → Between → List ℕ → List ℕ → Most → Applied → Type 0

@@ -16,7 +16,7 @@ use Rattle.phonemes.specs.Expressions.{bar}
 use Rattle.refusals.specs.Numbers.{numberOf}
 use Rattle.refusals.specs.declared.Refusal.the-variants.{TextTooLong, TooManyTexts}
 use Rattle.phoneme_builder.specs.Sets.{Spelling, refusal, texts}
-use Rattle.phoneme_builder.specs.Passes.{offered, Turn, turnOn, turnsOf, Ran, tooLong, ran, flagged, run, raised, finalText, finalPass, then, wordOf, joined}
+use Rattle.phoneme_builder.specs.Passes.{offered, Turn, turnOn, turnsOf, Ran, tooLong, ran, flagged, run, raised, finalText, finalFrom, finalPass, then, wordOf, joined}
 use Rattle.phoneme_builder.specs.BufferContracts.{MOST, SETS, AltsIn, alternatives, Holds, slotTexts, part, Arena, SetAt, TextIn, entryIn, entriesAt, Stayed, Only, AppliedAt, BetweenIn, sourceOf}
 use Rattle.phoneme_builder.specs.declared.pass.Turned.{Turned}
 use Rattle.phoneme_builder.specs.declared.pass.Turned.the-variants as turned
@@ -200,10 +200,20 @@ pub record TextFinishes (a : Arena) (by : Pass) (sets : FinalSets) (next : NextT
   pub apart : Apart sets
   pub pass : FinalBy by
 
+-- the definitions of a final pass, by the rules of this one
+abbrev pub textFinal : List ℕ → List (List ℕ) → Pass → Entry → List Entry → (List Entry → Spelling) → Spelling
+textFinal s table by = finalText (by .limit) (namesOf s by) (rulesOf s table by)
+
+abbrev pub finalRest : List ℕ → List (List ℕ) → Pass → List Entry → List Entry → Spelling
+finalRest s table by = finalFrom (by .limit) (namesOf s by) (rulesOf s table by)
+
+abbrev pub finalWhole : List ℕ → List (List ℕ) → Pass → List Entry → Spelling
+finalWhole s table by = finalPass (by .limit) (namesOf s by) (rulesOf s table by)
+
 abbrev pub TextFinishedBy : Arena → Arena → List ℕ → List (List ℕ) → Pass → FinalSets → NextText → Finished → Type 0
 TextFinishedBy a b s table by sets next r =
     TextFinished a b (sets .old) (sets .result)
-    (finalText (by .limit) (namesOf s by) (rulesOf s table by) (entryIn a (sets .old) (next .text)) (entriesAt a (sets .result) (next .count))) r
+    (textFinal s table by (entryIn a (sets .old) (next .text)) (entriesAt a (sets .result) (next .count))) r
 
 pub record Finishes (a : Arena) (by : Pass) (sets : FinalSets) (count : ℕ) : Type 0 where
   pub old : SetAt a (sets .old) count
@@ -212,7 +222,7 @@ pub record Finishes (a : Arena) (by : Pass) (sets : FinalSets) (count : ℕ) : T
 
 abbrev pub FinishedBy : Arena → Arena → List ℕ → List (List ℕ) → Pass → FinalSets → ℕ → Finished → Type 0
 FinishedBy a b s table by sets count r =
-    FinishedAt b (sets .result) (finalPass (by .limit) (namesOf s by) (rulesOf s table by) (entriesAt a (sets .old) count)) r
+    FinishedAt b (sets .result) (finalWhole s table by (entriesAt a (sets .old) count)) r
 
 -- the same pass with the flag up where `up`
 unfoldable pub raisedBy : Bool → Finished → Finished

@@ -142,8 +142,8 @@ fn spell_word(
     match run(store, slots, alts, pack, table, main, word, sides) {
         Passed::Now { texts, set, flag } => {
             let from = Target { set, count: texts };
-            let last = final_passes(store, slots, alts, pack, table, by, from);
-            raised(flag, last)
+            let finished = final_passes(store, slots, alts, pack, table, by, from);
+            raised(flag, finished)
         }
         Passed::TooLong => Finished::TooLong,
     }

@@ -11,14 +11,17 @@ use mir.Syntax.{w64}
 use mir.Val.{Fits}
 use borrow.Author.Needs.{needs}
 use Rattle.texts.specs.Parts.{firstIs}
-use Rattle.phonemes.specs.Expressions.{round, bar, cutAt, inside, extra}
-use Rattle.phonemes.specs.Contracts.{cutEnd, hasExtra, nthCut, pieceFrom, nthFrom, alternativeOf}
-use Rattle.phonemes.specs.declared.answers.Alternative.{Alternative}
-use Rattle.phonemes.specs.declared.answers.Alternative.the-variants.{Nothing}
-use Rattle.phonemes.specs.declared.phonemes.Part.{Part}
-use Rattle.phonemes.specs.declared.phonemes.Part.the-variants.{From, Past}
-use Rattle.phonemes.proofs.CutLaws.{cut-order, cut-fits, cut-more, cut-last}
-use Rattle.phonemes.proofs.ExprLaws.{extra-yes, extra-no, pieces-single, pieces-round}
+use Rattle.phonemes.specs
+use specs.Expressions.{round, bar, cutAt, inside, extra}
+use specs.Contracts.{cutEnd, hasExtra, nthCut, pieceFrom, nthFrom, alternativeOf}
+use specs.declared
+use declared.answers.Alternative.{Alternative}
+use declared.answers.Alternative.the-variants.{Nothing}
+use declared.phonemes.Part.{Part}
+use declared.phonemes.Part.the-variants.{From, Past}
+use Rattle.phonemes.proofs
+use proofs.CutLaws.{cut-order, cut-fits, cut-more, cut-last}
+use proofs.ExprLaws.{extra-yes, extra-no, pieces-single, pieces-round}
 use Rattle.base.proofs.PickLaws.{pick-true, pick-false}
 use Rattle.base.proofs.Arms.{clash}
 
@@ -26,7 +29,7 @@ use Rattle.base.proofs.Arms.{clash}
 
 -- ps are the parts of t from a place on: each ends where the text does, or one byte before the next starts
 pub data Laid (t : List ℕ) : ℕ → List (List ℕ) → Type 0 where
-  last : {from to : ℕ} → from ≤ to → to ≡ length t → Laid t from (take (to - from) (drop from t) ∷ [])
+  end-part : {from to : ℕ} → from ≤ to → to ≡ length t → Laid t from (take (to - from) (drop from t) ∷ [])
   more : {from to : ℕ} {ps : List (List ℕ)} → from ≤ to → to < length t → Laid t (to + 1) ps → Laid t from (take (to - from) (drop from t) ∷ ps)
 
 laid-by : (b : ℕ) (t : List ℕ) (from : ℕ) → from ≤ length t → ((to : ℕ) → from ≤ to → to < length t → Laid t (to + 1) (cutAt b (drop (to + 1) t)))
@@ -36,7 +39,7 @@ laid-by b t from h ih =
     let m = cut-fits b t from h (cutEnd b t from) refl in
     elim (decLt (cutEnd b t from) (length t)) [
       | yes g ↦ subst (Laid t from) (sym (cut-more b t from h (cutEnd b t from) refl g)) (more o g (ih (cutEnd b t from) o g))
-      | no g ↦ let n : length t ≤ cutEnd b t from = omega arith in subst (Laid t from) (sym (cut-last b t from h (cutEnd b t from) refl n)) (last o (omega arith))
+      | no g ↦ let n : length t ≤ cutEnd b t from = omega arith in subst (Laid t from) (sym (cut-last b t from h (cutEnd b t from) refl n)) (end-part o (omega arith))
     ]
 
 laid-from : (b : ℕ) (t : List ℕ) (f from : ℕ) → length t - from ≤ f → from ≤ length t → Laid t from (cutAt b (drop from t))
@@ -84,8 +87,8 @@ next-cut t from to ps i o m = ap (λ (k : ℕ). nthCut (k + 1) i ps) (part-long 
 
 pub standing : {t : List ℕ} {from : ℕ} {ps : List (List ℕ)} → Laid t from ps → (i s z : ℕ) → nthCut from i ps ≡ From s z → Standing t from ps i s z
 unfolding nthCut
-standing (last o m) zero s z e = standing-here s z o (omega arith) e
-standing (last o m) (suc i) s z e = clash (cc)
+standing (end-part o m) zero s z e = standing-here s z o (omega arith) e
+standing (end-part o m) (suc i) s z e = clash (cc)
 standing (more o m l) zero s z e = standing-here s z o (omega arith) e
 standing {t} (more {from} {to} {ps} o m l) (suc i) s z e = standing-next i s z o m (standing l i s z (sym (next-cut t from to ps i o (omega arith)) ∙ e))
 
@@ -96,8 +99,8 @@ pub record Beyond (t : List ℕ) (from : ℕ) (ps : List (List ℕ)) (i left : �
 
 pub beyond : {t : List ℕ} {from : ℕ} {ps : List (List ℕ)} → Laid t from ps → (i left : ℕ) → nthCut from i ps ≡ Past left → Beyond t from ps i left
 unfolding nthCut nthFrom
-beyond (last o m) zero left e = clash (cc)
-beyond {t} (last {from} {to} o m) (suc i) left e =
+beyond (end-part o m) zero left e = clash (cc)
+beyond {t} (end-part {from} {to} o m) (suc i) left e =
     let q : i ≡ left = cc in
     let n : from + 1 + length (take (to - from) (drop from t)) + 1 ≡ length t + 2 = omega (arith, part-long t from to o (omega arith)) in
     record { passed = omega arith; is = λ names qs. ap₂ (λ (k j : ℕ). nthFrom k names j qs) n q }
@@ -105,7 +108,7 @@ beyond (more o m l) zero left e = clash (cc)
 beyond {t} (more {from} {to} {ps} o m l) (suc i) left e =
     let w = beyond l i left (sym (next-cut t from to ps i o (omega arith)) ∙ e) in
     let n : from + 1 + length (take (to - from) (drop from t)) + 1 ≡ to + 1 + 1 = omega (arith, part-long t from to o (omega arith)) in
-    record { passed = omega (arith, w .passed); is = λ names qs. ap (λ (k : ℕ). nthFrom k names i (ps ++ qs)) n ∙ w .is names qs }
+    record { passed = omega arith; is = λ names qs. ap (λ (k : ℕ). nthFrom k names i (ps ++ qs)) n ∙ w .is names qs }
 
 -- ---- the part of a number
 

@@ -7,8 +7,9 @@ use lib.ListN.{length}
 use Rattle.base.specs.Pick.{pick, and}
 use Rattle.texts.specs.Parts.{firstIs, lastIs}
 use Rattle.rule.proofs.Bare.{Clear, none, more, clear-has, clear-tail, clear-front}
-use Rattle.phonemes.specs.Expressions.{round, unround, bar, opening, onFirst, cutAt, inside, extra, piecesIn, allOf, formedPiece, formed, pieceMask, isListed, checkedOf}
-use Rattle.phonemes.specs.declared.answers.Expression.the-variants.{Good, Malformed}
+use Rattle.phonemes.specs
+use specs.Expressions.{round, unround, bar, opening, onFirst, cutAt, inside, extra, piecesIn, allOf, formedPiece, formed, pieceMask, isListed, checkedOf}
+use specs.declared.answers.Expression.the-variants.{Good, Malformed}
 use Rattle.base.proofs.PickLaws.{pick-true, pick-false, pick-all}
 
 data Cleared : List (List ℕ) → Type 0 where

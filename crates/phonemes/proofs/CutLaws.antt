@@ -18,11 +18,13 @@ use Rattle.languages.specs.declared.names.Listed.{Listed}
 use Rattle.languages.specs.declared.names.Listed.the-variants.{Bit, Unlisted}
 use Rattle.texts.specs.Parts.{placeOf}
 use Rattle.texts.proofs.Laws.{place-most}
-use Rattle.phonemes.specs.Expressions.{bar, plus, onFirst, cutAt, withBits, namesMask, formedPiece}
-use Rattle.phonemes.specs.Contracts.{cutEnd, listedPiece, expressionTold, judgedPieces, nthCut}
-use Rattle.phonemes.specs.declared.answers.Expression.{Expression}
-use Rattle.phonemes.specs.declared.answers.Expression.the-variants.{Malformed}
-use Rattle.phonemes.specs.declared.phonemes.Part.the-variants.{From, Past}
+use Rattle.phonemes.specs
+use specs.Expressions.{bar, plus, onFirst, cutAt, withBits, namesMask, formedPiece}
+use specs.Contracts.{cutEnd, listedPiece, expressionTold, judgedPieces, nthCut}
+use specs.declared
+use declared.answers.Expression.{Expression}
+use declared.answers.Expression.the-variants.{Malformed}
+use declared.phonemes.Part.the-variants.{From, Past}
 use Rattle.base.proofs.PickLaws.{pick-true, pick-false}
 
 -- ---- one step of a cut
@@ -84,7 +86,7 @@ module _ (b : ℕ) (t : List ℕ) (from : ℕ) (h : from ≤ length t) where
   module _ (to : ℕ) (e : to ≡ cutEnd b t from) where
     pub cut-order : from ≤ to
     unfolding cutEnd
-    cut-order = omega (arith, e)
+    cut-order = omega arith
 
     pub cut-fits : to ≤ length t
     cut-fits = rw e end-most
@@ -94,7 +96,7 @@ module _ (b : ℕ) (t : List ℕ) (from : ℕ) (h : from ≤ length t) where
 
     place : placeOf b (drop from t) ≡ to - from
     unfolding cutEnd
-    place = omega (arith, e)
+    place = omega arith
 
     -- the part from a place on is the first of what is left, and behind its end comes what is left then
     pub cut-one : cutAt b (drop from t) ≡ take (to - from) (drop from t) ∷ restOf b (drop from t)
@@ -194,7 +196,7 @@ module _ {names t : List ℕ} {more from count : ℕ} {known : Bool} (w : Judgin
     pub judging-next : to < length t → Judging names t more (to + 1) (count + 1) v
     judging-next h =
         let o = cut-order bar t from (w .within) to e in
-        record { within = omega arith; counted = omega (arith, w .counted); is = piece-by _ (cut-more bar t from (w .within) to e h) }
+        record { within = omega arith; counted = omega arith; is = piece-by _ (cut-more bar t from (w .within) to e h) }
 
     pub judging-done : (r : Expression) → length t ≤ to → r ≡ expressionTold (count + 1) v → r ≡ judgedPieces names more true (cutAt bar t)
     unfolding judgedPieces

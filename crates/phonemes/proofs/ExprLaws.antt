@@ -19,11 +19,13 @@ use Rattle.languages.specs.declared.sets.LanguageSet.{LanguageSet}
 use Rattle.languages.specs.declared.sets.LanguageSet.the-variants.{Any, SomeLanguages}
 use Rattle.texts.specs.Parts.{tail, front, firstIs, lastIs, placeOf, has}
 use Rattle.texts.proofs.Laws.{front-is, place-most}
-use Rattle.phonemes.specs.Expressions.{round, unround, bar, plus, opening, closing, cutAt, inside, extra, piecesIn, allOf, formedPiece, formed, boxOf, namesMask, pieceMask, isListed, textOf, maskSet, setOf, checkedOf}
-use Rattle.phonemes.specs.Contracts.{hasExtra, listedPiece, expressionTold, judgedPieces, pieceFrom}
-use Rattle.phonemes.specs.declared.answers.Expression.{Expression}
-use Rattle.phonemes.specs.declared.answers.Expression.the-variants.{Good, Malformed, Stranger}
-use Rattle.phonemes.specs.declared.answers.Alternative.the-variants.{At}
+use Rattle.phonemes.specs
+use specs.Expressions.{round, unround, bar, plus, opening, closing, cutAt, inside, extra, piecesIn, allOf, formedPiece, formed, boxOf, namesMask, pieceMask, isListed, textOf, maskSet, setOf, checkedOf}
+use specs.Contracts.{hasExtra, listedPiece, expressionTold, judgedPieces, pieceFrom}
+use specs.declared
+use declared.answers.Expression.{Expression}
+use declared.answers.Expression.the-variants.{Good, Malformed, Stranger}
+use declared.answers.Alternative.the-variants.{At}
 use Rattle.base.proofs.PickLaws.{pick-true, pick-false, pick-cong, and-first}
 
 -- ---- parts of an expression and of an alternative
@@ -42,13 +44,13 @@ inside-some (x ∷ e) h = let n : suc (length e) - 1 - 1 ≡ length e - 1 = omeg
 module _ (a : List ℕ) (p : ℕ) (e : p ≡ placeOf opening a) where
   pub box-open : length a ≤ p + 1 → [] ≡ boxOf a
   unfolding boxOf front
-  box-open h = sym (ap front (drop-of-length-le a {i = suc (placeOf opening a)} (omega (arith, e))))
+  box-open h = sym (ap front (drop-of-length-le a {i = suc (placeOf opening a)} (omega arith)))
 
   pub box-some : p + 1 < length a → take (length a - 1 - (p + 1)) (drop (p + 1) a) ≡ boxOf a
   unfolding boxOf
   box-some h =
       let n : length a - 1 - (p + 1) ≡ length (drop (p + 1) a) - 1 = omega (arith, length-drop (p + 1) a) in
-      let m : p + 1 ≡ suc (placeOf opening a) = omega (arith, e) in
+      let m : p + 1 ≡ suc (placeOf opening a) = omega arith in
       ap (λ (k : ℕ). take k (drop (p + 1) a)) n ∙ front-is (drop (p + 1) a) ∙ ap (λ (k : ℕ). front (drop k a)) m
 
   pub has-yes : p < length a → has opening a ≡ true
@@ -108,7 +110,7 @@ piece-is names a start p s e f = ap₂ (λ (n : ℕ) (x : LanguageSet). At start
 
 -- a place in a piece is one in the expression
 pub piece-fits : (b : ℕ) (a : List ℕ) (start p : ℕ) → p ≡ placeOf b a → start + length a < 2 ^ 64 → Fits w64 (start + p)
-piece-fits b a start p e h = record { fits = omega (arith, e, place-most b a) }
+piece-fits b a start p e h = record { fits = omega (arith, place-most b a) }
 
 pub ruleset piece-laws = (inside-none, inside-some, box-open, box-some, formed-box, formed-plain, mask-box, mask-plain, set-plain, set-box, set-stranger, listed-yes, listed-no, piece-is, piece-fits, needs)
 

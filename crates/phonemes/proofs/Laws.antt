@@ -22,16 +22,19 @@ use Rattle.languages.proofs.Laws.{any-below, mask-below, bit-below, bit-held}
 use Rattle.texts.specs.Parts.{tail, front, firstIs, lastIs, placeOf}
 use Rattle.texts.proofs.Laws.{front-is, place-most, first-some-by, last-some-by, prefix-within}
 use Rattle.rule.specs.Matching.{ruleMatches}
-use Rattle.phonemes.specs.Expressions.{round, bar, opening, onFirst, cutAt, inside, extra, piecesIn, withBits, namesMask, pieceMask, textOf, maskSet, setOf, checkedOf}
-use Rattle.phonemes.specs.Contracts.{hasExtra, nthCut, pieceFrom, nthFrom, alternativeOf}
-use Rattle.phonemes.specs.declared.answers.Expression.{Expression}
-use Rattle.phonemes.specs.declared.answers.Expression.the-variants.{Good}
-use Rattle.phonemes.specs.declared.answers.Alternative.{Alternative}
-use Rattle.phonemes.specs.declared.answers.Alternative.the-variants.{At, Nothing}
-use Rattle.phonemes.specs.declared.phonemes.Part.{Part}
-use Rattle.phonemes.specs.declared.phonemes.Part.the-variants.{From, Past}
-use Rattle.phonemes.proofs.ExprLaws.{text-long, extra-yes, pieces-single, pieces-round}
-use Rattle.phonemes.proofs.AltLaws.{laid-cut, beyond, part-at, alt-single, alt-single-past, alt-part, alt-past, alt-none, alt-extra}
+use Rattle.phonemes.specs
+use specs.Expressions.{round, bar, opening, onFirst, cutAt, inside, extra, piecesIn, withBits, namesMask, pieceMask, textOf, maskSet, setOf, checkedOf}
+use specs.Contracts.{hasExtra, nthCut, pieceFrom, nthFrom, alternativeOf}
+use specs.declared
+use declared.answers.Expression.{Expression}
+use declared.answers.Expression.the-variants.{Good}
+use declared.answers.Alternative.{Alternative}
+use declared.answers.Alternative.the-variants.{At, Nothing}
+use declared.phonemes.Part.{Part}
+use declared.phonemes.Part.the-variants.{From, Past}
+use Rattle.phonemes.proofs
+use proofs.ExprLaws.{text-long, extra-yes, pieces-single, pieces-round}
+use proofs.AltLaws.{laid-cut, beyond, part-at, alt-single, alt-single-past, alt-part, alt-past, alt-none, alt-extra}
 use Rattle.base.proofs.PickLaws.{pick-inv, pick-all, and-inv}
 use Rattle.languages.specs.Contracts.{BitsBelow}
 use Rattle.base.proofs.Arms.{clash}
@@ -103,8 +106,8 @@ module _ (names e : List ℕ) (i start end : ℕ) (set : LanguageSet) where
       let some = first-some-by round e true (sym f) refl in
       is-piece names e _ i (s + 1) (z - s) start end set
       (ap (λ (y : List (List ℕ)). getD y i []) l ∙ List·getD-append (cutAt bar (inside e)) (extra (inside e)) [] i (w .there) ∙ w .piece)
-      (inside-part e s z (w .fits)) (omega (arith, w .order, w .fits, inside-long e))
-      (rw l (omega (arith, w .there, length-append (cutAt bar (inside e)) (extra (inside e)))))
+      (inside-part e s z (w .fits)) (omega (arith, inside-long e))
+      (rw l (omega (arith, length-append (cutAt bar (inside e)) (extra (inside e)))))
       (alt-part names e i true (sym f) refl (inside e) refl _ refl s z _ g refl ∙ q)
 
   -- with one more empty piece there is something between the brackets
@@ -120,7 +123,7 @@ module _ (names e : List ℕ) (i start end : ℕ) (set : LanguageSet) where
       let some = extra-some (inside e) y in
       is-piece names e [] i (length (inside e) + 2) 0 start end set
       (ap₂ (λ (p : List (List ℕ)) (k : ℕ). getD p k []) l (b .passed) ∙ getD-append-add (cutAt bar (inside e)) ([] ∷ []) 0 []) refl
-      (omega (arith, inside-long e)) (rw l (omega (arith, b .passed, length-append (cutAt bar (inside e)) ([] ∷ []))))
+      (omega (arith, inside-long e)) (rw l (omega (arith, length-append (cutAt bar (inside e)) ([] ∷ []))))
       (alt-extra names e i true (sym f) refl (inside e) refl _ refl 0 g true _ refl (sym y) refl refl ∙ q)
   is-extra f zero false y g q = let n = alt-none names e i true (sym f) refl (inside e) refl _ refl 0 g false refl (sym y) refl in clash (cc)
   is-extra f (suc left) b y g q = let n = alt-past names e i true (sym f) refl (inside e) refl _ refl (suc left) g (λ z. omega arith) in clash (cc)

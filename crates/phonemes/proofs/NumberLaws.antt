@@ -2,9 +2,11 @@
 use mathlib.Core.Path.{_≡_, refl, ap}
 use Rattle.refusals.specs.Numbers.{numberOf}
 use Rattle.base.proofs.Arms.{clash}
-use Rattle.phonemes.specs.Numbers.{expressionNumbers}
-use Rattle.phonemes.specs.declared.answers.Expression.{Expression}
-use Rattle.phonemes.specs.declared.answers.Expression.the-variants.{Good, Malformed, Stranger}
+use Rattle.phonemes.specs
+use specs.Numbers.{expressionNumbers}
+use specs.declared
+use declared.answers.Expression.{Expression}
+use declared.answers.Expression.the-variants.{Good, Malformed, Stranger}
 
 pub expression-one : (r d : Expression) → expressionNumbers r ≡ expressionNumbers d → r ≡ d
 unfolding expressionNumbers numberOf

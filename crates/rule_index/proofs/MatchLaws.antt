@@ -1,4 +1,5 @@
 -- The first rule that matches at a place of a word: the loop over the rules to try, and what its answer tells. Assumes nothing.
+use borrow.Author.Needs.{needs}
 use mathlib.Core.Path.{_≡_, refl, sym, ap, ap₂, subst, _∙_}
 use mathlib.Core.Bool.{Bool, true, false}
 use mathlib.Core.List.{List, [], _∷_}
@@ -21,11 +22,13 @@ use Rattle.pack.specs.declared.rules.RuleAt.{RuleAt}
 use Rattle.pack.specs.declared.rules.RuleAt.the-variants as rules
 use Rattle.strings.proofs.Readers.{place-drop}
 use Rattle.pack.proofs.RuleLaws.{RuleIs, rule-is, rule-cut, pattern-order, pattern-fits, left-order, left-fits, right-order, right-fits}
-use Rattle.pack.proofs.Laws.{short-rule}
-use Rattle.rule_index.specs.Matching.{Match, none, by, firstMatch}
-use Rattle.rule_index.specs.Contracts.{rulesBetween, tried, matcher, RuleIn, MatchIs, Seen, seen, seenIn}
-use Rattle.rule_index.specs.declared.matching.Matched.{Matched}
-use Rattle.rule_index.specs.declared.matching.Matched.the-variants.{By, Nothing}
+use Rattle.pack.proofs.Laws.{short-expression}
+use Rattle.rule_index.specs
+use specs.Matching.{Match, none, by, firstMatch}
+use specs.Contracts.{rulesBetween, tried, matcher, RuleIn, MatchIs, seen, seenIn}
+use specs.declared
+use declared.matching.Matched.{Matched}
+use declared.matching.Matched.the-variants.{By, Nothing}
 
 -- ---- the rules between two places, from the front
 
@@ -42,7 +45,7 @@ between-cut (suc f) s at stop e = rw e (pick-all (λ (l : List Rule). l ≡ []) 
 between-one : (f : ℕ) (s : List ℕ) (at stop next : ℕ) (r : Rule) → at < stop → stop ≤ at + f → next ≤ length s → readRule (drop at s) ≡ got r (drop next s)
     → rulesBetween f s at stop ≡ r ∷ rulesBetween (f - 1) s next stop
 unfolding rulesBetween behind
-between-one zero s at stop next r h l m e = let no-way : ⊥ = omega (arith, h, l) in absurd no-way
+between-one zero s at stop next r h l m e = let no-way : ⊥ = omega arith in absurd no-way
 between-one (suc f) s at stop next r h l m e =
     let k : suc f - 1 ≡ f = omega arith in
     pick-true _ _ _ (lt-ltb _ _ h) ∙ rw (e, place-drop s next m, k) refl
@@ -78,10 +81,10 @@ module _ {s word : List ℕ} {place at stop : ℕ} {m : Match} (w : Finding s wo
 
       finding-forward : at < h
       finding-forward =
-          let v = rule-here in omega (arith, v .begins, v .one, v .two, v .three, v .four, v .five, v .six, v .seven)
+          let v = rule-here in omega arith
 
       pub finding-less : at < stop → stop - h < stop - at
-      finding-less n = omega (arith, n, finding-forward)
+      finding-less n = omega (arith, finding-forward)
 
       module _ (n : at < stop) (t : Bool)
           (k : t ≡ ruleMatches (take (b - a) (drop a s)) (take (d - c) (drop c s)) (take (f - e) (drop e s)) word place) where
@@ -99,7 +102,7 @@ module _ {s word : List ℕ} {place at stop : ℕ} {m : Match} (w : Finding s wo
           bytes = w .bytes;
           here = w .here;
           fuel = w .fuel - 1;
-          enough = omega (arith, w .enough, finding-forward);
+          enough = omega (arith, finding-forward);
           is = tested ∙ pick-false _ _ _ z;
         }
 
@@ -108,17 +111,17 @@ module _ {s word : List ℕ} {place at stop : ℕ} {m : Match} (w : Finding s wo
         finding-found step z y =
             let v = rule-here in
             let size : b - a ≡ length (v .value .pattern) = omega (arith, ap length (v .pattern), length-take (b - a) (drop a s), length-drop a s, pattern-fits s at x o a b c d e f g h q) in
-            let long : h - g ≡ length (v .value .expression) = omega (arith, ap length (v .expression), length-take (h - g) (drop g s), length-drop g s, v .fits) in
+            let long : h - g ≡ length (v .value .expression) = omega (arith, ap length (v .expression), length-take (h - g) (drop g s), length-drop g s) in
             subst (λ (m : Match). MatchIs s word place m (By step g h)) (sym (tested ∙ pick-true _ _ _ z)) (record {
-              passes = omega (arith, y, size);
-              within = omega (arith, y, size, w .here, match-end _ _ _ word place t test z);
+              passes = omega arith;
+              within = omega (arith, match-end _ _ _ word place t test z);
               order = v .seven;
               fits = v .fits;
               expression = v .expression;
-              short = omega (arith, long, short-rule s at (v .value) _ (λ i. omega (arith, w .bytes i)) (v .reads) .expression);
+              short = omega (arith, short-expression s at (v .value) _ (λ i. omega (arith, w .bytes i)) (v .reads));
             })
 
-pub ruleset finding-laws = (finding-start, finding-done, finding-cut, finding-less, finding-next, finding-found, pattern-order, pattern-fits, left-order, left-fits, right-order, right-fits)
+pub ruleset finding-laws = (finding-start, finding-done, finding-cut, finding-less, finding-next, finding-found, pattern-order, pattern-fits, left-order, left-fits, right-order, right-fits, needs)
 
 -- ---- the look-up
 
@@ -141,7 +144,7 @@ module _ (s : List ℕ) (table : List (List ℕ)) (list : ℕ) (word : List ℕ)
   unfolding matcher tried
   looked-up r b h k e w = subst (λ (m : Match). MatchIs s word place m r) (sym (pick-true _ _ _ (and-yes _ _ (lt-ltb _ _ h) (lt-ltb _ _ k)))) (rw (← e) w)
 
-pub ruleset look-laws = (unlisted, unplaced, looked-up)
+pub ruleset look-laws = (unlisted, unplaced, looked-up, needs)
 
 -- ---- what the answer tells a caller
 

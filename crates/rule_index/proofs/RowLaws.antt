@@ -1,6 +1,7 @@
 -- A row of the table: noting a rule, and the loop over a list. A rule whose pattern begins with a byte of another kind than the word's never
 -- matches, so the rules from the first to the last of a kind are enough. Assumes nothing.
-use mathlib.Core.Path.{_≡_, refl, sym, ap, ap₂, subst, _∙_}
+use borrow.Author.Needs.{needs}
+use mathlib.Core.Path.{_≡_, refl, sym, ap, subst, _∙_}
 use mathlib.Core.Bool.{Bool, true, false}
 use mathlib.Core.List.{List, [], _∷_, _++_, append-assoc, append-nil}
 use Prim.Native.Nat.{ℕ, zero, suc, _+_, _-_, _%_, _≤_, _<_}
@@ -9,12 +10,12 @@ use native.Mathlib.Omega.{arith}
 use lib.Dec.{eqb, ltb}
 use lib.ListN.{length, getD, take, drop, set, length-set, length-take, length-drop, drop-of-length-le}
 use lib.Seq.{getD-set-same, getD-set-other, getD-take, getD-drop}
-use borrow.Author.Tests.{eqb-true, eqb-false, eq-eqb, ne-eqb, lt-ltb, le-ltb}
+use borrow.Author.Tests.{eqb-true, eqb-false, ne-eqb, lt-ltb, le-ltb}
 use Rattle.base.specs.Pick.{pick}
 use Rattle.base.proofs.PickLaws.{pick-true, pick-false, pick-all, and-first}
 use Rattle.texts.specs.Parts.{prefixOf}
 use Rattle.rule.specs.Matching.{ruleMatches}
-use Rattle.strings.specs.Reading.{Read, got, placeIn}
+use Rattle.strings.specs.Reading.{got}
 use Rattle.pack.specs.Packs.{readRule, stringsLength}
 use Rattle.rule_lines.specs.Rules.{Rule}
 use Rattle.pack.specs.PlaceContracts.{ruleStandsAt, ruleCount, listAt}
@@ -23,9 +24,10 @@ use Rattle.pack.specs.declared.rules.RuleAt.{RuleAt}
 use Rattle.pack.specs.declared.rules.RuleAt.the-variants as rules
 use Rattle.strings.proofs.Readers.{place-drop}
 use Rattle.pack.proofs.RuleLaws.{RuleIs, rule-is}
-use Rattle.pack.proofs.Laws.{RulesAt, no-rule, one-rule, ListIs, held-pattern, held-good, held-rest, held-whole, good-rule, list-held, list-told}
-use Rattle.rule_index.specs.Matching.{Match, none, by, firstMatch}
-use Rattle.rule_index.specs.Contracts.{packIn, rulesBetween, tried, notedIn, ListReady, RowFinds}
+use Rattle.pack.proofs.Laws.{RulesAt, one-rule, ListIs, good-rule, held-by, held-whole, list-held, list-told}
+use Rattle.rule_index.specs
+use specs.Matching.{Match, none, by, firstMatch}
+use specs.Contracts.{packIn, rulesBetween, tried, notedIn, ListReady, RowFinds}
 
 -- ---- a rule whose pattern begins with a byte of another kind does not match
 
@@ -105,7 +107,7 @@ pub data Stand (s : List ℕ) (to : ℕ) : ℕ → List Rule → Type 0 where
 
 stand-order : {s : List ℕ} {to at : ℕ} {rs : List Rule} → Stand s to at rs → at ≤ to
 stand-order stand-none = omega arith
-stand-order (stand-rule o h k w) = omega (arith, h, stand-order w)
+stand-order (stand-rule o h k w) = omega (arith, stand-order w)
 
 stand-more : {s : List ℕ} {from at next : ℕ} {rs : List Rule} {r : Rule} → readRule (drop at s) ≡ got r (drop next s) → at < next → next ≤ length s → Stand s at from rs
     → Stand s next from (rs ++ r ∷ [])
@@ -115,10 +117,10 @@ stand-more o h k (stand-rule p l m w) = stand-rule p l m (stand-more o h k w)
 stand-read : (f : ℕ) {s : List ℕ} {to at : ℕ} {rs : List Rule} → to ≤ at + f → Stand s to at rs → rulesBetween f s at to ≡ rs
 unfolding rulesBetween behind
 stand-read zero h stand-none = refl
-stand-read zero h (stand-rule o l m w) = let no-way : ⊥ = omega (arith, h, l, stand-order w) in absurd no-way
+stand-read zero h (stand-rule o l m w) = let no-way : ⊥ = omega (arith, stand-order w) in absurd no-way
 stand-read (suc f) {to = to} h stand-none = pick-false _ _ _ (le-ltb to to (omega arith))
 stand-read (suc f) {s} {to} {at} h (stand-rule {next = n} {r = r} o l m w) =
-    pick-true _ _ _ (lt-ltb at to (omega (arith, l, stand-order w))) ∙ rw (o, place-drop s n m) (ap (λ (l : List Rule). r ∷ l) (stand-read f (omega (arith, h, l)) w))
+    pick-true _ _ _ (lt-ltb at to (omega (arith, stand-order w))) ∙ rw (o, place-drop s n m) (ap (λ (l : List Rule). r ∷ l) (stand-read f (omega arith) w))
 
 stand-alike : {s : List ℕ} {b to from : ℕ} {rs : List Rule} → Stand s to from rs → Alike b rs (rulesBetween to s from to)
 stand-alike {to = to} w = alike-same (sym (stand-read to (omega arith) w))
@@ -145,13 +147,13 @@ module _ {s : List ℕ} {b : ℕ} {before : List Rule} {at next : ℕ} {r : Rule
   noted-first e (since tail z w a c) = absurd (z e)
   noted-first e (not-yet z a) =
       let one : Stand s next at (r ∷ []) = stand-rule o h k stand-none in
-      since (r ∷ []) (λ n. omega (arith, n, h)) one (alike-more a (r ∷ [])) (stand-alike one)
+      since (r ∷ []) (λ n. omega arith) one (alike-more a (r ∷ [])) (stand-alike one)
 
   noted-more : {p e : ℕ} → (e ≡ 0 → ⊥) → Noted s b before at p e → Noted s b (before ++ r ∷ []) next p next
   noted-more n (not-yet z a) = absurd (n z)
   noted-more n (since tail z w a c) =
       let more : Stand s next _ (tail ++ r ∷ []) = stand-more o h k w in
-      since (tail ++ r ∷ []) (λ n. omega (arith, n, h)) more (alike-more a (r ∷ [])) (stand-alike more)
+      since (tail ++ r ∷ []) (λ n. omega arith) more (alike-more a (r ∷ [])) (stand-alike more)
 
 -- ---- a row that a rule was noted in
 
@@ -175,13 +177,13 @@ module _ (t t′ : List ℕ) (kind at next : ℕ) (w : kind + 64 < length t) (q 
     unfolding notedIn
     noted-by true e x =
         let now : t′ ≡ set (set t kind at) (kind + 64) next = q ∙ pick-true _ _ _ e in
-        let place = getD-set-other (set t kind at) (kind + 64) kind next 0 apart ∙ getD-set-same t kind at 0 (omega (arith, w)) in
-        let end = getD-set-same (set t kind at) (kind + 64) next 0 (omega (arith, w, length-set t kind at)) in
+        let place = getD-set-other (set t kind at) (kind + 64) kind next 0 apart ∙ getD-set-same t kind at 0 (omega arith) in
+        let end = getD-set-same (set t kind at) (kind + 64) next 0 (omega (arith, length-set t kind at)) in
         rw (now, place, end) (noted-first o h k (eqb-true _ _ e) x)
     noted-by false e x =
         let now : t′ ≡ set t (kind + 64) next = q ∙ pick-false _ _ _ e in
         let place = getD-set-other t (kind + 64) kind next 0 apart in
-        let end = getD-set-same t (kind + 64) next 0 (omega (arith, w)) in
+        let end = getD-set-same t (kind + 64) next 0 (omega arith) in
         rw (now, place, end) (noted-more o h k (eqb-false _ _ e) x)
 
 -- ---- the loop over a list
@@ -224,7 +226,7 @@ data Next (s names : List ℕ) (at left : ℕ) (rest : List Rule) : Type 0 where
   next : (r : Rule) (rs : List Rule) → rest ≡ r ∷ rs → RulesAt s names at (r ∷ rs) → Next s names at left rest
 
 next-by : (s names : List ℕ) (at left : ℕ) (rest : List Rule) → left ≡ length rest → 0 < left → RulesAt s names at rest → Next s names at left rest
-next-by s names at left [] e h l = let no-way : ⊥ = omega (arith, e) in absurd no-way
+next-by s names at left [] e h l = let no-way : ⊥ = omega arith in absurd no-way
 next-by s names at left (r ∷ rs) e h l = next r rs refl l
 
 held-reads : (s names : List ℕ) (at a b c d e f g h : ℕ) (r : Rule) (rs : List Rule) (w : RuleIs s at a b c d e f g h) → RulesAt s names at (r ∷ rs) → w .value ≡ r
@@ -246,7 +248,9 @@ module _ {s row : List ℕ} {whole : List Rule} {at left : ℕ} (w : Indexing s 
     rule-here = rule-is s at x o pattern b c d e f g end q
 
     some-by : Next s (w .names) at left (w .rest) → 0 < length (take (b - pattern) (drop pattern s))
-    some-by (next r rs n l) = rw (held-pattern s (w .names) at r rs l x o pattern b c d e f g end q) (held-good s (w .names) at r rs l x o pattern b c d e f g end q .«pattern-some»)
+    some-by (next r rs n l) =
+        let k = held-by s (w .names) at pattern b c d e f g end r rs (sym q ∙ o) l in
+        rw (k .pattern) (good-rule (w .names) r (k .good) .«pattern-some»)
 
     some-bytes : 0 < length (take (b - pattern) (drop pattern s))
     some-bytes = some-by here
@@ -265,17 +269,17 @@ module _ {s row : List ℕ} {whole : List Rule} {at left : ℕ} (w : Indexing s 
 
     module _ (kind : ℕ) (ek : kind ≡ getD s pattern 0 % 64) where
       pub note-ready : kind + 64 < length row
-      note-ready = omega (arith, ek, w .long)
+      note-ready = omega arith
 
       module _ (row′ : List ℕ) (et : row′ ≡ notedIn row kind at end) where
         kind-by : (a : ℕ) → a < 64 → (z : Bool) → eqb kind a ≡ z → Noted s a (w .before ++ rule-here .value ∷ []) end (getD row′ a 0) (getD row′ (a + 64) 0)
         kind-by a l true z =
             subst (λ (c : ℕ). Noted s c (w .before ++ rule-here .value ∷ []) end (getD row′ c 0) (getD row′ (c + 64) 0)) (eqb-true kind a z)
-            (noted-by row row′ kind at end note-ready et (rule-here .reads) forward (rule-here .fits) _ refl (w .kinds kind (omega (arith, ek))))
+            (noted-by row row′ kind at end note-ready et (rule-here .reads) forward (rule-here .fits) _ refl (w .kinds kind (omega arith)))
         kind-by a l false z =
             let ne : kind ≡ a → ⊥ = eqb-false _ _ z in
             let far : (j : ℕ) → (j ≡ kind → ⊥) → (j ≡ kind + 64 → ⊥) → getD row′ j 0 ≡ getD row j 0 = note-other row row′ kind at end note-ready et in
-            rw (far a (λ n. ne (sym n)) (λ n. omega (arith, n, l)), far (a + 64) (λ n. omega (arith, n, ek)) (λ n. ne (omega (arith, n))))
+            rw (far a (λ n. ne (sym n)) (λ n. omega arith), far (a + 64) (λ n. omega arith) (λ n. ne (omega arith)))
             (noted-other (rule-here .reads) forward (rule-here .fits) (rw (← rule-here .pattern) some-bytes) (λ n. ne (ek ∙ ap (λ (m : ℕ). m % 64) (sym first-byte) ∙ n)) (w .kinds a l))
 
         turn-by : Next s (w .names) at left (w .rest) → Indexing s whole row′ end (left - 1)
@@ -287,8 +291,8 @@ module _ {s row : List ℕ} {whole : List Rule} {at left : ℕ} (w : Indexing s 
               rest = rs;
               are = append-assoc (w .before) (rule-here .value ∷ []) rs ∙ ap (λ (v : Rule). w .before ++ v ∷ rs) same ∙ ap (λ (l : List Rule). w .before ++ l) (sym n) ∙ w .are;
               names = w .names;
-              held = held-rest s (w .names) at r rs l x o pattern b c d e f g end q;
-              counted = omega (arith, w .counted, ap length n);
+              held = held-by s (w .names) at pattern b c d e f g end r rs (sym q ∙ o) l .rest;
+              counted = omega (arith, ap length n);
               kinds = λ a m. kind-by a m _ refl;
             }
 
@@ -300,12 +304,12 @@ indexing-same w v = v .long ∙ sym (w .blank .long)
 
 none-left : (l : List Rule) → length l ≤ 0 → l ≡ []
 none-left [] h = refl
-none-left (x ∷ l) h = let no-way : ⊥ = omega (arith, h) in absurd no-way
+none-left (x ∷ l) h = let no-way : ⊥ = omega arith in absurd no-way
 
 pub indexing-done : {s row : List ℕ} {whole : List Rule} {at left : ℕ} → Indexing s whole row at left → left ≤ 0 → RowFinds s row whole
 unfolding tried
 indexing-done {s} {row} {whole} w h =
-    let all : w .before ≡ whole = sym (ap (λ (l : List Rule). w .before ++ l) (none-left (w .rest) (omega (arith, w .counted))) ∙ append-nil (w .before)) ∙ w .are in
+    let all : w .before ≡ whole = sym (ap (λ (l : List Rule). w .before ++ l) (none-left (w .rest) (omega arith)) ∙ append-nil (w .before)) ∙ w .are in
     record { found = λ word place. sym (noted-found (w .kinds (getD word place 0 % 64) (omega arith)) .is word place refl) ∙ ap (λ (l : List Rule). firstMatch l word place) all }
 
-pub ruleset index-laws = (list-within, indexing-start, indexing-cut, pattern-within, note-ready, indexing-turn, indexing-same, indexing-done)
+pub ruleset index-laws = (list-within, indexing-start, indexing-cut, pattern-within, note-ready, indexing-turn, indexing-same, indexing-done, needs)

@@ -1,19 +1,18 @@
 -- The table: the loop over the lists, and what a survey's answer gives for it. Assumes nothing.
+use borrow.Author.Needs.{needs}
 use mathlib.Core.Path.{_≡_, refl, sym, ap, ap₂, subst, _∙_}
 use mathlib.Core.Bool.{Bool, true, false}
 use mathlib.Core.List.{List, [], _∷_}
-use Prim.Native.Nat.{ℕ, zero, suc, _+_, _-_, _*_, _%_, _≤_, _<_, zero-le}
+use Prim.Native.Nat.{ℕ, zero, suc, _+_, _*_, _%_, _≤_, _<_, zero-le}
 use native.Mathlib.Omega.{arith}
 use lib.Dec.{ltb}
-use lib.ListN.{length, getD, set, take, drop, replicate, length-replicate, getD-replicate, List·getD-append}
-use lib.Seq.{sets, sets-eq, length-sets, getD-set-same, getD-set-other}
+use lib.ListN.{length, getD, set, replicate, length-replicate, getD-replicate, List·getD-append}
+use lib.Seq.{sets-eq, length-sets, getD-set-same, getD-set-other}
 use mir.Syntax.{w64}
 use mir.Val.{Fits}
 use borrow.Author.Tests.{ltb-true, ltb-false}
-use Rattle.base.specs.Pick.{pick, and}
 use Rattle.base.proofs.One.{one}
 use Rattle.base.proofs.PickLaws.{pick-true, pick-false, and-yes, and-first, and-second}
-use Rattle.texts.specs.Parts.{prefixOf}
 use Rattle.pack.specs.Packs.{Pack, Verdict, accepted, refused, listCount, packOf, stringsLength}
 use Rattle.rule_lines.specs.Rules.{Rule}
 use Rattle.pack.specs.PlaceContracts.{placesOf, surveyedOf, listAt, SurveyIs}
@@ -23,8 +22,9 @@ use Rattle.pack.specs.declared.sections.Surveyed.the-variants as surveyed
 use Rattle.base.proofs.Arms.{clash}
 use Rattle.pack.proofs.NumberLaws.{surveyed-one}
 use Rattle.pack.proofs.Laws.{RulesAt, no-rule, one-rule, good-rule, languages-few, lists-counted, places-counted, list-held, list-told, SurveyedPack, surveyed-pack}
-use Rattle.rule_index.specs.Matching.{none, Matcher, firstMatch}
-use Rattle.rule_index.specs.Contracts.{packBy, packIn, rulesBetween, tried, matcher, Blank, ListReady, RowFinds, ListsReady, Finds, IndexIs}
+use Rattle.rule_index.specs
+use specs.Matching.{none, Matcher, firstMatch}
+use specs.Contracts.{packBy, packIn, rulesBetween, tried, matcher, Blank, ListReady, RowFinds, ListsReady, Finds, IndexIs}
 use Rattle.rule_index.proofs.RowLaws.{never-past}
 
 -- ---- a list matches nothing behind a word
@@ -46,14 +46,14 @@ blank-finds {s} {row} w = record {
 
 -- a row that is there lies in the table
 row-within : (table : List (List ℕ)) (k : ℕ) → length (getD table k []) ≡ 128 → k < length table
-row-within [] k h = let no-way : ⊥ = omega (arith, h) in absurd no-way
+row-within [] k h = let no-way : ⊥ = omega arith in absurd no-way
 row-within (x ∷ table) zero h = omega arith
 row-within (x ∷ table) (suc k) h = omega (arith, row-within table k h)
 
 no-list : (ls : List (List Rule)) (k : ℕ) → length ls ≤ k → getD ls k [] ≡ []
 no-list [] k h = refl
-no-list (x ∷ ls) zero h = let no-way : ⊥ = omega (arith, h) in absurd no-way
-no-list (x ∷ ls) (suc k) h = no-list ls k (omega (arith, h))
+no-list (x ∷ ls) zero h = let no-way : ⊥ = omega arith in absurd no-way
+no-list (x ∷ ls) (suc k) h = no-list ls k (omega arith)
 
 -- what is found by a table, from what is found by its rows
 module _ (s : List ℕ) (table : List (List ℕ)) (rows : (k : ℕ) → k < 98 → RowFinds s (getD table k []) (getD (packIn s .lists) k []))
@@ -91,7 +91,7 @@ listing-start {s} w = record {
   blank = λ j l h. w .blank j h;
   found = λ j h. let no-way : ⊥ = omega arith in absurd no-way;
   within = zero-le;
-  few = omega (arith, w .counted, languages-few s (packIn s) (1 + stringsLength (packIn s .names)) (w .is) refl);
+  few = omega (arith, languages-few s (packIn s) (1 + stringsLength (packIn s .names)) (w .is) refl);
   long = w .long;
 }
 
@@ -106,20 +106,20 @@ module _ {s places : List ℕ} {lists k : ℕ} {table : List (List ℕ)} (w : Li
   past-by j word place h false e = ap (λ (l : List Rule). firstMatch l word place) (no-list (packIn s .lists) j (omega (arith, many, ltb-false j lists e)))
 
   row-by : lists ≤ k → (j : ℕ) → j < 98 → (t : Bool) → ltb j lists ≡ t → RowFinds s (getD table j []) (getD (packIn s .lists) j [])
-  row-by h j l true e = w .found j (omega (arith, h, ltb-true j lists e))
+  row-by h j l true e = w .found j (omega (arith, ltb-true j lists e))
   row-by h j l false e =
       subst (λ (rs : List Rule). RowFinds s (getD table j []) rs) (sym (no-list (packIn s .lists) j (omega (arith, many, ltb-false j lists e))))
-      (blank-finds (w .blank j (omega (arith, w .within, ltb-false j lists e)) l))
+      (blank-finds (w .blank j (omega (arith, ltb-false j lists e)) l))
 
   pub listing-done : lists ≤ k → Finds s table
-  listing-done h = finds s table (λ j l. row-by h j l _ refl) (λ j word place l. past-by j word place l _ refl) (omega (arith, many, w .few))
+  listing-done h = finds s table (λ j l. row-by h j l _ refl) (λ j word place l. past-by j word place l _ refl) (omega (arith, many))
 
   module _ (h : k < lists) where
     pub listing-row : k < 98
-    listing-row = omega (arith, w .few)
+    listing-row = omega arith
 
     pub listing-place : k < length places
-    listing-place = omega (arith, w .few, w .long)
+    listing-place = omega arith
 
     pub listing-next : ListReady s (getD table k []) (getD places k 0)
     listing-next = record { is = w .is; list = k; known = rw (← w .counted) h; held = w .held k h; blank = w .blank k (omega arith) listing-row }
@@ -132,7 +132,7 @@ module _ {s places : List ℕ} {lists k : ℕ} {table : List (List ℕ)} (w : Li
       found-by : (j : ℕ) → j < k + 1 → (t : Bool) → ltb j k ≡ t → RowFinds s (getD (set table k row) j []) (getD (packIn s .lists) j [])
       found-by j l true e =
           let less : j < k = ltb-true _ _ e in
-          subst (λ (r : List ℕ). RowFinds s r (getD (packIn s .lists) j [])) (sym (getD-set-other table k j row [] (λ n. omega (arith, n, less)))) (w .found j less)
+          subst (λ (r : List ℕ). RowFinds s r (getD (packIn s .lists) j [])) (sym (getD-set-other table k j row [] (λ n. omega arith))) (w .found j less)
       found-by j l false e =
           let more : k ≤ j = ltb-false _ _ e in
           let same : j ≡ k = omega arith in
@@ -143,14 +143,14 @@ module _ {s places : List ℕ} {lists k : ℕ} {table : List (List ℕ)} (w : Li
         is = w .is;
         counted = w .counted;
         held = w .held;
-        blank = λ j l m. subst Blank (sym (getD-set-other table k j row [] (λ n. omega (arith, n, l)))) (w .blank j (omega (arith, l)) m);
+        blank = λ j l m. subst Blank (sym (getD-set-other table k j row [] (λ n. omega arith))) (w .blank j (omega arith) m);
         found = λ j l. found-by j l _ refl;
         within = omega arith;
         few = w .few;
         long = w .long;
       }
 
-pub ruleset listing-laws = (listing-start, listing-done, listing-row, listing-place, listing-next, listing-turn)
+pub ruleset listing-laws = (listing-start, listing-done, listing-row, listing-place, listing-next, listing-turn, needs)
 
 -- ---- a survey's answer
 
@@ -206,7 +206,7 @@ module _ {s t t′ : List ℕ} {r : Surveyed} (w : SurveyIs s t r t′) where
           is = there .is ∙ ap accepted (sym same);
           counted = lists-many;
           long = ap length (w .buffer) ∙ length-sets t 0 (placesOf s) ∙ long;
-          held = λ k h. ap (λ (x : List ℕ). getD x k 0) (w .buffer ∙ sets-eq (placesOf s) t 0 (omega (arith, room, long, few))) ∙ List·getD-append (placesOf s) _ 0 k (omega (arith, h, room));
+          held = λ k h. ap (λ (x : List ℕ). getD x k 0) (w .buffer ∙ sets-eq (placesOf s) t 0 (omega (arith, long, few))) ∙ List·getD-append (placesOf s) _ 0 k (omega arith);
           blank = blank;
         }
 
@@ -217,10 +217,10 @@ zeros-long = length-replicate {A = ℕ} 98 0
 
 pub zeros-blank : (n m : ℕ) → n ≡ 98 → m ≡ 128 → (k : ℕ) → k < 98 → Blank (getD (replicate n (replicate m 0)) k [])
 zeros-blank n m en em k h =
-    subst Blank (sym (getD-replicate n k _ [] (omega (arith, en))))
-    (record { long = length-replicate m 0 ∙ em; clear = λ kind l. getD-replicate m (kind + 64) 0 0 (omega (arith, em)) })
+    subst Blank (sym (getD-replicate n k _ [] (omega arith)))
+    (record { long = length-replicate m 0 ∙ em; clear = λ kind l. getD-replicate m (kind + 64) 0 0 (omega arith) })
 
-pub ruleset survey-laws = (index-refused, index-accepted, thrice-fits, lists-fit, index-ready, zeros-long, zeros-blank)
+pub ruleset survey-laws = (index-refused, index-accepted, thrice-fits, lists-fit, index-ready, zeros-long, zeros-blank, needs)
 
 -- the promise of `index` allows one answer, and one table as far as it is looked at
 pub index-one : (s : List ℕ) (r r′ : Surveyed) (t t′ : List (List ℕ)) → IndexIs s r t → IndexIs s r′ t′ → _≡_ {A = Surveyed × (ℕ → Matcher)} (r, matcher s t) (r′, matcher s t′)

@@ -1,8 +1,9 @@
 use Prim.Native.Nat.{_-_}
 use lib.ListN.{length}
-use Rattle.lang.proofs.FormLaws.{Passing, passing-laws}
-use Rattle.lang.proofs.forms.all_good.Statement.{statement}
-use Rattle.lang.proofs.forms.all_good.Tie as tie
+use Rattle.lang.proofs
+use proofs.FormLaws.{Passing, passing-laws}
+use proofs.forms.all_good.Statement.{statement}
+use proofs.forms.all_good.Tie as tie
 
 abbrev Inv-loop : tie.InvT-loop
 Inv-loop t q₀ q = Passing t q
@@ -13,5 +14,5 @@ abbrev μ-loop : tie.MeasureT-loop
 pub all-good-spec : {M : Type 1} → statement M
 all-good-spec =
     tie.close (tie.spec Inv-loop μ-loop (λ c. search passing-laws) (λ c. search passing-laws) (λ c. search passing-laws) (λ c. search passing-laws)
-    (λ c κs. search passing-laws) (λ c κs. search passing-laws) (λ c. search passing-laws) (λ c. search passing-laws) (λ c. search passing-laws) (λ c. search passing-laws)
-    (λ c. search passing-laws))
+    (λ c κs. search passing-laws) (λ c κs. search passing-laws) (λ c. search passing-laws) (λ c. search passing-laws) (λ c. search passing-laws)
+    (λ c. search passing-laws) (λ c. search passing-laws))

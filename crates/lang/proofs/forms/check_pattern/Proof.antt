@@ -1,7 +1,9 @@
-use Rattle.lang.proofs.FormLaws.{forms-laws}
-use Rattle.lang.proofs.forms.check_pattern.Statement.{statement}
-use Rattle.lang.proofs.forms.check_pattern.Tie as tie
+use Rattle.lang.proofs
+use proofs.FormLaws.{forms-laws}
+use proofs.forms.check_pattern.Statement.{statement}
+use proofs.forms.check_pattern.Tie as tie
 
 pub check-pattern-spec : {M : Type 1} → statement M
 check-pattern-spec =
-    tie.close (tie.spec (λ c κs. search forms-laws) (λ c κs. search forms-laws) (λ c κs. search forms-laws) (λ c. search forms-laws) (λ c. search forms-laws))
+    tie.close (tie.spec (λ c κs. search forms-laws) (λ c κs. search forms-laws) (λ c κs. search forms-laws) (λ c. search forms-laws)
+    (λ c. search forms-laws))

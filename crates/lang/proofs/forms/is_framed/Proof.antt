@@ -1,8 +1,9 @@
 use borrow.Author.Needs.{needs}
 use Rattle.lang.specs.Patterns.{framed}
-use Rattle.lang.proofs.FormLaws.{framed-laws}
-use Rattle.lang.proofs.forms.is_framed.Statement.{statement}
-use Rattle.lang.proofs.forms.is_framed.Tie as tie
+use Rattle.lang.proofs
+use proofs.FormLaws.{framed-laws}
+use proofs.forms.is_framed.Statement.{statement}
+use proofs.forms.is_framed.Tie as tie
 use Rattle.base.proofs.PickLaws.{cases}
 
 returns : tie.Need-returns
@@ -27,5 +28,4 @@ returns-5 c = search (framed-laws, cases) depth 9
 
 pub is-framed-spec : {M : Type 1} → statement M
 is-framed-spec =
-    tie.close (tie.spec (λ c κs. search (framed-laws, needs)) (λ c κs. search (framed-laws, needs)) (λ c κs. search (framed-laws, needs)) returns returns-2 returns-3 returns-4
-    returns-5)
+    tie.close (tie.spec (λ c κs. search needs) (λ c κs. search needs) (λ c κs. search needs) returns returns-2 returns-3 returns-4 returns-5)

@@ -1,6 +1,7 @@
-use Rattle.lang.proofs.FormLaws.{good-laws}
-use Rattle.lang.proofs.forms.is_good.Statement.{statement}
-use Rattle.lang.proofs.forms.is_good.Tie as tie
+use Rattle.lang.proofs
+use proofs.FormLaws.{good-laws}
+use proofs.forms.is_good.Statement.{statement}
+use proofs.forms.is_good.Tie as tie
 
 pub is-good-spec : {M : Type 1} → statement M
 is-good-spec =

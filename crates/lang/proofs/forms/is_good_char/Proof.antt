@@ -1,6 +1,7 @@
-use Rattle.lang.proofs.FormLaws.{good-laws}
-use Rattle.lang.proofs.forms.is_good_char.Statement.{statement}
-use Rattle.lang.proofs.forms.is_good_char.Tie as tie
+use Rattle.lang.proofs
+use proofs.FormLaws.{good-laws}
+use proofs.forms.is_good_char.Statement.{statement}
+use proofs.forms.is_good_char.Tie as tie
 
 pub is-good-char-spec : {M : Type 1} → statement M
 is-good-char-spec =

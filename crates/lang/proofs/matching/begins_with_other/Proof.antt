@@ -1,7 +1,8 @@
 use borrow.Author.Needs.{needs}
 use Rattle.lang.specs.Contracts.{beginsWithOther}
-use Rattle.lang.proofs.matching.begins_with_other.Statement.{statement}
-use Rattle.lang.proofs.matching.begins_with_other.Tie as tie
+use Rattle.lang.proofs
+use proofs.matching.begins_with_other.Statement.{statement}
+use proofs.matching.begins_with_other.Tie as tie
 use Rattle.base.proofs.PickLaws.{cases}
 
 returns : tie.Need-returns

@@ -1,7 +1,8 @@
 use borrow.Author.Needs.{needs}
-use Rattle.lang.proofs.Shortcuts.{place-passed}
-use Rattle.lang.proofs.matching.fits_from.Statement.{statement}
-use Rattle.lang.proofs.matching.fits_from.Tie as tie
+use Rattle.lang.proofs
+use proofs.Shortcuts.{place-passed}
+use proofs.matching.fits_from.Statement.{statement}
+use proofs.matching.fits_from.Tie as tie
 
 pub fits-from-spec : {M : Type 1} → statement M
 fits-from-spec =

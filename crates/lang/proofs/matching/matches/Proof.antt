@@ -1,6 +1,7 @@
-use Rattle.lang.proofs.Fits.{match-laws}
-use Rattle.lang.proofs.matching.matches.Statement.{statement}
-use Rattle.lang.proofs.matching.matches.Tie as tie
+use Rattle.lang.proofs
+use proofs.Fits.{match-laws}
+use proofs.matching.matches.Statement.{statement}
+use proofs.matching.matches.Tie as tie
 
 pub matches-spec : {M : Type 1} → statement M
 matches-spec =

@@ -1,6 +1,7 @@
-use Rattle.lang.proofs.PieceLaws.{front-laws}
-use Rattle.lang.proofs.pieces.char_len.Statement.{statement}
-use Rattle.lang.proofs.pieces.char_len.Tie as tie
+use Rattle.lang.proofs
+use proofs.PieceLaws.{front-laws}
+use proofs.pieces.char_len.Statement.{statement}
+use proofs.pieces.char_len.Tie as tie
 
 pub char-len-spec : {M : Type 1} → statement M
 char-len-spec =

@@ -1,6 +1,7 @@
-use Rattle.lang.proofs.PieceLaws.{box-laws}
-use Rattle.lang.proofs.pieces.inside_of.Statement.{statement}
-use Rattle.lang.proofs.pieces.inside_of.Tie as tie
+use Rattle.lang.proofs
+use proofs.PieceLaws.{box-laws}
+use proofs.pieces.inside_of.Statement.{statement}
+use proofs.pieces.inside_of.Tie as tie
 
 pub inside-of-spec : {M : Type 1} → statement M
 inside-of-spec =

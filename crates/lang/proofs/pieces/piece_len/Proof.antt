@@ -1,7 +1,8 @@
 use native.Mathlib.Omega.{arith}
-use Rattle.lang.proofs.PieceLaws.{length-fits, front-laws}
-use Rattle.lang.proofs.pieces.piece_len.Statement.{statement}
-use Rattle.lang.proofs.pieces.piece_len.Tie as tie
+use Rattle.lang.proofs
+use proofs.PieceLaws.{length-fits, front-laws}
+use proofs.pieces.piece_len.Statement.{statement}
+use proofs.pieces.piece_len.Tie as tie
 
 add-result : tie.Need-add-result
 add-result c = omega (arith, length-fits _ _ (c .before .before .before .first-is .ensures) _ (c .before .before .if1 .taken) (c .box-len .ensures))

@@ -1,6 +1,7 @@
-use Rattle.lang.proofs.Signs.{sign-laws}
-use Rattle.lang.proofs.pieces.stands_for_itself.Statement.{statement}
-use Rattle.lang.proofs.pieces.stands_for_itself.Tie as tie
+use Rattle.lang.proofs
+use proofs.Signs.{sign-laws}
+use proofs.pieces.stands_for_itself.Statement.{statement}
+use proofs.pieces.stands_for_itself.Tie as tie
 
 pub stands-for-itself-spec : {M : Type 1} → statement M
 stands-for-itself-spec =

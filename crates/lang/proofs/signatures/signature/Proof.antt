@@ -1,8 +1,9 @@
 use Prim.Native.Nat.{_-_}
 use lib.ListN.{length}
-use Rattle.lang.proofs.Shortcuts.{Signing, signing-laws}
-use Rattle.lang.proofs.signatures.signature.Statement.{statement}
-use Rattle.lang.proofs.signatures.signature.Tie as tie
+use Rattle.lang.proofs
+use proofs.Shortcuts.{Signing, signing-laws}
+use proofs.signatures.signature.Statement.{statement}
+use proofs.signatures.signature.Tie as tie
 
 abbrev Inv-loop : tie.InvT-loop
 Inv-loop name i₀ bits₀ i bits = Signing name i bits

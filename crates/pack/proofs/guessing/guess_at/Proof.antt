@@ -1,6 +1,7 @@
-use Rattle.pack.proofs.GuessLaws.{guess-at-laws}
-use Rattle.pack.proofs.guessing.guess_at.Statement.{statement}
-use Rattle.pack.proofs.guessing.guess_at.Tie as tie
+use Rattle.pack.proofs
+use proofs.GuessLaws.{guess-at-laws}
+use proofs.guessing.guess_at.Statement.{statement}
+use proofs.guessing.guess_at.Tie as tie
 
 pub guess-at-spec : {M : Type 1} → statement M
 guess-at-spec =

@@ -1,6 +1,7 @@
-use Rattle.pack.proofs.GuessLaws.{guess-test-laws}
-use Rattle.pack.proofs.guessing.guess_good.Statement.{statement}
-use Rattle.pack.proofs.guessing.guess_good.Tie as tie
+use Rattle.pack.proofs
+use proofs.GuessLaws.{guess-test-laws}
+use proofs.guessing.guess_good.Statement.{statement}
+use proofs.guessing.guess_good.Tie as tie
 
 pub guess-good-spec : {M : Type 1} → statement M
 guess-good-spec =

@@ -1,7 +1,8 @@
 use Rattle.languages.proofs.NumberLaws.{set-told}
-use Rattle.pack.proofs.GuessLaws.{guessed-laws}
-use Rattle.pack.proofs.guessing.guess_languages.Statement.{statement}
-use Rattle.pack.proofs.guessing.guess_languages.Tie as tie
+use Rattle.pack.proofs
+use proofs.GuessLaws.{guessed-laws}
+use proofs.guessing.guess_languages.Statement.{statement}
+use proofs.guessing.guess_languages.Tie as tie
 
 pub guess-languages-spec : {M : Type 1} → statement M
 guess-languages-spec =

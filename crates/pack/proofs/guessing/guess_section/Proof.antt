@@ -1,6 +1,7 @@
-use Rattle.pack.proofs.GuessLaws.{guesses-laws}
-use Rattle.pack.proofs.guessing.guess_section.Statement.{statement}
-use Rattle.pack.proofs.guessing.guess_section.Tie as tie
+use Rattle.pack.proofs
+use proofs.GuessLaws.{guesses-laws}
+use proofs.guessing.guess_section.Statement.{statement}
+use proofs.guessing.guess_section.Tie as tie
 
 pub guess-section-spec : {M : Type 1} → statement M
 guess-section-spec =

@@ -1,6 +1,7 @@
-use Rattle.pack.proofs.GuessLaws.{Guessing, guessing-laws}
-use Rattle.pack.proofs.guessing.guesses_from.Statement.{statement}
-use Rattle.pack.proofs.guessing.guesses_from.Tie as tie
+use Rattle.pack.proofs
+use proofs.GuessLaws.{Guessing, guessing-laws}
+use proofs.guessing.guesses_from.Statement.{statement}
+use proofs.guessing.guesses_from.Tie as tie
 
 abbrev Inv-loop : tie.InvT-loop
 Inv-loop pack start count languages at₀ left₀ at left = Guessing pack languages start count at left

@@ -1,7 +1,8 @@
 use borrow.Author.Needs.{needs}
 use Rattle.pack.specs.Guessing.{leftOver}
-use Rattle.pack.proofs.guessing.left_over.Statement.{statement}
-use Rattle.pack.proofs.guessing.left_over.Tie as tie
+use Rattle.pack.proofs
+use proofs.guessing.left_over.Statement.{statement}
+use proofs.guessing.left_over.Tie as tie
 use Rattle.base.proofs.PickLaws.{cases}
 
 returns : tie.Need-returns

@@ -1,6 +1,9 @@
-use Rattle.pack.proofs.GuessLaws.{listed-laws}
-use Rattle.pack.proofs.guessing.listed_mask.Statement.{statement}
-use Rattle.pack.proofs.guessing.listed_mask.Tie as tie
+use Rattle.pack.proofs
+use proofs.GuessLaws.{listed-laws}
+use proofs.guessing.listed_mask.Statement.{statement}
+use proofs.guessing.listed_mask.Tie as tie
 
 pub listed-mask-spec : {M : Type 1} → statement M
-listed-mask-spec = tie.close (tie.spec (λ c. search listed-laws) (λ c. search listed-laws) (λ c. search listed-laws) (λ c. search listed-laws) (λ c. search listed-laws))
+listed-mask-spec =
+    tie.close (tie.spec (λ c. search listed-laws) (λ c. search listed-laws) (λ c. search listed-laws) (λ c. search listed-laws)
+    (λ c. search listed-laws))

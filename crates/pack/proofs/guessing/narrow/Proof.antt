@@ -1,7 +1,8 @@
 use borrow.Author.Needs.{needs}
 use Rattle.pack.specs.Guessing.{narrowedBy}
-use Rattle.pack.proofs.guessing.narrow.Statement.{statement}
-use Rattle.pack.proofs.guessing.narrow.Tie as tie
+use Rattle.pack.proofs
+use proofs.guessing.narrow.Statement.{statement}
+use proofs.guessing.narrow.Tie as tie
 use Rattle.base.proofs.PickLaws.{cases}
 
 returns : tie.Need-returns

@@ -1,7 +1,8 @@
 use borrow.Author.Needs.{needs}
-use Rattle.pack.proofs.GuessLaws.{Narrowing, narrowing-laws}
-use Rattle.pack.proofs.guessing.narrow_all.Statement.{statement}
-use Rattle.pack.proofs.guessing.narrow_all.Tie as tie
+use Rattle.pack.proofs
+use proofs.GuessLaws.{Narrowing, narrowing-laws}
+use proofs.guessing.narrow_all.Statement.{statement}
+use proofs.guessing.narrow_all.Tie as tie
 
 abbrev Inv-loop : tie.InvT-loop
 Inv-loop pack start count all name at₀ left₀ mask₀ signature at left mask = Narrowing pack name start count all at left mask

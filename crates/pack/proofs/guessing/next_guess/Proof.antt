@@ -1,6 +1,7 @@
-use Rattle.pack.proofs.GuessLaws.{next-guess-laws}
-use Rattle.pack.proofs.guessing.next_guess.Statement.{statement}
-use Rattle.pack.proofs.guessing.next_guess.Tie as tie
+use Rattle.pack.proofs
+use proofs.GuessLaws.{next-guess-laws}
+use proofs.guessing.next_guess.Statement.{statement}
+use proofs.guessing.next_guess.Tie as tie
 
 pub next-guess-spec : {M : Type 1} → statement M
 next-guess-spec =

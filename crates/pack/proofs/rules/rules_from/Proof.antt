@@ -1,7 +1,7 @@
-use borrow.Author.Needs.{needs}
-use Rattle.pack.proofs.RuleLaws.{Listing, listing-laws}
-use Rattle.pack.proofs.rules.rules_from.Statement.{statement}
-use Rattle.pack.proofs.rules.rules_from.Tie as tie
+use Rattle.pack.proofs
+use proofs.RuleLaws.{Listing, listing-laws}
+use proofs.rules.rules_from.Statement.{statement}
+use proofs.rules.rules_from.Tie as tie
 
 abbrev Inv-loop : tie.InvT-loop
 Inv-loop pack start count names at₀ left₀ least₀ at left least = Listing pack names start count at left least
@@ -11,6 +11,5 @@ abbrev μ-loop : tie.MeasureT-loop
 
 pub rules-from-spec : {M : Type 1} → statement M
 rules-from-spec =
-    tie.close (tie.spec Inv-loop μ-loop (λ c. search (listing-laws, needs)) (λ c κs. search (listing-laws, needs)) (λ c. search (listing-laws, needs))
-    (λ c. search (listing-laws, needs)) (λ c. search (listing-laws, needs)) (λ c. search (listing-laws, needs)) (λ c. search (listing-laws, needs))
-    (λ c. search (listing-laws, needs)) (λ c. search (listing-laws, needs)))
+    tie.close (tie.spec Inv-loop μ-loop (λ c. search listing-laws) (λ c κs. search listing-laws) (λ c. search listing-laws) (λ c. search listing-laws)
+    (λ c. search listing-laws) (λ c. search listing-laws) (λ c. search listing-laws) (λ c. search listing-laws) (λ c. search listing-laws))

@@ -1,6 +1,7 @@
-use Rattle.pack.proofs.SectionLaws.{follows-laws}
-use Rattle.pack.proofs.sections.follows_name.Statement.{statement}
-use Rattle.pack.proofs.sections.follows_name.Tie as tie
+use Rattle.pack.proofs
+use proofs.SectionLaws.{follows-laws}
+use proofs.sections.follows_name.Statement.{statement}
+use proofs.sections.follows_name.Tie as tie
 
 pub follows-name-spec : {M : Type 1} → statement M
 follows-name-spec =

@@ -1,6 +1,7 @@
-use Rattle.pack.proofs.SectionLaws.{Found, found-laws}
-use Rattle.pack.proofs.sections.lists_section.Statement.{statement}
-use Rattle.pack.proofs.sections.lists_section.Tie as tie
+use Rattle.pack.proofs
+use proofs.SectionLaws.{Found, found-laws}
+use proofs.sections.lists_section.Statement.{statement}
+use proofs.sections.lists_section.Tie as tie
 
 abbrev Inv-loop : tie.InvT-loop
 Inv-loop pack start count names places₀ at₀ left₀ k₀ places at left k = Found pack names start count places₀ at left k places

@@ -1,7 +1,8 @@
 use borrow.Author.Needs.{needs}
 use Rattle.pack.specs.Contracts.{metBy}
-use Rattle.pack.proofs.sections.meets_any.Statement.{statement}
-use Rattle.pack.proofs.sections.meets_any.Tie as tie
+use Rattle.pack.proofs
+use proofs.sections.meets_any.Statement.{statement}
+use proofs.sections.meets_any.Tie as tie
 use Rattle.base.proofs.PickLaws.{cases}
 
 returns : tie.Need-returns

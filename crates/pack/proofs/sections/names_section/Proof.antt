@@ -1,6 +1,7 @@
-use Rattle.pack.proofs.SectionLaws.{Naming, naming-laws}
-use Rattle.pack.proofs.sections.names_section.Statement.{statement}
-use Rattle.pack.proofs.sections.names_section.Tie as tie
+use Rattle.pack.proofs
+use proofs.SectionLaws.{Naming, naming-laws}
+use proofs.sections.names_section.Statement.{statement}
+use proofs.sections.names_section.Tie as tie
 
 abbrev Inv-loop : tie.InvT-loop
 Inv-loop pack count left₀ from₀ at₀ met₀ left from at met = Naming pack from at left met

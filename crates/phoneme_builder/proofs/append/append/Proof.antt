@@ -1,8 +1,9 @@
 use borrow.Author.Needs.{needs}
 use Rattle.phoneme_builder.specs.BufferContracts.{arena}
-use Rattle.phoneme_builder.proofs.AppendLaws.{Appending, appending-laws, appending-in}
-use Rattle.phoneme_builder.proofs.append.append.Statement.{statement}
-use Rattle.phoneme_builder.proofs.append.append.Tie as tie
+use Rattle.phoneme_builder.proofs
+use proofs.AppendLaws.{Appending, appending-laws}
+use proofs.append.append.Statement.{statement}
+use proofs.append.append.Tie as tie
 
 abbrev Inv-loop : tie.InvT-loop
 Inv-loop store₀ slots₀ sets c i₀ count₀ store slots i count = Appending c (arena store₀ slots₀) sets (arena store slots) count i
@@ -10,11 +11,7 @@ Inv-loop store₀ slots₀ sets c i₀ count₀ store slots i count = Appending 
 abbrev μ-loop : tie.MeasureT-loop
 μ-loop store₀ slots₀ sets c i₀ count₀ store slots i count = i
 
-lengthen-requires : tie.Need-lengthen-requires Inv-loop μ-loop
-lengthen-requires c κs = record { text = appending-in (c .before .before .before .loop .inv) (search needs); set = search needs; room = search (appending-laws, needs) }
-
 pub append-spec : {M : Type 1} → statement M
 append-spec =
-    tie.close (tie.spec Inv-loop μ-loop (λ c. search (appending-laws, needs)) (λ c. search needs) lengthen-requires (λ c. search needs)
-    (λ c. search needs) (λ c. search (appending-laws, needs)) (λ c. search needs) (λ c. search (appending-laws, needs))
-    (λ c. search (appending-laws, needs)))
+    tie.close (tie.spec Inv-loop μ-loop (λ c. search appending-laws) (λ c. search needs) (λ c κs. search appending-laws) (λ c. search needs)
+    (λ c. search needs) (λ c. search appending-laws) (λ c. search needs) (λ c. search appending-laws) (λ c. search appending-laws))

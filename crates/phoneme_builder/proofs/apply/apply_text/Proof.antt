@@ -1,8 +1,9 @@
 use borrow.Author.Needs.{needs}
-use Rattle.phoneme_builder.proofs.PartLaws.{code-in, copied-entry}
-use Rattle.phoneme_builder.proofs.ApplyLaws.{offered-under}
-use Rattle.phoneme_builder.proofs.apply.apply_text.Statement.{statement}
-use Rattle.phoneme_builder.proofs.apply.apply_text.Tie as tie
+use Rattle.phoneme_builder.proofs
+use proofs.PartLaws.{code-in, copied-entry}
+use proofs.ApplyLaws.{offered-under}
+use proofs.apply.apply_text.Statement.{statement}
+use proofs.apply.apply_text.Tie as tie
 
 pub apply-text-spec : {M : Type 1} → statement M
 apply-text-spec =

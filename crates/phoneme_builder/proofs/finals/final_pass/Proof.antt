@@ -1,9 +1,10 @@
 use borrow.Author.Needs.{needs}
 use Prim.Native.Nat.{_-_}
 use Rattle.phoneme_builder.specs.BufferContracts.{arena}
-use Rattle.phoneme_builder.proofs.FinalLaws.{Finishing, finishing-laws}
-use Rattle.phoneme_builder.proofs.finals.final_pass.Statement.{statement}
-use Rattle.phoneme_builder.proofs.finals.final_pass.Tie as tie
+use Rattle.phoneme_builder.proofs
+use proofs.FinalLaws.{Finishing, finishing-laws}
+use proofs.finals.final_pass.Statement.{statement}
+use proofs.finals.final_pass.Tie as tie
 
 abbrev Inv-loop : tie.InvT-loop
 Inv-loop store₀ slots₀ alts₀ pack table by sets count text₀ united₀ flag₀ store slots alts text united flag =
@@ -14,6 +15,6 @@ abbrev μ-loop : tie.MeasureT-loop
 
 pub final-pass-spec : {M : Type 1} → statement M
 final-pass-spec =
-    tie.close (tie.spec Inv-loop μ-loop (λ c. search (finishing-laws, needs)) (λ c κs. search (finishing-laws, needs)) (λ c. search needs)
-    (λ c κs. search needs) (λ c. search needs) (λ c. search needs) (λ c. search (finishing-laws, needs)) (λ c. search needs)
-    (λ c. search (finishing-laws, needs)) (λ c. search needs) (λ c. search (finishing-laws, needs)) (λ c. search (finishing-laws, needs)))
+    tie.close (tie.spec Inv-loop μ-loop (λ c. search finishing-laws) (λ c κs. search finishing-laws) (λ c. search needs) (λ c κs. search needs)
+    (λ c. search needs) (λ c. search needs) (λ c. search finishing-laws) (λ c. search needs) (λ c. search finishing-laws) (λ c. search needs)
+    (λ c. search finishing-laws) (λ c. search finishing-laws))

@@ -1,9 +1,10 @@
 use borrow.Author.Needs.{needs}
-use Rattle.phoneme_builder.proofs.PassLaws.{letter-laws}
-use Rattle.phoneme_builder.proofs.pass.pass_unmatched.Statement.{statement}
-use Rattle.phoneme_builder.proofs.pass.pass_unmatched.Tie as tie
+use Rattle.phoneme_builder.proofs
+use proofs.PassLaws.{letter-laws}
+use proofs.pass.pass_unmatched.Statement.{statement}
+use proofs.pass.pass_unmatched.Tie as tie
 
 pub pass-unmatched-spec : {M : Type 1} → statement M
 pass-unmatched-spec =
     tie.close (tie.spec (λ c κs. search needs) (λ c. search needs) (λ c. search needs) (λ c. search needs) (λ c. search needs) (λ c κs. search needs)
-    (λ c. search needs) (λ c. search needs) (λ c. search (letter-laws, needs)) (λ c. search (letter-laws, needs)) (λ c. search (letter-laws, needs)))
+    (λ c. search needs) (λ c. search needs) (λ c. search letter-laws) (λ c. search letter-laws) (λ c. search letter-laws))

@@ -1,7 +1,8 @@
 use borrow.Author.Needs.{needs}
-use Rattle.phoneme_builder.proofs.PartLaws.{grown}
-use Rattle.phoneme_builder.proofs.set.add_to.Statement.{statement}
-use Rattle.phoneme_builder.proofs.set.add_to.Tie as tie
+use Rattle.phoneme_builder.proofs
+use proofs.PartLaws.{grown}
+use proofs.set.add_to.Statement.{statement}
+use proofs.set.add_to.Tie as tie
 
 pub add-to-spec : {M : Type 1} → statement M
 add-to-spec =

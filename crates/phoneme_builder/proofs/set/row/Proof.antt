@@ -1,7 +1,8 @@
 use borrow.Author.Needs.{needs}
-use Rattle.phoneme_builder.proofs.FindLaws.{row-is}
-use Rattle.phoneme_builder.proofs.set.row.Statement.{statement}
-use Rattle.phoneme_builder.proofs.set.row.Tie as tie
+use Rattle.phoneme_builder.proofs
+use proofs.FindLaws.{row-is}
+use proofs.set.row.Statement.{statement}
+use proofs.set.row.Tie as tie
 
 pub row-spec : {M : Type 1} → statement M
 row-spec =

@@ -1,9 +1,10 @@
 use borrow.Author.Needs.{needs}
-use Rattle.phoneme_builder.proofs.SlotLaws.{merged-laws}
-use Rattle.phoneme_builder.proofs.slots.merged.Statement.{statement}
-use Rattle.phoneme_builder.proofs.slots.merged.Tie as tie
+use Rattle.phoneme_builder.proofs
+use proofs.SlotLaws.{merged-laws}
+use proofs.slots.merged.Statement.{statement}
+use proofs.slots.merged.Tie as tie
 
 pub merged-spec : {M : Type 1} → statement M
 merged-spec =
-    tie.close (tie.spec (λ c κs. search needs) (λ c κs. search needs) (λ c κs. search needs) (λ c κs. search needs) (λ c κs. search (merged-laws, needs))
-    (λ c. search (merged-laws, needs)))
+    tie.close (tie.spec (λ c κs. search needs) (λ c κs. search needs) (λ c κs. search needs) (λ c κs. search needs) (λ c κs. search merged-laws)
+    (λ c. search merged-laws))

@@ -1,7 +1,8 @@
 use borrow.Author.Needs.{needs}
-use Rattle.phoneme_builder.proofs.UniteLaws.{row-inserted}
-use Rattle.phoneme_builder.proofs.unite.insert_row.Statement.{statement}
-use Rattle.phoneme_builder.proofs.unite.insert_row.Tie as tie
+use Rattle.phoneme_builder.proofs
+use proofs.UniteLaws.{row-inserted}
+use proofs.unite.insert_row.Statement.{statement}
+use proofs.unite.insert_row.Tie as tie
 
 pub insert-row-spec : {M : Type 1} → statement M
 insert-row-spec =

@@ -1,8 +1,9 @@
 use borrow.Author.Needs.{needs}
-use Rattle.phoneme_builder.proofs.PartLaws.{copied-fits, code-in, copied-entry}
-use Rattle.phoneme_builder.proofs.UniteLaws.{united-text}
-use Rattle.phoneme_builder.proofs.unite.unite_text.Statement.{statement}
-use Rattle.phoneme_builder.proofs.unite.unite_text.Tie as tie
+use Rattle.phoneme_builder.proofs
+use proofs.PartLaws.{copied-fits, code-in, copied-entry}
+use proofs.UniteLaws.{united-text}
+use proofs.unite.unite_text.Statement.{statement}
+use proofs.unite.unite_text.Tie as tie
 
 pub unite-text-spec : {M : Type 1} → statement M
 unite-text-spec =

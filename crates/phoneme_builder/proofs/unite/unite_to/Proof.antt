@@ -1,7 +1,8 @@
 use borrow.Author.Needs.{needs}
-use Rattle.phoneme_builder.proofs.UniteLaws.{united-to}
-use Rattle.phoneme_builder.proofs.unite.unite_to.Statement.{statement}
-use Rattle.phoneme_builder.proofs.unite.unite_to.Tie as tie
+use Rattle.phoneme_builder.proofs
+use proofs.UniteLaws.{united-to}
+use proofs.unite.unite_to.Statement.{statement}
+use proofs.unite.unite_to.Tie as tie
 
 pub unite-to-spec : {M : Type 1} → statement M
 unite-to-spec =

@@ -1,10 +1,10 @@
 use borrow.Author.Needs.{needs}
-use Rattle.phoneme_builder.proofs.FinalLaws.{final-laws}
-use Rattle.phoneme_builder.proofs.words.final_passes.Statement.{statement}
-use Rattle.phoneme_builder.proofs.words.final_passes.Tie as tie
+use Rattle.phoneme_builder.proofs
+use proofs.FinalLaws.{final-laws}
+use proofs.words.final_passes.Statement.{statement}
+use proofs.words.final_passes.Tie as tie
 
 pub final-passes-spec : {M : Type 1} → statement M
 final-passes-spec =
-    tie.close (tie.spec (λ c. search needs) (λ c κs. search (final-laws, needs)) (λ c. search needs) (λ c κs. search (final-laws, needs))
-    (λ c κs. search needs) (λ c. search needs) (λ c. search needs) (λ c. search (final-laws, needs)) (λ c. search (final-laws, needs))
-    (λ c. search (final-laws, needs)))
+    tie.close (tie.spec (λ c. search needs) (λ c κs. search final-laws) (λ c. search needs) (λ c κs. search final-laws) (λ c κs. search needs)
+    (λ c. search needs) (λ c. search needs) (λ c. search final-laws) (λ c. search final-laws) (λ c. search final-laws))

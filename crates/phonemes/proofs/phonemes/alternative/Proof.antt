@@ -1,6 +1,7 @@
-use Rattle.phonemes.proofs.AltLaws.{alternative-laws}
-use Rattle.phonemes.proofs.phonemes.alternative.Statement.{statement}
-use Rattle.phonemes.proofs.phonemes.alternative.Tie as tie
+use Rattle.phonemes.proofs
+use proofs.AltLaws.{alternative-laws}
+use proofs.phonemes.alternative.Statement.{statement}
+use proofs.phonemes.alternative.Tie as tie
 
 pub alternative-spec : {M : Type 1} → statement M
 alternative-spec =

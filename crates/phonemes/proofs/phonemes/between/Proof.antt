@@ -1,6 +1,7 @@
-use Rattle.phonemes.proofs.ExprLaws.{piece-laws}
-use Rattle.phonemes.proofs.phonemes.between.Statement.{statement}
-use Rattle.phonemes.proofs.phonemes.between.Tie as tie
+use Rattle.phonemes.proofs
+use proofs.ExprLaws.{piece-laws}
+use proofs.phonemes.between.Statement.{statement}
+use proofs.phonemes.between.Tie as tie
 
 pub between-spec : {M : Type 1} → statement M
 between-spec =

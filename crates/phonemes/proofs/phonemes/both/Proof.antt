@@ -1,5 +1,6 @@
-use Rattle.phonemes.proofs.phonemes.both.Statement.{statement}
-use Rattle.phonemes.proofs.phonemes.both.Tie as tie
+use Rattle.phonemes.proofs
+use proofs.phonemes.both.Statement.{statement}
+use proofs.phonemes.both.Tie as tie
 use Rattle.base.proofs.PickLaws.{cases}
 
 pub both-spec : {M : Type 1} → statement M

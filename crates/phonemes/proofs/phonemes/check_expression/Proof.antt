@@ -1,7 +1,8 @@
-use Rattle.phonemes.proofs.NumberLaws.{expression-told}
-use Rattle.phonemes.proofs.ExprLaws.{check-laws}
-use Rattle.phonemes.proofs.phonemes.check_expression.Statement.{statement}
-use Rattle.phonemes.proofs.phonemes.check_expression.Tie as tie
+use Rattle.phonemes.proofs
+use proofs.NumberLaws.{expression-told}
+use proofs.ExprLaws.{check-laws}
+use proofs.phonemes.check_expression.Statement.{statement}
+use proofs.phonemes.check_expression.Tie as tie
 
 pub check-expression-spec : {M : Type 1} → statement M
 check-expression-spec =

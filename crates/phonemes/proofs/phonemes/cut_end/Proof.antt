@@ -1,6 +1,7 @@
-use Rattle.phonemes.proofs.CutLaws.{cut-laws}
-use Rattle.phonemes.proofs.phonemes.cut_end.Statement.{statement}
-use Rattle.phonemes.proofs.phonemes.cut_end.Tie as tie
+use Rattle.phonemes.proofs
+use proofs.CutLaws.{cut-laws}
+use proofs.phonemes.cut_end.Statement.{statement}
+use proofs.phonemes.cut_end.Tie as tie
 
 pub cut-end-spec : {M : Type 1} → statement M
 cut-end-spec =

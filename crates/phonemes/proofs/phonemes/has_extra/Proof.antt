@@ -1,7 +1,8 @@
 use Rattle.phonemes.specs.Contracts.{hasExtra}
 use borrow.Author.Needs.{needs}
-use Rattle.phonemes.proofs.phonemes.has_extra.Statement.{statement}
-use Rattle.phonemes.proofs.phonemes.has_extra.Tie as tie
+use Rattle.phonemes.proofs
+use proofs.phonemes.has_extra.Statement.{statement}
+use proofs.phonemes.has_extra.Tie as tie
 use Rattle.base.proofs.PickLaws.{cases}
 
 returns : tie.Need-returns

@@ -1,8 +1,9 @@
 use Prim.Native.Nat.{_-_}
 use lib.ListN.{length}
-use Rattle.phonemes.proofs.CutLaws.{Judging, judging-laws}
-use Rattle.phonemes.proofs.phonemes.judge.Statement.{statement}
-use Rattle.phonemes.proofs.phonemes.judge.Tie as tie
+use Rattle.phonemes.proofs
+use proofs.CutLaws.{Judging, judging-laws}
+use proofs.phonemes.judge.Statement.{statement}
+use proofs.phonemes.judge.Tie as tie
 
 abbrev Inv-loop : tie.InvT-loop
 Inv-loop names t more n from₀ count₀ known₀ from count known = Judging names t more from count known

@@ -1,9 +1,10 @@
 use Prim.Native.Nat.{_-_}
 use lib.ListN.{length}
 use Rattle.languages.proofs.NumberLaws.{listed-one, listed-told}
-use Rattle.phonemes.proofs.CutLaws.{Naming, naming-laws}
-use Rattle.phonemes.proofs.phonemes.names_mask.Statement.{statement}
-use Rattle.phonemes.proofs.phonemes.names_mask.Tie as tie
+use Rattle.phonemes.proofs
+use proofs.CutLaws.{Naming, naming-laws}
+use proofs.phonemes.names_mask.Statement.{statement}
+use proofs.phonemes.names_mask.Tie as tie
 
 abbrev Inv-loop : tie.InvT-loop
 Inv-loop names joined n from₀ mask₀ from mask = Naming names joined from mask

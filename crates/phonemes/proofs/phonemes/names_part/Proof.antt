@@ -1,6 +1,7 @@
-use Rattle.phonemes.proofs.ExprLaws.{piece-laws}
-use Rattle.phonemes.proofs.phonemes.names_part.Statement.{statement}
-use Rattle.phonemes.proofs.phonemes.names_part.Tie as tie
+use Rattle.phonemes.proofs
+use proofs.ExprLaws.{piece-laws}
+use proofs.phonemes.names_part.Statement.{statement}
+use proofs.phonemes.names_part.Tie as tie
 
 pub names-part-spec : {M : Type 1} → statement M
 names-part-spec =

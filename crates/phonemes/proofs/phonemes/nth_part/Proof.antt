@@ -1,8 +1,9 @@
 use Prim.Native.Nat.{_-_}
 use lib.ListN.{length}
-use Rattle.phonemes.proofs.CutLaws.{Finding, finding-laws}
-use Rattle.phonemes.proofs.phonemes.nth_part.Statement.{statement}
-use Rattle.phonemes.proofs.phonemes.nth_part.Tie as tie
+use Rattle.phonemes.proofs
+use proofs.CutLaws.{Finding, finding-laws}
+use proofs.phonemes.nth_part.Statement.{statement}
+use proofs.phonemes.nth_part.Tie as tie
 
 abbrev Inv-loop : tie.InvT-loop
 Inv-loop t i n from₀ left₀ from left = Finding t i from left

@@ -1,7 +1,8 @@
 use Rattle.languages.proofs.NumberLaws.{listed-one}
-use Rattle.phonemes.proofs.ExprLaws.{piece-laws}
-use Rattle.phonemes.proofs.phonemes.piece_mask.Statement.{statement}
-use Rattle.phonemes.proofs.phonemes.piece_mask.Tie as tie
+use Rattle.phonemes.proofs
+use proofs.ExprLaws.{piece-laws}
+use proofs.phonemes.piece_mask.Statement.{statement}
+use proofs.phonemes.piece_mask.Tie as tie
 
 pub piece-mask-spec : {M : Type 1} → statement M
 piece-mask-spec =

@@ -1,6 +1,7 @@
-use Rattle.phonemes.proofs.ExprLaws.{piece-laws}
-use Rattle.phonemes.proofs.phonemes.piece_set.Statement.{statement}
-use Rattle.phonemes.proofs.phonemes.piece_set.Tie as tie
+use Rattle.phonemes.proofs
+use proofs.ExprLaws.{piece-laws}
+use proofs.phonemes.piece_set.Statement.{statement}
+use proofs.phonemes.piece_set.Tie as tie
 
 pub piece-set-spec : {M : Type 1} → statement M
 piece-set-spec =

@@ -1,6 +1,7 @@
 use Rattle.phonemes.specs.Contracts.{expressionTold}
-use Rattle.phonemes.proofs.phonemes.told_of.Statement.{statement}
-use Rattle.phonemes.proofs.phonemes.told_of.Tie as tie
+use Rattle.phonemes.proofs
+use proofs.phonemes.told_of.Statement.{statement}
+use proofs.phonemes.told_of.Tie as tie
 use Rattle.base.proofs.PickLaws.{cases}
 
 returns : tie.Need-returns

@@ -1,10 +1,10 @@
-use borrow.Author.Needs.{needs}
-use Rattle.rule_index.proofs.TableLaws.{survey-laws}
-use Rattle.rule_index.proofs.indexing.index.Statement.{statement}
-use Rattle.rule_index.proofs.indexing.index.Tie as tie
+use Rattle.rule_index.proofs
+use proofs.TableLaws.{survey-laws}
+use proofs.indexing.index.Statement.{statement}
+use proofs.indexing.index.Tie as tie
 
 pub index-spec : {M : Type 1} → statement M
 index-spec =
-    tie.close (tie.spec (λ c. search (survey-laws, needs)) (λ c κs. search (survey-laws, needs)) (λ c. search (survey-laws, needs))
-    (λ c. search (survey-laws, needs)) (λ c. search (survey-laws, needs)) (λ c. search (survey-laws, needs)) (λ c κs. search (survey-laws, needs))
-    (λ c. search (survey-laws, needs)) (λ c. search (survey-laws, needs)) (λ c. search (survey-laws, needs)))
+    tie.close (tie.spec (λ c. search survey-laws) (λ c κs. search survey-laws) (λ c. search survey-laws) (λ c. search survey-laws)
+    (λ c. search survey-laws) (λ c. search survey-laws) (λ c κs. search survey-laws) (λ c. search survey-laws) (λ c. search survey-laws)
+    (λ c. search survey-laws))

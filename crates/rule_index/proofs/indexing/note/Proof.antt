@@ -1,8 +1,9 @@
 use borrow.Author.Needs.{needs}
 use Rattle.base.proofs.PickLaws.{cases}
 use Rattle.rule_index.specs.Contracts.{notedIn}
-use Rattle.rule_index.proofs.indexing.note.Statement.{statement}
-use Rattle.rule_index.proofs.indexing.note.Tie as tie
+use Rattle.rule_index.proofs
+use proofs.indexing.note.Statement.{statement}
+use proofs.indexing.note.Tie as tie
 
 returns : tie.Need-returns
 unfolding notedIn
