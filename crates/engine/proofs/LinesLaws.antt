@@ -12,7 +12,7 @@ use lib.Seq.{sets, length-sets, drop-drop}
 use borrow.Author.Tests.{lt-ltb, le-ltb, le-leb, lt-leb, eq-eqb, ne-eqb}
 use Rattle.base.specs.Pick.{pick}
 use Rattle.base.proofs.One.{one}
-use Rattle.base.proofs.Stores.{sets-then}
+use Rattle.base.proofs.Stores.{sets-then, rest-is}
 use Rattle.texts.specs.Parts.{placeOf, has}
 use Rattle.base.proofs.Arms.{clash}
 use Rattle.choices.specs.Texts.{Text}
@@ -20,9 +20,8 @@ use Rattle.refusals.specs.Numbers.{numberOf}
 use Rattle.refusals.specs.declared.Refusal.the-variants.{NoRoom}
 use Rattle.engine.specs.Calls.{CallOutcome, refusedBy, key, refusedAs}
 use Rattle.engine.specs.Lines.{decimal, refusalLine, most, holdsLine, needed, lineWith, lineFor, linesFrom, wholeLines, Taken, andTaken, noneTaken, takeLines, taken, BlockNumbers, blockNumbers, took, noRoom, numbersBy, blockBy, LinesIs}
-use Rattle.engine.specs.LineContracts.{LineAt, lineLength, stoppedAt}
+use Rattle.engine.specs.LineContracts.{SpaceOf, LineAt, LineFor, lineLength, stoppedAt}
 use Rattle.engine.proofs.NumberLaws.{told-is}
-use Rattle.base.proofs.Stores.{rest-is}
 use Rattle.engine.specs.declared.lines.Lines.{Lines}
 use Rattle.engine.specs.declared.lines.Lines.the-variants as lines
 use Rattle.engine.specs.declared.lines.Fit.{Fit}
@@ -182,8 +181,11 @@ module _ {call : Text → CallOutcome} {block o₀ o : List ℕ} {size read writ
   pub going-long : length o ≡ length o₀
   going-long = ap length (w .stands) ∙ length-sets o₀ 0 (w .text)
 
-  pub going-room : (written ≤ size) × (size ≡ min (length o) most)
-  going-room = (w .written-in, w .size-is ∙ ap (λ (n : ℕ). min n most) (sym going-long))
+  pub going-stays : (o′ : List ℕ) → length o′ ≡ length o → length o′ ≡ length o₀
+  going-stays o′ e = e ∙ going-long
+
+  pub going-room : SpaceOf o (record { at = written; size = size })
+  going-room = record { within = w .written-in; size-is = w .size-is ∙ ap (λ (n : ℕ). min n most) (sym going-long) }
 
   module _ (e : takeLines (lineFor call (length o₀)) (size - written) (linesFrom (w .fuel) (drop read block)) ≡ noneTaken) where
     taken-here : taken call block (length o₀) ≡ record { read = read; text = w .text }
@@ -218,21 +220,22 @@ module _ {call : Text → CallOutcome} {block o₀ o : List ℕ} {size read writ
         | no z ↦ w .later z
       ])
 
-  pub going-most : (n : ℕ) → n < length left-over → read + n + 1 ≤ length block
+  pub going-most : (n : ℕ) → n < length left-over → read + n < length block
   going-most n h = omega (arith, ap length (rest-is block read), length-drop read block)
 
-  pub going-less : (n : ℕ) → n < length left-over → length block - (read + n + 1) < length block - read
-  going-less n h = omega (arith, going-most n h)
+  pub going-less : (n read′ : ℕ) → n < length left-over → read′ ≡ read + n + 1 → length block - read′ < length block - read
+  going-less n read′ h e = omega (arith, e, going-most n h)
 
   module _ (n : ℕ) (e : n ≡ placeOf 10 left-over) (h : n < length left-over) (o′ : List ℕ) (next : Fit)
-      (l : LineAt (lineFor call (length o) (take (n - 0) left-over)) (needed (call (take (n - 0) left-over))) size o o′ written next) where
+      (l : LineFor (call (take (n - 0) left-over)) o o′ (record { at = written; size = size }) next) where
     abbrev name : Text
     name = take n (drop read block)
 
     abbrev line : Text
     line = lineFor call (length o₀) name
 
-    line-at : LineAt line (needed (call name)) size o o′ written next
+    line-at : LineAt line (needed (call name)) o o′ (record { at = written; size = size }) next
+    unfolding lineFor
     line-at = rw (going-long, rest-is block read, sub-zero n) at l
 
     -- the next name, and those behind it
@@ -292,15 +295,15 @@ module _ {call : Text → CallOutcome} {block o₀ o : List ℕ} {size read writ
       going-at : at ≡ written + length line
       going-at = cc (line-at .fits going-fits .0)
 
-      pub going-next : Going call block o₀ o′ size (read + n + 1) at
-      going-next =
+      going-on : Going call block o₀ o′ size (read + n + 1) at
+      going-on =
           let put = line-at .fits going-fits in
           let left : size - written - length line ≡ size - at = omega (arith, going-at) in
           let read-is : read + suc (length name) ≡ read + n + 1 = omega (arith, going-most n h, length-take n (drop read block), length-drop read block) in
           record {
             fuel = w .fuel - 1;
             enough = omega (arith, w .enough);
-            read-in = going-most n h;
+            read-in = omega (arith, going-most n h);
             written-in = omega (arith, going-at, going-fits, w .written-in);
             size-is = w .size-is;
             text = w .text ++ line;
@@ -317,3 +320,8 @@ module _ {call : Text → CallOutcome} {block o₀ o : List ℕ} {size read writ
               | no y ↦ w .later y
             ];
           }
+
+      pub going-next : (read′ : ℕ) → read′ ≡ read + n + 1 → Going call block o₀ o′ size read′ at
+      going-next read′ er = rw er going-on
+
+pub ruleset going-laws = (going-in, going-start, going-long, going-stays, going-room, going-end, going-most, going-less, going-stop, going-next)
