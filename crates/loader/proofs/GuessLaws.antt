@@ -9,9 +9,12 @@ use lib.Bits.{bitOr, bitAnd, or-lt, and-zero-r}
 use lib.Dec.{eqb, leb, ltb}
 use lib.ListN.{length}
 use lib.Pow.{pow-pos}
+use types.Run.{OneOf, miss}
+use borrow.Author.Needs.{needs}
+use denote.Enum.Declared.{tagOf}
 use mir.Syntax.{w64}
 use mir.Val.{Fits, boolByte}
-use borrow.Author.Tests.{lt-ltb, le-ltb, ltb-false, leb-true, ne-eqb}
+use borrow.Author.Tests.{lt-ltb, le-ltb, ltb-false, ne-eqb}
 use Rattle.base.specs.Pick.{pick}
 use Rattle.base.proofs.Bits.{and-or}
 use Rattle.refusals.specs.declared.Refusal.{Refusal}
@@ -31,6 +34,7 @@ use Rattle.rules_parser.specs.Fields.{partOf}
 use Rattle.rules_parser.proofs.NumberLaws.{item-one}
 use Rattle.rules_parser.specs.Files.{itemAt}
 use Rattle.rules_parser.proofs.Laws.{passed-goes, passed-in, passed-lines, tells-goes, guess-pattern}
+use Rattle.rules_parser.proofs.lines.Told.{the-type}
 use Rattle.rules_parser.specs.declared.fields.Text.{Text}
 use Rattle.rules_parser.specs.declared.lines.FileKind.the-variants.{Guesses}
 use Rattle.rules_parser.specs.declared.lines.Told.{Told}
@@ -46,7 +50,7 @@ use Rattle.loader.specs.declared.guesses.Judged.the-variants.{Mask, Faul
 use Rattle.loader.specs.declared.guesses.Guessed.{Guessed}
 use Rattle.loader.specs.declared.guesses.Guessed.the-variants.{Done, Refused}
 use Rattle.loader.proofs.FileLaws.{fine-is, then-fine, toldFrom, told-start, told-end, told-wrong, told-passed, told-fault, told-kept, each-told, each-all}
-use Rattle.base.proofs.PickLaws.{pick-true, pick-false, pick-all, and-yes, and-inv}
+use Rattle.base.proofs.PickLaws.{pick-true, pick-false, pick-all, and-yes}
 use Rattle.held.specs.Met.{bytesOfAll}
 use Rattle.pack_bytes.specs.Contracts.{textPut, none, more}
 
@@ -140,6 +144,13 @@ from-refused : (n : ℕ) (c : Refusal) (l f : ℕ) (o : List ℕ) (at : ℕ) →
 unfolding ToldFrom
 from-refused n c l f o at = refl
 
+other : (names s : List ℕ) (t : Told) → OneOf (0 ∷ 1 ∷ 3 ∷ []) (tagOf the-type t) → guessOf names s t ≡ fault LineUnreadable
+unfolding guessOf
+other names s (told.Rule a b c d) h = refl
+other names s (told.Include a) h = refl
+other names s (told.Guess a b v) h = absurd (miss (0 ∷ 1 ∷ 3 ∷ []) 2 tt h)
+other names s (told.Name a) h = refl
+
 -- n rules were written up to the place `at` of o, and the file is read up to its place p, in line l
 pub record Writing (names s : List ℕ) (f : ℕ) (o₀ : List ℕ) (at₀ : ℕ) (o : List ℕ) (at n p l : ℕ) : Type 0 where
   pub lines : l ≤ p + 1
@@ -218,17 +229,8 @@ module _ {names s : List ℕ} {f : ℕ} {o₀ : List ℕ} {at₀ : ℕ} {o : Lis
       faulty : (c : Refusal) → guessOf names s t ≡ fault c → GuessesAre names s f o₀ at₀ (Refused c l f) o
       faulty c m = stops c (told-fault (guessOf names s) f Guesses s l p t i c here-tells m)
 
-      pub writing-rule : (a b c d : Text) → t ≡ told.Rule a b c d → GuessesAre names s f o₀ at₀ (Refused LineUnreadable l f) o
-      unfolding guessOf
-      writing-rule a b c d g = faulty LineUnreadable (ap (guessOf names s) g)
-
-      pub writing-include : (a : Text) → t ≡ told.Include a → GuessesAre names s f o₀ at₀ (Refused LineUnreadable l f) o
-      unfolding guessOf
-      writing-include a g = faulty LineUnreadable (ap (guessOf names s) g)
-
-      pub writing-name : (a : Text) → t ≡ told.Name a → GuessesAre names s f o₀ at₀ (Refused LineUnreadable l f) o
-      unfolding guessOf
-      writing-name a g = faulty LineUnreadable (ap (guessOf names s) g)
+      pub writing-other : OneOf (0 ∷ 1 ∷ 3 ∷ []) (tagOf the-type t) → GuessesAre names s f o₀ at₀ (Refused LineUnreadable l f) o
+      writing-other h = faulty LineUnreadable (other names s t h)
 
       module _ (a b : Text) (v : Bool) (g : t ≡ told.Guess a b v) (pattern joined : List ℕ) (ea : pattern ≡ partOf s a) (eb : joined ≡ partOf s b)
           (j : Judged) (ej : j ≡ judgedAs names pattern joined) where
@@ -259,7 +261,7 @@ module _ {names s : List ℕ} {f : ℕ} {o₀ : List ℕ} {at₀ : ℕ} {o : Lis
                 is = λ u o′ x. w .is u o′ (rw (told-kept (guessOf names s) f Guesses s l p t i _ here-tells (judged-here _ (kept .1))) (from-next n _ _ o o₁ at r u o′ bytes x));
               }
 
-pub ruleset writing-laws = (item-one, writing-start, writing-long, writing-done, writing-count, writing-line, writing-wrong, writing-lines, passed-less, writing-passed, tells-less, writing-rule, writing-include, writing-name, writing-fault, writing-kept)
+pub ruleset writing-laws = (needs, item-one, writing-start, writing-long, writing-done, writing-count, writing-line, writing-wrong, writing-lines, passed-less, writing-passed, tells-less, writing-other, writing-fault, writing-kept)
 
 -- ---- what is kept is good in a pack
 
@@ -333,14 +335,9 @@ counted-inv true gs hs e = (refl, fine-is e)
 counted-inv false gs hs e = clash (cc)
 
 -- `names` is the bytes of the languages xs, each behind its length byte
-module _ (names : List ℕ) (xs : List (List ℕ)) (listed : stringsOf names ≡ xs) (f : ℕ) (s : List ℕ) (gs : List Guess) (e : guessesOf names f s ≡ fine gs) where
-  pub guesses-good : guessesGood (length xs) gs ≡ true
-  unfolding guessesOf guessesIn countedGuesses guessesGood
-  guesses-good =
-      let w = then-fine _ _ gs e in
-      let c = counted-inv _ (w .0) gs (w .2) in
-      rw (← listed, ← c .1) (and-yes _ _ (c .0) (each-all _ (each-told (guessOf names s) f Guesses s _ (kept-good names s) (w .0) (w .1))))
-
-  pub guesses-few : length gs ≤ 4096
-  unfolding guessesGood
-  guesses-few = leb-true _ _ (and-inv _ _ guesses-good .0)
+pub guesses-good : (names : List ℕ) (xs : List (List ℕ)) → stringsOf names ≡ xs → (f : ℕ) (s : List ℕ) (gs : List Guess) → guessesOf names f s ≡ fine gs → guessesGood (length xs) gs ≡ true
+unfolding guessesOf guessesIn countedGuesses guessesGood
+guesses-good names xs listed f s gs e =
+    let w = then-fine _ _ gs e in
+    let c = counted-inv _ (w .0) gs (w .2) in
+    rw (← listed, ← c .1) (and-yes _ _ (c .0) (each-all _ (each-told (guessOf names s) f Guesses s _ (kept-good names s) (w .0) (w .1))))

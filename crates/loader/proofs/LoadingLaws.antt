@@ -1,10 +1,11 @@
 -- A bundle loaded: names, guessing rules and lists one after the other, measured and then written. Assumes nothing.
 use mathlib.Core.Path.{_≡_, refl, sym, ap, _∙_}
 use mathlib.Core.Bool.{true, false}
-use mathlib.Core.List.{List, [], _∷_, _++_, append-assoc}
+use mathlib.Core.List.{List, [], _∷_, _++_}
 use Prim.Native.Nat.{ℕ, zero, suc, _+_, _-_, _*_, _≤_, _<_, min}
 use native.Mathlib.Nat.{sub-zero}
 use native.Mathlib.Omega.{arith}
+use borrow.Author.Needs.{needs}
 use lib.Dec.{leb}
 use lib.ListN.{length, take, drop, length-take}
 use borrow.Author.Tests.{le-leb, lt-leb}
@@ -17,7 +18,7 @@ use Rattle.base.proofs.Arms.{clash}
 use Rattle.prefixes.specs.declared.prefixes.NameType.{NameType}
 use Rattle.pack.specs.Packs.{Guess, Pack, namesGood}
 use Rattle.rule_lines.specs.Rules.{Rule}
-use Rattle.pack_bytes.specs.Bytes.{countBytes, namesBytes, guessBytes, listBytes, packBytes}
+use Rattle.pack_bytes.specs.Bytes.{namesBytes, listBytes, packBytes}
 use Rattle.bundles.specs.Bundles.{File, Found, missing, found, readBundle, wellFormed, fileNamed}
 use Rattle.bundles.specs.PlaceContracts as places
 use Rattle.bundles.specs.PlaceContracts.{fileAt}
@@ -30,19 +31,15 @@ use Rattle.rule_lists.proofs.ListLaws.{lists-length}
 use Rattle.rule_lists.specs.declared.list_writing.Written.{Written}
 use Rattle.rule_lists.specs.declared.list_writing.Written.the-variants as wrote
 use Rattle.loader.specs.Languages.{languagesOf}
-use Rattle.loader.specs.Guesses.{guessesOf}
-use Rattle.loader.specs.Loading.{onType, languagesPart, langPart, onListed, namesOf, guessFile, listsIn, packFrom, onBundle, loadOf, written, doneAt, refusedAt, loadedNumbers, answer, filled, AnswerIs}
-use Rattle.loader.specs.Contracts.{NamesTold, GuessesTold, typeNumbered, frontBytes, packedOf}
+use Rattle.loader.specs.Loading.{onType, languagesPart, onListed, namesOf, guessFile, listsIn, packFrom, onBundle, loadOf, written, doneAt, refusedAt, loadedNumbers, answer, filled, AnswerIs}
+use Rattle.loader.specs.Contracts.{NamesTold, typeNumbered, guessesBytes, packedOf}
 use Rattle.loader.proofs.LanguageLaws.{strings-names, languages-good, languages-few}
-use Rattle.loader.proofs.GuessLaws.{guesses-few}
 use Rattle.loader.specs.declared.loading.Kind.{Kind}
 use Rattle.loader.specs.declared.loading.Kind.the-variants as kinds
 use Rattle.loader.specs.declared.loading.Loaded.{Loaded}
 use Rattle.loader.specs.declared.loading.Loaded.the-variants as loaded
 use Rattle.loader.specs.declared.language_list.Names.{Names}
 use Rattle.loader.specs.declared.language_list.Names.the-variants as names
-use Rattle.loader.specs.declared.guesses.Guessed.{Guessed}
-use Rattle.loader.specs.declared.guesses.Guessed.the-variants as guessed
 use Rattle.base.proofs.PickLaws.{pick-true, pick-false}
 use Rattle.held.specs.Met.{bytesOfAll}
 use Rattle.bundles.specs.Contracts.{filesOf}
@@ -90,28 +87,7 @@ module _ {A : Type 0} (bytes : A → List ℕ) (o o′ : List ℕ) (at : ℕ) (r
   was-refused (fine a) c l f (q, e, w) h = clash (cc)
   was-refused (notLoaded a b d) c l f e h = cc
 
--- the same for guessing rules
-pub record WasGuessed (x : Loading (List Guess)) (o o′ : List ℕ) (at n p : ℕ) : Type 0 where
-  pub it : List Guess
-  pub is : x ≡ fine it
-  pub count : n ≡ length it
-  pub put : Put o o′ at p (bytesOfAll guessBytes it)
-
-module _ (o o′ : List ℕ) (at : ℕ) (r : Guessed) where
-  was-guessed : (x : Loading (List Guess)) (n p : ℕ) → GuessesTold x o at r o′ → r ≡ guessed.Done n p → WasGuessed x o o′ at n p
-  unfolding GuessesTold
-  was-guessed (fine gs) n p (q, e, w) h =
-      let i : q ≡ p = cc in
-      let j : n ≡ length gs = cc in
-      record { it = gs; is = refl; count = j; put = rw (← i) w }
-  was-guessed (notLoaded c l f) n p e h = clash (cc)
-
-  not-guessed : (x : Loading (List Guess)) (c : Refusal) (l f : ℕ) → GuessesTold x o at r o′ → r ≡ guessed.Refused c l f → x ≡ notLoaded c l f
-  unfolding GuessesTold
-  not-guessed (fine gs) c l f (q, e, w) h = clash (cc)
-  not-guessed (notLoaded a b d) c l f e h = cc
-
--- and for names
+-- the same for names
 pub record WasNamed (x : Loading (List (List ℕ))) (out′ : List ℕ) (n len : ℕ) : Type 0 where
   pub it : List (List ℕ)
   pub is : x ≡ fine it
@@ -137,27 +113,28 @@ module _ (out′ : List ℕ) (r : Names) where
 abbrev Same : List ℕ → List ℕ
 Same bytes = bytes
 
-module _ (kind : NameType) (fs : List File) (names : List ℕ) (n g : ℕ) where
+module _ (kind : NameType) (fs : List File) (names : List ℕ) (n : ℕ) where
   abbrev Lists : Loading (List (List Rule))
   Lists = listsOf names fs (listFiles (typePrefix kind) (stringsOf names))
 
-  module _ (o o₁ o₂ o₃ o₄ : List ℕ) (p at q : ℕ) (gs : List Guess) (front : Put o o₁ 0 p (frontBytes n names g)) (guesses : Put o₁ o₂ p at (bytesOfAll guessBytes gs)) (count : Put o₂ o₃ at q ((3 * n + 2) ∷ [])) where
-    lists-then : (x : Loading (List (List Rule))) (r : Written) → WrittenIs (bytesOfAll listBytes) x o₃ o₄ q r
-        → WrittenIs Same (andLoad x (λ ls. fine (frontBytes n names g ++ (bytesOfAll guessBytes gs ++ ((3 * n + 2) ∷ bytesOfAll listBytes ls))))) o o₄ 0 r
-    unfolding WrittenIs andLoad
-    lists-then (fine ls) r (t, e, w) = (t, e, put-then front (put-then guesses (put-then count w)))
-    lists-then (notLoaded c l f) r e = e
+  lists-then : (o o₁ o₂ o₃ : List ℕ) (q at t : ℕ) (gs : List Guess) → Put o o₁ 0 q (n ∷ names) → Put o₁ o₂ q at (guessesBytes gs) → (o₄ : List ℕ) → Put o₂ o₄ at t ((3 * n + 2) ∷ [])
+      → (x : Loading (List (List Rule))) (r : Written) → WrittenIs (bytesOfAll listBytes) x o₄ o₃ t r
+      → WrittenIs Same (andLoad x (λ ls. fine ((n ∷ names) ++ (guessesBytes gs ++ ((3 * n + 2) ∷ bytesOfAll listBytes ls))))) o o₃ 0 r
+  unfolding WrittenIs andLoad
+  lists-then o o₁ o₂ o₃ q at t gs a b o₄ c (fine ls) r (p, e, w) = (p, e, put-then a (put-then b (put-then c w)))
+  lists-then o o₁ o₂ o₃ q at t gs a b o₄ c (notLoaded w l f) r e = e
 
-  pub packed-lists : (o o₁ o₂ o₃ o₄ : List ℕ) (p c at q : ℕ) (x : Guessed) (r : Written) → Put o o₁ 0 p (frontBytes n names g) → GuessesTold (guessFile kind fs names) o₁ p x o₂ → x ≡ guessed.Done c at → Put o₂ o₃ at q ((3 * n + 2) ∷ [])
-      → WrittenIs (bytesOfAll listBytes) Lists o₃ o₄ q r → WrittenIs Same (packedOf kind fs names n g) o o₄ 0 r
-  unfolding packedOf andLoad
-  packed-lists o o₁ o₂ o₃ o₄ p c at q x r front told h count lists =
-      let w = was-guessed o₁ o₂ p x _ c at told h in
-      rw (w .is) (lists-then o o₁ o₂ o₃ o₄ p at q (w .it) front (w .put) count Lists r lists)
+  module _ (o o₁ o₂ o₃ : List ℕ) (q : ℕ) (x : Written) (told : WrittenIs guessesBytes (guessFile kind fs names) o₂ o₃ q x) where
+    pub packed-lists : (p at t : ℕ) (o₄ o₅ : List ℕ) (r : Written) → Put o o₁ 0 p (n ∷ []) → Put o₁ o₂ p q names → x ≡ wrote.Done at → Put o₃ o₄ at t ((3 * n + 2) ∷ [])
+        → WrittenIs (bytesOfAll listBytes) Lists o₄ o₅ t r → WrittenIs Same (packedOf kind fs names n) o o₅ 0 r
+    unfolding packedOf andLoad
+    packed-lists p at t o₄ o₅ r a b h c lists =
+        let w = was-fine guessesBytes o₂ o₃ q x (guessFile kind fs names) at told h in
+        rw (w .is) (lists-then o o₂ o₃ o₅ q at t (w .it) (put-then a b) (w .put) o₄ c Lists r lists)
 
-  pub packed-refused : (o o₁ o₂ : List ℕ) (p : ℕ) (c : Refusal) (l f : ℕ) (x : Guessed) → GuessesTold (guessFile kind fs names) o₁ p x o₂ → x ≡ guessed.Refused c l f → WrittenIs Same (packedOf kind fs names n g) o o₂ 0 (wrote.Refused c l f)
-  unfolding packedOf andLoad WrittenIs
-  packed-refused o o₁ o₂ p c l f x told h = rw (not-guessed o₁ o₂ p x _ c l f told h) refl
+    pub packed-refused : (c : Refusal) (l f : ℕ) → x ≡ wrote.Refused c l f → WrittenIs Same (packedOf kind fs names n) o o₃ 0 (wrote.Refused c l f)
+    unfolding packedOf andLoad WrittenIs
+    packed-refused c l f h = rw (was-refused guessesBytes o₂ o₃ q x (guessFile kind fs names) c l f told h) refl
 
 -- ---- measured, and then written
 
@@ -195,32 +172,14 @@ refused-is : (o : Loading Pack) (c : Refusal) (l f : ℕ) (out : List ℕ) → o
 unfolding written answer filled loadedNumbers
 refused-is o c l f out e = rw e (record { result = refl; buffer = refl })
 
-few-found : (bytes : List ℕ) (gs : List Guess) (x : Found) → onListed x (guessesOf bytes) ≡ fine gs → length gs ≤ 4096
-unfolding onListed
-few-found bytes gs missing e = clash (cc)
-few-found bytes gs (found k t) e = guesses-few bytes _ refl k t gs e
-
-module _ (kind : NameType) (fs : List File) where
-  file-few : (bytes : List ℕ) (gs : List Guess) → guessFile kind fs bytes ≡ fine gs → length gs ≤ 4096
-  unfolding guessFile
-  file-few bytes gs e = few-found bytes gs (fileNamed (typePrefix kind ++ langPart) 0 fs) e
-
-  -- the bytes are those of the pack: `counted` is that there are as many lists as there should be
-  module _ (xs : List (List ℕ)) (gs : List Guess) (h : namesOf kind fs ≡ fine xs) (g : guessFile kind fs (namesBytes xs) ≡ fine gs) where
-    lists-packed : (y : Loading (List (List Rule))) → ((ls : List (List Rule)) → y ≡ fine ls → length ls ≡ 3 * length xs + 2)
-        → andLoad y (λ ls. fine (frontBytes (length xs) (namesBytes xs) (length gs) ++ (bytesOfAll guessBytes gs ++ ((3 * length xs + 2) ∷ bytesOfAll listBytes ls))))
-        ≡ written (andLoad y (λ ls. fine (record { names = xs; guesses = gs; lists = ls })))
-    unfolding andLoad written packBytes frontBytes
-    lists-packed (fine ls) n =
-        ap fine (append-assoc (length xs ∷ namesBytes xs) (countBytes (length gs)) _
-        ∙ ap (λ (t : List ℕ). (length xs ∷ namesBytes xs) ++ t) (sym (append-assoc (countBytes (length gs)) (bytesOfAll guessBytes gs) _)
-        ∙ ap (λ (k : ℕ). (countBytes (length gs) ++ bytesOfAll guessBytes gs) ++ (k ∷ bytesOfAll listBytes ls)) (sym (n ls refl))))
-    lists-packed (notLoaded c l f) n = refl
-
-    packed-is : ((ls : List (List Rule)) → listsOf (namesBytes xs) fs (listFiles (typePrefix kind) xs) ≡ fine ls → length ls ≡ 3 * length xs + 2)
-        → packedOf kind fs (namesBytes xs) (length xs) (length gs) ≡ written (packFrom kind fs)
-    unfolding packedOf packFrom listsIn andLoad
-    packed-is n = rw (h, g, strings-names xs) (lists-packed (listsOf (namesBytes xs) fs (listFiles (typePrefix kind) xs)) n)
+-- the bytes are those of the pack, where there are as many lists as there should be
+parts-packed : (xs : List (List ℕ)) (y : Loading (List Guess)) (z : Loading (List (List Rule))) → ((ls : List (List Rule)) → z ≡ fine ls → length ls ≡ 3 * length xs + 2)
+    → andLoad y (λ gs. andLoad z (λ ls. fine ((length xs ∷ namesBytes xs) ++ (guessesBytes gs ++ ((3 * length xs + 2) ∷ bytesOfAll listBytes ls)))))
+    ≡ written (andLoad y (λ gs. andLoad z (λ ls. fine (record { names = xs; guesses = gs; lists = ls }))))
+unfolding andLoad written packBytes guessesBytes
+parts-packed xs (fine gs) (fine ls) n = ap (λ (k : ℕ). fine ((length xs ∷ namesBytes xs) ++ (guessesBytes gs ++ (k ∷ bytesOfAll listBytes ls)))) (sym (n ls refl))
+parts-packed xs (fine gs) (notLoaded c l f) n = refl
+parts-packed xs (notLoaded c l f) z n = refl
 
 -- the list from which names were read
 record ListRead (xs : List (List ℕ)) : Type 0 where
@@ -252,6 +211,12 @@ files-length pre (x ∷ xs) = omega (arith, files-length pre xs)
 pub lists-counted : (kind : NameType) (fs : List File) (xs : List (List ℕ)) (ls : List (List Rule)) → listsOf (namesBytes xs) fs (listFiles (typePrefix kind) xs) ≡ fine ls → length ls ≡ 3 * length xs + 2
 lists-counted kind fs xs ls e = lists-length (namesBytes xs) fs _ ls e ∙ files-length (typePrefix kind) xs
 
+packed-is : (kind : NameType) (fs : List File) (xs : List (List ℕ)) (bytes : List ℕ) (n : ℕ) → namesOf kind fs ≡ fine xs → bytes ≡ namesBytes xs → n ≡ length xs
+    → packedOf kind fs bytes n ≡ written (packFrom kind fs)
+unfolding packedOf packFrom listsIn andLoad
+packed-is kind fs xs bytes n h e c =
+    rw (e, c, h, strings-names xs) (parts-packed xs (guessFile kind fs (namesBytes xs)) (listsOf (namesBytes xs) fs (listFiles (typePrefix kind) xs)) (lists-counted kind fs xs))
+
 module _ (kind : NameType) (fs : List File) (nm : List ℕ) (r : Names) (w : NamesTold (namesOf kind fs) r nm) where
   pub files-no-names : (c : Refusal) (l f : ℕ) (out : List ℕ) → r ≡ names.Refused c l f → AnswerIs (written (packFrom kind fs)) out (loaded.Refused c l f) out
   unfolding packFrom andLoad
@@ -264,33 +229,10 @@ module _ (kind : NameType) (fs : List File) (nm : List ℕ) (r : Names) (w : Nam
     pub files-languages : n ≤ 32
     files-languages = let v = was-named nm r _ n len w h in rw (v .count) (names-few kind fs (v .it) (v .is))
 
-    module _ (o o′ : List ℕ) (g : Guessed) (x : GuessesTold (guessFile kind fs (take (len - 0) (drop 0 nm))) o 0 g o′) where
-      -- the slice of the names
-      abbrev bytes : List ℕ
-      bytes = take (len - 0) (drop 0 nm)
-
-      i : bytes ≡ take len nm
-      i = rw sub-zero refl
-
-      pub files-no-guesses : (c : Refusal) (l f : ℕ) (out : List ℕ) → g ≡ guessed.Refused c l f → AnswerIs (written (packFrom kind fs)) out (loaded.Refused c l f) out
-      unfolding packFrom andLoad
-      files-no-guesses c l f out k =
-          let v = was-named nm r _ n len w h in
-          let e : guessFile kind fs (namesBytes (v .it)) ≡ notLoaded c l f = ap (guessFile kind fs) (sym (i ∙ v .front)) ∙ not-guessed o o′ 0 g _ c l f x k in
-          refused-is (packFrom kind fs) c l f out (rw (v .is, e) refl)
-
-      pub files-guesses : (c p : ℕ) → g ≡ guessed.Done c p → c ≤ 4096
-      files-guesses c p k = let u = was-guessed o o′ 0 g _ c p x k in rw (u .count) (file-few kind fs bytes (u .it) (u .is))
-
-      pub files-done : (c p : ℕ) (out out′ : List ℕ) (z : Loaded) → g ≡ guessed.Done c p → AnswerIs (packedOf kind fs bytes n c) out z out′ → AnswerIs (written (packFrom kind fs)) out z out′
-      files-done c p out out′ z k a =
-          let v = was-named nm r _ n len w h in
-          let u = was-guessed o o′ 0 g _ c p x k in
-          let e : bytes ≡ namesBytes (v .it) = i ∙ v .front in
-          let q : packedOf kind fs bytes n c ≡ written (packFrom kind fs) =
-          ap (λ (b : List ℕ). packedOf kind fs b n c) e ∙ ap (λ (m : ℕ). packedOf kind fs (namesBytes (v .it)) m c) (v .count) ∙ ap (packedOf kind fs (namesBytes (v .it)) (length (v .it))) (u .count)
-          ∙ packed-is kind fs (v .it) (u .it) (v .is) (ap (guessFile kind fs) (sym e) ∙ u .is) (lists-counted kind fs (v .it)) in
-          rw (← q) a
+    pub files-done : (out out′ : List ℕ) (z : Loaded) → AnswerIs (packedOf kind fs (take (len - 0) (drop 0 nm)) n) out z out′ → AnswerIs (written (packFrom kind fs)) out z out′
+    files-done out out′ z a =
+        let v = was-named nm r _ n len w h in
+        rw (← packed-is kind fs (v .it) _ n (v .is) (ap (λ (k : ℕ). take k nm) (sub-zero len) ∙ v .front) (v .count)) a
 
 -- ---- any bytes
 
@@ -337,10 +279,10 @@ module _ (ty : ℕ) (s out : List ℕ) (x : Kind) (e : x ≡ typeNumbered ty) wh
 
 pub ruleset names-laws = (names-found, names-order, names-within, names-missing)
 
-pub ruleset pack-laws = (packed-lists, packed-refused)
+pub ruleset pack-laws = (needs, packed-lists, packed-refused)
 
-pub ruleset answer-laws = (answer-long, answer-refused, answer-done)
+pub ruleset answer-laws = (needs, answer-long, answer-refused, answer-done)
 
-pub ruleset file-laws = (files-no-names, files-slice, files-languages, files-no-guesses, files-guesses, files-done)
+pub ruleset file-laws = (needs, files-no-names, files-slice, files-languages, files-done)
 
 pub ruleset loading = (load-unknown, load-bad, load-good)

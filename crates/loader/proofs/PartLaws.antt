@@ -1,8 +1,11 @@
--- The parts of loading: the type's number, its files by their names, its guessing rules, the pack's front. Assumes nothing.
-use mathlib.Core.Path.{_≡_, refl}
+-- The parts of loading: the type's number, its files by their names, its guessing rules. Assumes nothing.
+use mathlib.Core.Path.{_≡_, refl, ap, _∙_}
 use mathlib.Core.List.{List, [], _∷_, _++_}
 use Prim.Native.Nat.{ℕ, zero, suc, _-_, _≤_, _<_}
-use lib.ListN.{length, take, drop}
+use native.Mathlib.Omega.{arith}
+use borrow.Author.Needs.{needs}
+use lib.ListN.{length, set, take, drop, length-append}
+use lib.Seq.{sets, set-set, set-comm}
 use borrow.Author.Tests.{le-leb, lt-leb}
 use Rattle.refusals.specs.declared.Refusal.{Refusal}
 use Rattle.refusals.specs.declared.Refusal.the-variants.{FileMissing, TooMuch}
@@ -10,7 +13,7 @@ use Rattle.writing.specs.Contracts.{Put}
 use Rattle.prefixes.specs.declared.prefixes.NameType.{NameType}
 use Rattle.prefixes.specs.declared.prefixes.NameType.the-variants.{Ashkenazi, Generic, Sephardic}
 use Rattle.base.proofs.Arms.{clash}
-use Rattle.writing.proofs.Laws.{put-then}
+use Rattle.writing.proofs.Laws.{put-then, put-place}
 use Rattle.pack.specs.Packs.{Guess}
 use Rattle.pack_bytes.specs.Bytes.{countBytes}
 use Rattle.bundles.specs.PlaceContracts.{fileNumbers, fileAt}
@@ -19,9 +22,12 @@ use Rattle.bundles.specs.declared.FileAt.the-variants as file-at
 use Rattle.bundles.proofs.Laws.{missing-is, found-is, found-order, found-within}
 use Rattle.rule_lists.specs.Outcomes.{Loading, fine, notLoaded, andLoad}
 use Rattle.rule_lists.specs.Lists.{typePrefix}
+use Rattle.rule_lists.specs.Contracts.{WrittenIs}
+use Rattle.rule_lists.specs.declared.list_writing.Written.{Written}
+use Rattle.rule_lists.specs.declared.list_writing.Written.the-variants as wrote
 use Rattle.loader.specs.Guesses.{guessesIn, countedGuesses, guessesOf}
 use Rattle.loader.specs.Loading.{onType, langPart, onListed, guessFile}
-use Rattle.loader.specs.Contracts.{typeNumbered, GuessesTold, GuessesAre, frontBytes}
+use Rattle.loader.specs.Contracts.{typeNumbered, GuessesTold, GuessesAre, guessesBytes}
 use Rattle.loader.specs.declared.loading.Kind.the-variants.{Is, Unknown}
 use Rattle.loader.specs.declared.guesses.Guessed.{Guessed}
 use Rattle.loader.specs.declared.guesses.Guessed.the-variants.{Done, Refused}
@@ -54,48 +60,70 @@ pub ruleset kind-laws = (kind-ashkenazi, kind-generic, kind-sephardic, kind-unkn
 -- ---- a type's file, by its whole name
 
 module _ (kind : NameType) (part s : List ℕ) (r : FileAt) where
-  abbrev Named : List ℕ → Type 0
-  Named name = fileNumbers r ≡ fileAt s name
+  abbrev FileIs : List ℕ → Type 0
+  FileIs name = fileNumbers r ≡ fileAt s name
 
-  pub file-ashkenazi : kind ≡ Ashkenazi → Named (97 ∷ 115 ∷ 104 ∷ part) → Named (typePrefix kind ++ part)
+  pub file-ashkenazi : kind ≡ Ashkenazi → FileIs (97 ∷ 115 ∷ 104 ∷ part) → FileIs (typePrefix kind ++ part)
   unfolding typePrefix
   file-ashkenazi e w = rw e w
 
-  pub file-generic : kind ≡ Generic → Named (103 ∷ 101 ∷ 110 ∷ part) → Named (typePrefix kind ++ part)
+  pub file-generic : kind ≡ Generic → FileIs (103 ∷ 101 ∷ 110 ∷ part) → FileIs (typePrefix kind ++ part)
   unfolding typePrefix
   file-generic e w = rw e w
 
-  pub file-sephardic : kind ≡ Sephardic → Named (115 ∷ 101 ∷ 112 ∷ part) → Named (typePrefix kind ++ part)
+  pub file-sephardic : kind ≡ Sephardic → FileIs (115 ∷ 101 ∷ 112 ∷ part) → FileIs (typePrefix kind ++ part)
   unfolding typePrefix
   file-sephardic e w = rw e w
 
 pub ruleset file-laws = (file-ashkenazi, file-generic, file-sephardic)
 
--- ---- the pack's front
+-- ---- the guessing file: room for the count, the rules, and then the count
 
-module _ (o o₁ o₂ o₃ : List ℕ) (p q r : ℕ) where
-  pub front-put : (n : ℕ) (names : List ℕ) (g : ℕ) → Put o o₁ 0 p (n ∷ []) → Put o₁ o₂ p q names → Put o₂ o₃ q r (countBytes g) → Put o o₃ 0 r (frontBytes n names g)
-  unfolding frontBytes
-  front-put n names g x y z = put-then (put-then x y) z
+set-past : (vs l : List ℕ) (i j b : ℕ) → i < j → set (sets l j vs) i b ≡ sets (set l i b) j vs
+set-past [] l i j b h = refl
+set-past (v ∷ vs) l i j b h = set-past vs (set l j v) i (suc j) b (omega arith) ∙ ap (λ (m : List ℕ). sets m (suc j) vs) (set-comm l j i v b (λ e. omega arith))
 
--- ---- the guessing file
+sets-over : (vs ts us l : List ℕ) (i : ℕ) → length vs ≡ length ts → sets (sets l i (ts ++ us)) i vs ≡ sets l i (vs ++ us)
+sets-over [] [] us l i h = refl
+sets-over [] (t ∷ ts) us l i h = absurd (omega arith)
+sets-over (v ∷ vs) [] us l i h = absurd (omega arith)
+sets-over (v ∷ vs) (t ∷ ts) us l i h =
+    ap (λ (m : List ℕ). sets m (suc i) vs) (set-past (ts ++ us) (set l i t) i (suc i) v (omega arith) ∙ ap (λ (m : List ℕ). sets m (suc i) (ts ++ us)) (set-set l i t v))
+    ∙ sets-over vs ts us (set l i v) (suc i) (omega arith)
 
-done-by : (x : Loading (List Guess)) (o : List ℕ) (at n p : ℕ) (o′ : List ℕ) → GuessesTold x o at (Done n p) o′
-    → ((n ≤ 4096 → GuessesTold (andLoad x countedGuesses) o at (Done n p) o′) × (4096 < n → GuessesTold (andLoad x countedGuesses) o at (Refused TooMuch 0 0) o′))
-unfolding GuessesTold andLoad countedGuesses
-done-by (fine gs) o at n p o′ w =
-    let size : n ≡ length gs = let e = w .1 in cc in
-    (λ h. rw (pick-true _ (fine gs) (notLoaded TooMuch 0 0) (le-leb (length gs) 4096 (rw size at h))) w, λ h. rw (pick-false _ (fine gs) (notLoaded TooMuch 0 0) (lt-leb (length gs) 4096 (rw size at h))) refl)
-done-by (notLoaded c l f) o at n p o′ w = clash (cc)
+-- one text and another, and then the first place written over
+put-over : {o o₁ o₂ o₃ : List ℕ} {at p q r : ℕ} {t u v : List ℕ} → Put o o₁ at p t → Put o₁ o₂ p q u → Put o₂ o₃ at r v → length v ≡ length t → Put o o₃ at q (v ++ u)
+put-over {o} {at = at} {t = t} {u = u} {v = v} x y z h =
+    let w = put-then x y in
+    record { wrote = z .wrote ∙ rw (w .wrote) (sets-over v t u o at h); ends = omega (arith, w .ends, length-append t u, length-append v u); room = x .room }
 
-refused-by : (x : Loading (List Guess)) (o : List ℕ) (at : ℕ) (c : Refusal) (l f : ℕ) (o′ : List ℕ) → GuessesTold x o at (Refused c l f) o′ → GuessesTold (andLoad x countedGuesses) o at (Refused c l f) o′
-unfolding GuessesTold andLoad
-refused-by (fine gs) o at c l f o′ w = let e = w .1 in clash (cc)
-refused-by (notLoaded d m g) o at c l f o′ w = w
+counted-done : (x : Loading (List Guess)) (n p : ℕ) (o o₁ o₂ o₃ : List ℕ) (at i r : ℕ) → Put o o₁ at i (countBytes 0) → GuessesTold x o₁ i (Done n p) o₂ → n ≤ 4096
+    → Put o₂ o₃ at r (countBytes n) → WrittenIs guessesBytes (andLoad x countedGuesses) o o₃ at (wrote.Done p)
+unfolding GuessesTold andLoad countedGuesses WrittenIs guessesBytes countBytes
+counted-done (fine gs) n p o o₁ o₂ o₃ at i r c (q, e, w) h d =
+    let size : n ≡ length gs = cc in
+    let same : q ≡ p = cc in
+    rw (pick-true _ (fine gs) (notLoaded TooMuch 0 0) (le-leb (length gs) 4096 (omega arith))) (p, refl, put-over c (rw same at w) (rw size at d) refl)
+counted-done (notLoaded c l f) n p o o₁ o₂ o₃ at i r x e h d = clash (cc)
+
+counted-many : (x : Loading (List Guess)) (n p : ℕ) (o o₁ o₂ : List ℕ) (at i : ℕ) → GuessesTold x o₁ i (Done n p) o₂ → 4096 < n → WrittenIs guessesBytes (andLoad x countedGuesses) o o₂ at (wrote.Refused TooMuch 0 0)
+unfolding GuessesTold andLoad countedGuesses WrittenIs
+counted-many (fine gs) n p o o₁ o₂ at i (q, e, w) h =
+    let size : n ≡ length gs = cc in
+    rw (pick-false _ (fine gs) (notLoaded TooMuch 0 0) (lt-leb (length gs) 4096 (omega arith))) refl
+counted-many (notLoaded c l f) n p o o₁ o₂ at i e h = clash (cc)
+
+counted-refused : (x : Loading (List Guess)) (o o₁ o₂ : List ℕ) (at i : ℕ) (c : Refusal) (l f : ℕ) → GuessesTold x o₁ i (Refused c l f) o₂ → WrittenIs guessesBytes (andLoad x countedGuesses) o o₂ at (wrote.Refused c l f)
+unfolding GuessesTold andLoad WrittenIs
+counted-refused (fine gs) o o₁ o₂ at i c l f (q, e, w) = clash (cc)
+counted-refused (notLoaded d m g) o o₁ o₂ at i c l f e = cc
 
 module _ (kind : NameType) (s : List ℕ) (x : FileAt) (e : fileNumbers x ≡ fileAt s (typePrefix kind ++ langPart)) (names o : List ℕ) (at : ℕ) where
-  pub load-missing : x ≡ file-at.Missing → GuessesTold (guessFile kind (filesOf s) names) o at (Refused FileMissing 0 0) o
-  unfolding guessFile onListed GuessesTold
+  abbrev Wrote : List ℕ → Written → Type 0
+  Wrote o′ r = WrittenIs guessesBytes (guessFile kind (filesOf s) names) o o′ at r
+
+  pub load-missing : x ≡ file-at.Missing → Wrote o (wrote.Refused FileMissing 0 0)
+  unfolding guessFile onListed WrittenIs
   load-missing q = rw (missing-is s _ x e q) refl
 
   module _ (k a b : ℕ) (q : x ≡ file-at.At k a b) where
@@ -105,7 +133,7 @@ module _ (kind : NameType) (s : List ℕ) (x : FileAt) (e : fileNumbers x ≡ fi
     pub load-within : b ≤ length s
     load-within = found-within s _ x e k a b q
 
-    module _ (g : Guessed) (o′ : List ℕ) (w : GuessesAre names (take (b - a) (drop a s)) k o at g o′) where
+    module _ (o₁ o₂ : List ℕ) (i : ℕ) (g : Guessed) (c : Put o o₁ at i (countBytes 0)) (w : GuessesAre names (take (b - a) (drop a s)) k o₁ i g o₂) where
       abbrev inFile : Loading (List Guess)
       inFile = guessesIn names k (take (b - a) (drop a s))
 
@@ -113,18 +141,18 @@ module _ (kind : NameType) (s : List ℕ) (x : FileAt) (e : fileNumbers x ≡ fi
       unfolding guessFile onListed guessesOf
       is-file = rw (found-is s _ x e k a b q) refl
 
-      told : (y : Guessed) → g ≡ y → GuessesTold inFile o at y o′
+      told : (y : Guessed) → g ≡ y → GuessesTold inFile o₁ i y o₂
       unfolding GuessesAre
       told y z = rw z at w
 
-      pub load-refused : (c : Refusal) (l f : ℕ) → g ≡ Refused c l f → GuessesTold (guessFile kind (filesOf s) names) o at (Refused c l f) o′
-      load-refused c l f z = rw (← is-file) (refused-by inFile o at c l f o′ (told _ z))
+      pub load-refused : (c : Refusal) (l f : ℕ) → g ≡ Refused c l f → Wrote o₂ (wrote.Refused c l f)
+      load-refused c l f z = rw (← is-file) (counted-refused inFile o o₁ o₂ at i c l f (told _ z))
 
       module _ (n p : ℕ) (z : g ≡ Done n p) where
-        pub load-done : n ≤ 4096 → GuessesTold (guessFile kind (filesOf s) names) o at (Done n p) o′
-        load-done h = rw (← is-file) (done-by inFile o at n p o′ (told _ z) .0 h)
+        pub load-many : 4096 < n → Wrote o₂ (wrote.Refused TooMuch 0 0)
+        load-many h = rw (← is-file) (counted-many inFile n p o o₁ o₂ at i (told _ z) h)
 
-        pub load-many : 4096 < n → GuessesTold (guessFile kind (filesOf s) names) o at (Refused TooMuch 0 0) o′
-        load-many h = rw (← is-file) (done-by inFile o at n p o′ (told _ z) .1 h)
+        pub load-done : (o₃ : List ℕ) (r : ℕ) → n ≤ 4096 → Put o₂ o₃ at r (countBytes n) → Wrote o₃ (wrote.Done p)
+        load-done o₃ r h d = rw (← is-file) (counted-done inFile n p o o₁ o₂ o₃ at i r c (told _ z) h d)
 
-pub ruleset load-laws = (load-missing, load-order, load-within, load-refused, load-done, load-many)
+pub ruleset load-laws = (load-missing, load-order, load-within, load-refused, load-done, load-many, put-place, needs)

@@ -101,26 +101,7 @@ pub(crate) fn write_guesses(
                         }
                     }
                 }
-                Told::Rule {
-                    pattern: _,
-                    left: _,
-                    right: _,
-                    expression: _,
-                } => {
-                    return Guessed::Refused {
-                        why: Refusal::LineUnreadable,
-                        line,
-                        file,
-                    };
-                }
-                Told::Include { name: _ } => {
-                    return Guessed::Refused {
-                        why: Refusal::LineUnreadable,
-                        line,
-                        file,
-                    };
-                }
-                Told::Name { name: _ } => {
+                _ => {
                     return Guessed::Refused {
                         why: Refusal::LineUnreadable,
                         line,

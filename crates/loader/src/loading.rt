@@ -3,11 +3,10 @@ ghost use mathlib.Core.Path.{_≡_};
 ghost use mathlib.Core.List.{List, _++_};
 ghost use Prim.Native.Nat.{ℕ, _≤_, min};
 ghost use lib.ListN.{length};
-ghost use Rattle.writing.specs.Contracts.{Put, cap};
 ghost use Rattle.bundles.specs.PlaceContracts.{fileAt};
 ghost use Rattle.rule_lists.specs.Lists.{typePrefix};
 ghost use Rattle.loader.specs.Loading.{languagesPart, langPart, namesOf, guessFile, packFrom, written, AnswerIs, LoadIs};
-ghost use Rattle.loader.specs.Contracts.{typeNumbered, NamesTold, GuessesTold, frontBytes, packedOf};
+ghost use Rattle.loader.specs.Contracts.{typeNumbered, NamesTold, guessesBytes, packedOf};
 ghost use Rattle.bundles.specs.Contracts.{filesOf};
 ghost use Rattle.rule_lists.specs.Contracts.{WrittenIs};
 use crate::guesses::Guessed;
@@ -94,44 +93,34 @@ fn load_names(kind: NameType, bundle: &[u8], names: &mut [u8]) -> Names
     }
 }
 
-// Writes what fits of a type's guessing rules from a place on; at most 4,096.
-fn load_guesses(kind: NameType, bundle: &[u8], names: &[u8], out: &mut [u8], at: usize) -> Guessed
-    requires { ⌜ at ≤ cap ⌝ }
-    ensures { λ r. ⌜ GuessesTold (guessFile kind (filesOf (now (bundle .entry))) (now (names .entry))) (now (out .entry)) at r (now (out .exit)) ⌝ }
+// Writes what fits of a type's guessing rules, at most 4,096, behind their count, which is known and written last.
+fn load_guesses(kind: NameType, bundle: &[u8], names: &[u8], out: &mut [u8], at: usize) -> Written
+    ensures { λ r. ⌜ WrittenIs guessesBytes (guessFile kind (filesOf (now (bundle .entry))) (now (names .entry))) (now (out .entry)) (now (out .exit)) at r ⌝ }
 {
     match guessing_file(kind, bundle) {
         FileAt::At { number, start, end } => {
-            match crate::guesses::write_guesses(&bundle[start..end], number, names, out, at) {
+            let p = pack_bytes::put_count(0, out, at);
+            match crate::guesses::write_guesses(&bundle[start..end], number, names, out, p) {
                 Guessed::Done { count, at: end } => {
                     if 4096 < count {
-                        Guessed::Refused {
+                        return Written::Refused {
                             why: Refusal::TooMuch,
                             line: 0,
                             file: 0,
-                        }
-                    } else {
-                        Guessed::Done { count, at: end }
+                        };
                     }
+                    pack_bytes::put_count(count as u16, out, at);
+                    Written::Done { at: end }
                 }
-                Guessed::Refused { why, line, file } => Guessed::Refused { why, line, file },
+                Guessed::Refused { why, line, file } => Written::Refused { why, line, file },
             }
         }
-        FileAt::Missing => Guessed::Refused {
+        FileAt::Missing => Written::Refused {
             why: Refusal::FileMissing,
             line: 0,
             file: 0,
         },
     }
-}
-
-// Writes what fits of the pack's front: the languages, and the guessing count.
-fn write_front(names: &[u8], languages: usize, guesses: usize, out: &mut [u8]) -> usize
-    requires { ⌜ (languages ≤ 32) × (guesses ≤ 4096) ⌝ }
-    ensures { λ r. ⌜ Put (now (out .entry)) (now (out .exit)) 0 r (frontBytes languages (now (names .entry)) guesses) ⌝ }
-{
-    let p = writing::push(out, 0, languages as u8);
-    let q = writing::copy(names, out, p);
-    pack_bytes::put_count(guesses as u16, out, q)
 }
 
 // Writes what fits of the pack.
@@ -140,20 +129,20 @@ fn write_pack(
     bundle: &[u8],
     names: &[u8],
     languages: usize,
-    guesses: usize,
     out: &mut [u8],
 ) -> Written
-    requires { ⌜ (languages ≤ 32) × (guesses ≤ 4096) ⌝ }
-    ensures { λ r. ⌜ WrittenIs (λ (bytes : List ℕ). bytes) (packedOf kind (filesOf (now (bundle .entry))) (now (names .entry)) languages guesses)
+    requires { ⌜ languages ≤ 32 ⌝ }
+    ensures { λ r. ⌜ WrittenIs (λ (bytes : List ℕ). bytes) (packedOf kind (filesOf (now (bundle .entry))) (now (names .entry)) languages)
         (now (out .entry)) (now (out .exit)) 0 r ⌝ }
 {
-    let p = write_front(names, languages, guesses, out);
-    match load_guesses(kind, bundle, names, out, p) {
-        Guessed::Done { count: _, at } => {
-            let q = writing::push(out, at, (3 * languages + 2) as u8);
-            rule_lists::write_lists(kind, bundle, names, out, q)
+    let p = writing::push(out, 0, languages as u8);
+    let q = writing::copy(names, out, p);
+    match load_guesses(kind, bundle, names, out, q) {
+        Written::Done { at } => {
+            let lists = writing::push(out, at, (3 * languages + 2) as u8);
+            rule_lists::write_lists(kind, bundle, names, out, lists)
         }
-        Guessed::Refused { why, line, file } => Written::Refused { why, line, file },
+        Written::Refused { why, line, file } => Written::Refused { why, line, file },
     }
 }
 
@@ -174,14 +163,13 @@ fn load_pack(
     bundle: &[u8],
     names: &[u8],
     languages: usize,
-    guesses: usize,
     out: &mut [u8],
 ) -> Loaded
-    requires { ⌜ (languages ≤ 32) × (guesses ≤ 4096) ⌝ }
-    ensures { λ r. ⌜ AnswerIs (packedOf kind (filesOf (now (bundle .entry))) (now (names .entry)) languages guesses) (now (out .entry)) r (now (out .exit)) ⌝ }
+    requires { ⌜ languages ≤ 32 ⌝ }
+    ensures { λ r. ⌜ AnswerIs (packedOf kind (filesOf (now (bundle .entry))) (now (names .entry)) languages) (now (out .entry)) r (now (out .exit)) ⌝ }
 {
     let mut none = [0u8; 1];
-    match write_pack(kind, bundle, names, languages, guesses, &mut none) {
+    match write_pack(kind, bundle, names, languages, &mut none) {
         Written::Done { at: length } => {
             if out.len() < length {
                 return Loaded::Refused {
@@ -190,7 +178,7 @@ fn load_pack(
                     file: 0,
                 };
             }
-            write_pack(kind, bundle, names, languages, guesses, out);
+            write_pack(kind, bundle, names, languages, out);
             Loaded::Done { length }
         }
         Written::Refused { why, line, file } => Loaded::Refused {
@@ -206,21 +194,11 @@ fn load_files(kind: NameType, bundle: &[u8], out: &mut [u8]) -> Loaded
     ensures { λ r. ⌜ AnswerIs (written (packFrom kind (filesOf (now (bundle .entry))))) (now (out .entry)) r (now (out .exit)) ⌝ }
 {
     let mut names = [0u8; 832];
-    let mut none = [0u8; 1];
     match load_names(kind, bundle, &mut names) {
         Names::Done {
             count: languages,
             len,
-        } => match load_guesses(kind, bundle, &names[0..len], &mut none, 0) {
-            Guessed::Done { count, at: _ } => {
-                load_pack(kind, bundle, &names[0..len], languages, count, out)
-            }
-            Guessed::Refused { why, line, file } => Loaded::Refused {
-                why,
-                place: line,
-                file,
-            },
-        },
+        } => load_pack(kind, bundle, &names[0..len], languages, out),
         Names::Refused { why, line, file } => Loaded::Refused {
             why,
             place: line,

@@ -1,6 +1,5 @@
 use Prim.Native.Nat.{_-_}
 use lib.ListN.{length}
-use borrow.Author.Needs.{needs}
 use Rattle.loader.proofs.GuessLaws.{Writing, writing-laws}
 use Rattle.loader.proofs.guesses.write_guesses.Statement.{statement}
 use Rattle.loader.proofs.guesses.write_guesses.Tie as tie
@@ -13,13 +12,9 @@ abbrev μ-loop : tie.MeasureT-loop
 
 pub write-guesses-spec : {M : Type 1} → statement M
 write-guesses-spec =
-    tie.close (tie.spec Inv-loop μ-loop (λ c. search (writing-laws, needs)) (λ c κs. search (writing-laws, needs)) (λ c. search (writing-laws, needs))
-    (λ c. search (writing-laws, needs)) (λ c. search (writing-laws, needs)) (λ c. search (writing-laws, needs)) (λ c. search (writing-laws, needs))
-    (λ c. search (writing-laws, needs)) (λ c κs. search (writing-laws, needs)) (λ c κs. search (writing-laws, needs))
-    (λ c κs. search (writing-laws, needs)) (λ c. search (writing-laws, needs)) (λ c κs. search (writing-laws, needs))
-    (λ c. search (writing-laws, needs)) (λ c. search (writing-laws, needs)) (λ c. search (writing-laws, needs)) (λ c. search (writing-laws, needs))
-    (λ c. search (writing-laws, needs)) (λ c. search (writing-laws, needs)) (λ c. search (writing-laws, needs)) (λ c. search (writing-laws, needs))
-    (λ c. search (writing-laws, needs)) (λ c. search (writing-laws, needs)) (λ c. search (writing-laws, needs)) (λ c. search (writing-laws, needs))
-    (λ c. search (writing-laws, needs)) (λ c. search (writing-laws, needs)) (λ c. search (writing-laws, needs)) (λ c. search (writing-laws, needs))
-    (λ c. search (writing-laws, needs)) (λ c. search (writing-laws, needs)) (λ c. search (writing-laws, needs)) (λ c. search (writing-laws, needs))
-    (λ c. search (writing-laws, needs)))
+    tie.close (tie.spec Inv-loop μ-loop (λ c. search writing-laws) (λ c κs. search writing-laws) (λ c. search writing-laws)
+    (λ c. search writing-laws) (λ c. search writing-laws) (λ c. search writing-laws) (λ c. search writing-laws) (λ c. search writing-laws)
+    (λ c κs. search writing-laws) (λ c κs. search writing-laws) (λ c κs. search writing-laws) (λ c. search writing-laws)
+    (λ c κs. search writing-laws) (λ c. search writing-laws) (λ c. search writing-laws) (λ c. search writing-laws) (λ c. search writing-laws)
+    (λ c. search writing-laws) (λ c. search writing-laws) (λ c. search writing-laws) (λ c. search writing-laws) (λ c. search writing-laws)
+    (λ c. search writing-laws) (λ c. search writing-laws) (λ c. search writing-laws) (λ c. search writing-laws) (λ c. search writing-laws))

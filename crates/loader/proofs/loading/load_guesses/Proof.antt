@@ -1,12 +1,10 @@
-use borrow.Author.Needs.{needs}
 use Rattle.loader.proofs.PartLaws.{load-laws}
 use Rattle.loader.proofs.loading.load_guesses.Statement.{statement}
 use Rattle.loader.proofs.loading.load_guesses.Tie as tie
 
 pub load-guesses-spec : {M : Type 1} → statement M
 load-guesses-spec =
-    tie.close (tie.spec (λ c κs. search (load-laws, needs)) (λ c. search (load-laws, needs)) (λ c. search (load-laws, needs))
-    (λ c. search (load-laws, needs)) (λ c. search (load-laws, needs)) (λ c κs. search (load-laws, needs)) (λ c. search (load-laws, needs))
-    (λ c. search (load-laws, needs)) (λ c. search (load-laws, needs)) (λ c. search (load-laws, needs)) (λ c. search (load-laws, needs))
-    (λ c. search (load-laws, needs)) (λ c. search (load-laws, needs)) (λ c. search (load-laws, needs)) (λ c. search (load-laws, needs))
-    (λ c. search (load-laws, needs)))
+    tie.close (tie.spec (λ c κs. search load-laws) (λ c. search load-laws) (λ c κs. search load-laws) (λ c. search load-laws)
+    (λ c. search load-laws) (λ c. search load-laws) (λ c κs. search load-laws) (λ c. search load-laws) (λ c. search load-laws)
+    (λ c. search load-laws) (λ c. search load-laws) (λ c κs. search load-laws) (λ c. search load-laws) (λ c. search load-laws)
+    (λ c. search load-laws) (λ c. search load-laws) (λ c. search load-laws) (λ c. search load-laws) (λ c. search load-laws))

@@ -1,10 +1,10 @@
-use borrow.Author.Needs.{needs}
 use Rattle.loader.proofs.LoadingLaws.{pack-laws}
 use Rattle.loader.proofs.loading.write_pack.Statement.{statement}
 use Rattle.loader.proofs.loading.write_pack.Tie as tie
 
 pub write-pack-spec : {M : Type 1} → statement M
 write-pack-spec =
-    tie.close (tie.spec (λ c κs. search needs) (λ c κs. search needs) (λ c. search needs) (λ c. search needs) (λ c. search needs) (λ c. search needs)
-    (λ c κs. search needs) (λ c κs. search needs) (λ c. search needs) (λ c. search needs) (λ c. search (pack-laws, needs)) (λ c. search needs)
-    (λ c. search (pack-laws, needs)))
+    tie.close (tie.spec (λ c. search pack-laws) (λ c κs. search pack-laws) (λ c κs. search pack-laws) (λ c κs. search pack-laws)
+    (λ c. search pack-laws) (λ c. search pack-laws) (λ c. search pack-laws) (λ c. search pack-laws) (λ c κs. search pack-laws)
+    (λ c κs. search pack-laws) (λ c. search pack-laws) (λ c. search pack-laws) (λ c. search pack-laws) (λ c. search pack-laws)
+    (λ c. search pack-laws))
