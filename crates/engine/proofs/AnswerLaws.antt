@@ -75,7 +75,8 @@ answered-by (unspelt why) q = pick-false _ _ _ (q .fine) ∙ ap (λ (k : Refusal
 answered-by {a} {o} (speltAs t f) q = pick-true _ _ _ (q .fine) ∙ fits-by _ refl
   where
     fits-by : (b : Bool) → leb (a .at) (length o) ≡ b
-        → pick (leb (a .at) (length o)) (Done (a .at) (a .flag)) (Refused NoRoom (min (a .at) 4294967295)) ≡ pick (leb (length t) (length o)) (Done (length t) f) (Refused NoRoom (min (length t) 4294967295))
+        → pick (leb (a .at) (length o)) (Done (a .at) (a .flag)) (Refused NoRoom (min (a .at) 4294967295))
+        ≡ pick (leb (length t) (length o)) (Done (length t) f) (Refused NoRoom (min (length t) 4294967295))
     fits-by true e =
         let k : a .at ≤ length o = leb-true _ _ e in
         let same : a .at ≡ length t = omega (arith, q .is .0 .ends, q .is .0 .room) in
@@ -98,7 +99,8 @@ whole-long (unspelt k) o = refl
 whole-long (speltAs t f) o = pick-all (λ (l : List ℕ). length l ≡ length o) _ _ _ (length-sets o 0 t) refl
 
 -- a name that is one word is spelled once
-pub single-told : (s : List ℕ) (call : Call) (name : Text) (t : Bool) → t ≡ wholeAnd (partedAs (call .kind) name) (pick (call .concat) true (oneWord name)) → t ≡ true
+pub single-told : (s : List ℕ) (call : Call) (name : Text) (t : Bool)
+    → t ≡ wholeAnd (partedAs (call .kind) name) (pick (call .concat) true (oneWord name)) → t ≡ true
     → {a : Ends} {o o′ : List ℕ} → SpeltWhole (speltPart s call name) o o′ 0 a → SpeltWhole (speltName s call name) o o′ 0 a
 unfolding speltPart speltName stepsAt stepsBy
 single-told s call name t et y w =
@@ -107,7 +109,8 @@ single-told s call name t et y w =
 
 -- what `copy_out` tells
 module _ (a : Ends) (apart o : List ℕ) where
-  pub copied-all : {o′ : List ℕ} {p : ℕ} → a .fine ≡ true → a .at ≤ length o → a .at ≤ length apart → Put o o′ 0 p (take (a .at - 0) (drop 0 apart)) → CopyOutIs a apart o o′ true
+  pub copied-all : {o′ : List ℕ} {p : ℕ} → a .fine ≡ true → a .at ≤ length o → a .at ≤ length apart
+      → Put o o′ 0 p (take (a .at - 0) (drop 0 apart)) → CopyOutIs a apart o o′ true
   unfolding CopyOutIs
   copied-all e h k w =
       let n : a .at - 0 ≡ a .at = omega arith in
@@ -154,11 +157,25 @@ module _ {u u′ o o₁ : List ℕ} {a : Ends} where
       }
   kept-by (speltAs t f) m (copied c r h l e) =
       let long : a .at ≡ length t = omega (arith, m .is .0 .ends, h, r) in
-      let text : take (a .at) u′ ≡ t = ap₂ take long (m .is .0 .wrote (omega (arith, long, l, m .is .0 .same))) ∙ rw (sets-eq t u 0 (omega (arith, long, l, m .is .0 .same))) (take-at t _ (length t) refl) in
+      let text : take (a .at) u′ ≡ t =
+      ap₂ take long (m .is .0 .wrote (omega (arith, long, l, m .is .0 .same)))
+      ∙ rw (sets-eq t u 0 (omega (arith, long, l, m .is .0 .same))) (take-at t _ (length t) refl) in
       let stands = e ∙ ap (sets o 0) text in
       let fits : 0 + length t ≤ length o = omega (arith, long, h) in
       record {
-        told = record { fine = m .fine; is = (record { ends = m .is .0 .ends; wrote = λ k. stands; same = ap length stands ∙ length-sets o 0 t; room = r }, m .is .1) };
+        told =
+            record {
+              fine = m .fine;
+              is = (
+                record {
+                  ends = m .is .0 .ends;
+                  wrote = λ k. stands;
+                  same = ap length stands ∙ length-sets o 0 t;
+                  room = r;
+                },
+                m .is .1,
+              );
+            };
         whole = stands ∙ sym (pick-true _ _ _ (le-leb _ _ fits));
       }
 
@@ -181,7 +198,8 @@ module _ {x : Spelt} {u u′ o o₁ : List ℕ} {a : Ends} {t : Bool} (m : Spelt
       again-by x m (w .0) (w .1) (rw (w .2) at q)
 
 -- what is told as a whole is a call's answer
-answer-told : (x : Spelt) {a : Ends} {ans : Spelled} {o o′ : List ℕ} → SpeltWhole x o o′ 0 a → ans ≡ answeredBy a (length o′) → SpellIs (outcomeOf x) o ans o′
+answer-told : (x : Spelt) {a : Ends} {ans : Spelled} {o o′ : List ℕ} → SpeltWhole x o o′ 0 a → ans ≡ answeredBy a (length o′)
+    → SpellIs (outcomeOf x) o ans o′
 answer-told x {o = o} w e =
     spell-is (e ∙ ap (answeredBy _) (ap length (w .whole) ∙ whole-long x o) ∙ answered-by x (w .told)) (w .whole ∙ whole-filled x o)
 
@@ -204,15 +222,20 @@ module _ (name o o₁ : List ℕ) (r : Lowered) (h : (length name ≤ 96) × (le
   lowered-in = omega (arith, h .0, h .1, ap length lowered-is, length-sets o 0 (lowerText name))
 
   lowered-part : take (length name) o₁ ≡ lowerText name
-  lowered-part = ap₂ take (sym (lower-text-length name)) lowered-is ∙ rw (sets-eq (lowerText name) o 0 (omega (arith, lower-fits))) (take-at (lowerText name) _ (length (lowerText name)) refl)
+  lowered-part =
+      ap₂ take (sym (lower-text-length name)) lowered-is
+      ∙ rw (sets-eq (lowerText name) o 0 (omega (arith, lower-fits))) (take-at (lowerText name) _ (length (lowerText name)) refl)
 
-  pub lowered-told : (s : List ℕ) (call by : Call) (o₂ : List ℕ) → by ≡ startedBy call (guessedAt s (call .guesses) (call .languages) (take (length name - 0) (drop 0 o₁))) → o₂ ≡ spaced o₁
+  pub lowered-told : (s : List ℕ) (call by : Call) (o₂ : List ℕ)
+      → by ≡ startedBy call (guessedAt s (call .guesses) (call .languages) (take (length name - 0) (drop 0 o₁))) → o₂ ≡ spaced o₁
       → LoweredIs s call name o₂ by
   unfolding spaced
   lowered-told s call by o₂ e e₂ = record {
     inside = omega (arith, lowered-in, ap length e₂, spaced-long o₁);
     text = ap (take (length name)) e₂ ∙ take-map (length name) o₁ _ ∙ ap (map (λ (b : ℕ). pick (eqb b 45) 32 b)) lowered-part;
-    started = e ∙ ap (λ (t : Text). startedBy call (guessedAt s (call .guesses) (call .languages) t)) (ap (λ (n : ℕ). take n o₁) (sub-zero (length name)) ∙ lowered-part);
+    started =
+        e ∙ ap (λ (t : Text). startedBy call (guessedAt s (call .guesses) (call .languages) t))
+        (ap (λ (n : ℕ). take n o₁) (sub-zero (length name)) ∙ lowered-part);
   }
 
 module _ (s : List ℕ) (call : Call) (name low : List ℕ) (by : Call) (w : LoweredIs s call name low by) where
@@ -223,10 +246,12 @@ module _ (s : List ℕ) (call : Call) (name low : List ℕ) (by : Call) (w : Low
     pub low-ready : CallReady s table by
     low-ready = ready-started ready _ (w .started)
 
-    pub low-told : (out out′ : List ℕ) (a : Ends) → SpeltWhole (speltName s by (take (length name - 0) (drop 0 low))) out out′ 0 a → SpeltWhole (speltFine s call name) out out′ 0 a
+    pub low-told : (out out′ : List ℕ) (a : Ends) → SpeltWhole (speltName s by (take (length name - 0) (drop 0 low))) out out′ 0 a
+        → SpeltWhole (speltFine s call name) out out′ 0 a
     unfolding speltFine
     low-told out out′ a q =
-        rw (name-started ready _ (w .started) _ ∙ ap (spelledName (stepsAt s call) (startAt s call (lowerText name))) (ap (λ (n : ℕ). take n low) (sub-zero (length name)) ∙ w .text)) at q
+        rw (name-started ready _ (w .started) _ ∙ ap (spelledName (stepsAt s call) (startAt s call (lowerText name)))
+        (ap (λ (n : ℕ). take n low) (sub-zero (length name)) ∙ w .text)) at q
 
 pub part-short : (name o : List ℕ) → length name ≤ 96 → length (take (length name - 0) (drop 0 o)) ≤ 96
 part-short name o h = omega (arith, length-take (length name - 0) o)
@@ -258,12 +283,13 @@ module _ {s : List ℕ} {table : List (List ℕ)} {q : Request} {name : Text} (w
     opened-few = omega (arith, usable .languages-are, languages-few s (packIn s) g (usable .is) (usable .guesses-are))
 
     module _ {t : Bool} (et : t ≡ haveLanguages l (q .start)) where
-      on-pack : outcomeOn s q name ≡ pick t (outcomeOf (spelledBy (stepsOf s (packIn s) (q .settings)) (q .start) (lowerText name))) (refusedBy NoSuchLanguage 0)
+      on-pack : outcomeOn s q name ≡ pick t (outcomeOf (spelledBy (stepsOf s (packIn s) (q .settings)) (q .start) (lowerText name)))
+          (refusedBy NoSuchLanguage 0)
       unfolding onPack
       on-pack =
           ap (onPack (q .settings) (q .start) s name) (usable .is)
-          ∙ ap (λ (b : Bool). pick b (outcomeOf (spelledBy (stepsOf s (packIn s) (q .settings)) (q .start) (lowerText name))) (refusedBy NoSuchLanguage 0))
-          (ap (λ (n : ℕ). haveLanguages n (q .start)) (sym (usable .languages-are)) ∙ sym et)
+          ∙ ap (λ (b : Bool). pick b (outcomeOf (spelledBy (stepsOf s (packIn s) (q .settings)) (q .start) (lowerText name)))
+          (refusedBy NoSuchLanguage 0)) (ap (λ (n : ℕ). haveLanguages n (q .start)) (sym (usable .languages-are)) ∙ sym et)
 
       pub opened-none : (o : List ℕ) → t ≡ false → SpellIs (outcomeOn s q name) o (Refused NoSuchLanguage 0) o
       opened-none o y = refused-told o (on-pack ∙ pick-false _ _ _ y)
@@ -279,7 +305,8 @@ module _ {s : List ℕ} {table : List (List ℕ)} {q : Request} {name : Text} (w
         unfolding speltFine callFor stepsAt startAt stepsOf stepsBy spelledBy
         spelled-is = rw (ec, start-is)
 
-        pub opened-told : {a : Ends} {ans : Spelled} {o o′ : List ℕ} → SpeltWhole (speltFine s call name) o o′ 0 a → ans ≡ answeredBy a (length o′) → SpellIs (outcomeOn s q name) o ans o′
+        pub opened-told : {a : Ends} {ans : Spelled} {o o′ : List ℕ} → SpeltWhole (speltFine s call name) o o′ 0 a → ans ≡ answeredBy a (length o′)
+            → SpellIs (outcomeOn s q name) o ans o′
         opened-told h ea = rw (on-pack ∙ pick-true _ _ _ y ∙ ap outcomeOf (sym spelled-is)) (answer-told (speltFine s call name) h ea)
 
 pub ruleset opened-laws = (opened-broken, opened-few, opened-none, opened-ready, opened-told)

@@ -94,7 +94,8 @@ pub have-guessed : (n : ℕ) (start : Start) → start ≡ Guessed → true ≡ 
 unfolding haveLanguages
 have-guessed n start e = rw e refl
 
-pub have-given : (n : ℕ) (start : Start) (kind bits : ℕ) (t : Bool) → start ≡ Given kind bits → t ≡ pick (eqb kind 2) (ltb bits (2 ^ n)) true → t ≡ haveLanguages n start
+pub have-given : (n : ℕ) (start : Start) (kind bits : ℕ) (t : Bool) → start ≡ Given kind bits → t ≡ pick (eqb kind 2) (ltb bits (2 ^ n)) true
+    → t ≡ haveLanguages n start
 unfolding haveLanguages
 have-given n start kind bits t e p = rw e p
 
@@ -136,7 +137,8 @@ any-held s p e =
     let good = and-inv _ _ (and-inv _ _ (and-inv _ _ (w .front .passes) .1) .1) .1 in
     held-place any (p .names) (ap (holds any) (sym (w .names)) ∙ good)
 
-broken-by : (s : List ℕ) (t : List (List ℕ)) (place : ℕ) (v : Verdict) → packOf s ≡ v → surveyedOf v ≡ surveyed.Refused place → OpenedIs s t (Broken place)
+broken-by : (s : List ℕ) (t : List (List ℕ)) (place : ℕ) (v : Verdict) → packOf s ≡ v → surveyedOf v ≡ surveyed.Refused place
+    → OpenedIs s t (Broken place)
 unfolding surveyedOf OpenedIs
 broken-by s t place (accepted p) e q = clash (cc)
 broken-by s t place (refused k) e q = let is : k ≡ place = cc in e ∙ ap refused is
@@ -211,7 +213,8 @@ module _ (name : Text) where
   unfolding lettersThen foundBy
   found-long h = record { is = λ rest. sym (pick-true _ _ _ (lt-ltb _ _ h)) }
 
-  letters-by : (x y : Found) → length name ≤ 96 → firstIll name ≡ x → firstOutside name ≡ y → (rest : CallOutcome) → unless NotUtf8 x (unless OutsideRange y rest) ≡ lettersThen name rest
+  letters-by : (x y : Found) → length name ≤ 96 → firstIll name ≡ x → firstOutside name ≡ y → (rest : CallOutcome)
+      → unless NotUtf8 x (unless OutsideRange y rest) ≡ lettersThen name rest
   unfolding lettersThen
   letters-by x y h p q rest = sym (pick-false _ _ _ (le-ltb _ _ h) ∙ ap₂ (λ (f g : Found). unless NotUtf8 f (unless OutsideRange g rest)) p q)
 
@@ -242,7 +245,8 @@ pub ruleset found-laws = (found-long, found-ill, found-outside, found-none, foun
 
 -- ---- what that tells
 
-fine-by : (t u : Bool) (x : CallOutcome) → key [] false ≡ pick t (pick u (refusedBy NameTooLong 0) x) (refusedBy SettingUnknown 0) → (t ≡ true) × (u ≡ false)
+fine-by : (t u : Bool) (x : CallOutcome) → key [] false ≡ pick t (pick u (refusedBy NameTooLong 0) x) (refusedBy SettingUnknown 0)
+    → (t ≡ true) × (u ≡ false)
 unfolding pick
 fine-by false u x e = clash (cc)
 fine-by true true x e = clash (cc)

@@ -39,7 +39,7 @@ use Rattle.phoneme_builder.specs.Contracts as built
 use Rattle.phoneme_builder.specs.declared.words.Worded.{Worded}
 use Rattle.phoneme_builder.specs.declared.words.Worded.the-variants.{Done, TooLong, TooMany}
 use Rattle.engine.specs.Spelling.{unspelt, speltAs, or, onePart, partedAs, spelledName, afreshBy}
-use Rattle.engine.specs.Calls.{languageBy, languageOf, listNumbered, speltBy, wordBy, stepsBy}
+use Rattle.engine.specs.Calls.{languageBy, languageOf, listNumbered, speltBy, wordByLists, stepsBy}
 use Rattle.engine.specs.Contracts.{CallReady, withStart, startedBy, stepsAt, startAt, speltWord, speltPart, speltName, speltAfresh, listNumbers, isSpelt, IntoBy, SpeltInto, wholeBy, SpeltWhole, EndedIs, bothOf, HyphenAt}
 use Rattle.engine.proofs.IntoLaws.{bad-told}
 use Rattle.engine.specs.declared.call.Call.{Call}
@@ -52,7 +52,8 @@ use Rattle.pack.specs.Contracts.{guessedAt}
 -- ---- what a word's answer tells
 
 module _ {o o′ : List ℕ} {at : ℕ} {r : Ends} (room : length o < cap) where
-  whole-good : (t : Text) (f : Bool) → r .at ≡ min (at + length t) cap → r .flag ≡ f → r .fine ≡ true → o′ ≡ placed o at t → SpeltWhole (speltAs t f) o o′ at r
+  whole-good : (t : Text) (f : Bool) → r .at ≡ min (at + length t) cap → r .flag ≡ f → r .fine ≡ true → o′ ≡ placed o at t
+      → SpeltWhole (speltAs t f) o o′ at r
   unfolding isSpelt IntoBy wholeBy placed
   whole-good t f ea ef ec eo = record {
     told = record {
@@ -74,7 +75,8 @@ module _ {o o′ : List ℕ} {at : ℕ} {r : Ends} (room : length o < cap) where
   unfolding wholeBy
   whole-bad a why e w eo = record { told = bad-told (w .0) (w .1 ∙ number-one a why e); whole = eo }
 
-  word-told : (x : Spelling) (answer : Worded) → answerOf answer ≡ answered x → o′ ≡ placedAs x o at → EndedIs answer at r → SpeltWhole (speltBy x) o o′ at r
+  word-told : (x : Spelling) (answer : Worded) → answerOf answer ≡ answered x → o′ ≡ placedAs x o at → EndedIs answer at r
+      → SpeltWhole (speltBy x) o o′ at r
   unfolding answerOf answered placedAs EndedIs speltBy
   word-told (texts l flag) (Done n f) e b w =
       let en : n ≡ length (joined (spellingsIn l)) = cc in
@@ -107,16 +109,32 @@ module _ {s : List ℕ} {table : List (List ℕ)} {call : Call} (w : CallReady s
 
     module _ (word : Text) where
       abbrev spelled-word : Lists → Spelling
-      spelled-word x = wordOf (call .limit) (take (call .guesses - 1) (drop 1 s)) (matcher s table (x .main)) (matcher s table (x .common)) (matcher s table (x .own)) (call .set) word
+      spelled-word x =
+          wordOf (call .limit) (take (call .guesses - 1) (drop 1 s)) (matcher s table (x .main)) (matcher s table (x .common))
+          (matcher s table (x .own)) (call .set) word
 
       word-is : speltWord s call word ≡ speltBy (spelled-word (listNumbers call l))
-      unfolding speltWord stepsAt stepsBy wordBy listNumbers listNumbered
+      unfolding speltWord stepsAt stepsBy wordByLists listNumbers listNumbered
       word-is =
           let names : call .guesses - 1 ≡ stringsLength (packIn s .names) = omega (arith, w .pack .guesses-are) in
-          rw (language-is, names, w .pack .finds (3 * l), w .pack .finds (3 * (call .languages) + call .rules), w .pack .finds (3 * l + 1 + call .rules), w .pack .languages-are)
+          rw (
+            language-is,
+            names,
+            w .pack .finds (3 * l),
+            w .pack .finds (3 * (call .languages) + call .rules),
+            w .pack .finds (3 * l + 1 + call .rules),
+            w .pack .languages-are,
+          )
 
       pub word-spelt : {o o′ : List ℕ} {at : ℕ} {r : Ends} {answer : Worded} {lists : Lists} → lists ≡ listNumbers call l → length o * 1 < cap
-          → WordIs (built.wordBy s table (record { main = lists .main; common = lists .common; own = lists .own; limit = call .limit; guesses = call .guesses; set = call .set }) word) o o′ at answer
+          → WordIs (built.wordBy s table (record {
+            main = lists .main;
+            common = lists .common;
+            own = lists .own;
+            limit = call .limit;
+            guesses = call .guesses;
+            set = call .set;
+          }) word) o o′ at answer
           → EndedIs answer at r → SpeltWhole (speltWord s call word) o o′ at r
       unfolding namesIn
       word-spelt {o = o} e room q ended =
@@ -137,7 +155,9 @@ module _ {s : List ℕ} {table : List (List ℕ)} {call : Call} (w : CallReady s
 
     guess-is : guessedAt s (call .guesses) (call .languages) t ≡ stepsAt s call .guess t
     unfolding stepsAt stepsBy
-    guess-is = ap (λ (n : ℕ). guessedAt s (call .guesses) n t) (w .pack .languages-are) ∙ guess-told s (packIn s) (call .guesses) (w .pack .is) (w .pack .guesses-are) t
+    guess-is =
+        ap (λ (n : ℕ). guessedAt s (call .guesses) n t) (w .pack .languages-are)
+        ∙ guess-told s (packIn s) (call .guesses) (w .pack .is) (w .pack .guesses-are) t
 
     word-started : (x : Text) → speltWord s by x ≡ stepsAt s call .word (startAt s call t) x
     unfolding speltWord stepsAt startAt startedBy withStart
@@ -148,14 +168,17 @@ module _ {s : List ℕ} {table : List (List ℕ)} {call : Call} (w : CallReady s
     name-started x = rw (e, guess-is)
 
     module _ (x : Text) {o o′ : List ℕ} {at : ℕ} {r : Ends} where
-      part-by : (u : Text) → u ≡ x → pick (call .concat) (joinedWords (call .kind) t) (wordAt t 0) ≡ u → SpeltWhole (speltWord s by x) o o′ at r → SpeltWhole (speltPart s call t) o o′ at r
+      part-by : (u : Text) → u ≡ x → pick (call .concat) (joinedWords (call .kind) t) (wordAt t 0) ≡ u → SpeltWhole (speltWord s by x) o o′ at r
+          → SpeltWhole (speltPart s call t) o o′ at r
       unfolding speltPart onePart stepsAt stepsBy
       part-by u ux eu q =
           let same : speltPart s call t ≡ speltWord s by x =
-          sym (pick-map (stepsAt s call .word (startAt s call t)) (call .concat) (joinedWords (call .kind) t) (wordAt t 0)) ∙ rw (eu, ux, ← word-started x) in
+          sym (pick-map (stepsAt s call .word (startAt s call t)) (call .concat) (joinedWords (call .kind) t) (wordAt t 0))
+          ∙ rw (eu, ux, ← word-started x) in
           rw same q
 
-      pub part-joined : call .concat ≡ true → x ≡ joinedWords (call .kind) t → SpeltWhole (speltWord s by x) o o′ at r → SpeltWhole (speltPart s call t) o o′ at r
+      pub part-joined : call .concat ≡ true → x ≡ joinedWords (call .kind) t → SpeltWhole (speltWord s by x) o o′ at r
+          → SpeltWhole (speltPart s call t) o o′ at r
       part-joined h ex = part-by _ (sym ex) (pick-true _ _ _ h)
 
       pub part-only : call .concat ≡ false → x ≡ wordAt t 0 → SpeltWhole (speltWord s by x) o o′ at r → SpeltWhole (speltPart s call t) o o′ at r
@@ -168,7 +191,8 @@ module _ (s : List ℕ) (call : Call) {again : Call} (e : again ≡ withStart ca
   unfolding withStart
   ready-afresh w = rw e (record { pack = w .pack; few = w .few; known = w .known; below = w .below })
 
-  pub afresh-told : (t : Text) {o o′ : List ℕ} {at : ℕ} {r : Ends} → SpeltInto (speltName s again t) o o′ at r → SpeltInto (speltAfresh s call t) o o′ at r
+  pub afresh-told : (t : Text) {o o′ : List ℕ} {at : ℕ} {r : Ends} → SpeltInto (speltName s again t) o o′ at r
+      → SpeltInto (speltAfresh s call t) o o′ at r
   unfolding speltName speltAfresh withStart stepsAt startAt afreshBy pick
   afresh-told t q = rw e at q
 
@@ -195,7 +219,8 @@ module _ (first second : Ends) (at : ℕ) where
   both-kept h = sym (pick-false _ _ _ h)
 
 module _ (a : Worded) (at : ℕ) where
-  pub ended-done : (n p : ℕ) (f : Bool) (why : Refusal) → a ≡ Done n f → p ≡ min (at + n) cap → EndedIs a at (record { at = p; flag = f; fine = true; why = why })
+  pub ended-done : (n p : ℕ) (f : Bool) (why : Refusal) → a ≡ Done n f → p ≡ min (at + n) cap → EndedIs a at
+      (record { at = p; flag = f; fine = true; why = why })
   unfolding EndedIs
   ended-done n p f why e h = rw e (h, refl, refl)
 
@@ -235,7 +260,22 @@ module _ (kind : NameType) (name : Text) where
   unfolding partedAs
   part-generic x e q = rw e q
 
-pub ruleset encode-laws = (or-yes, or-rest, both-joined, both-kept, ended-done, ended-long, ended-many, hyphen-none, hyphen-put, language-one, language-any, part-ashkenazi, part-sephardic, part-generic)
+pub ruleset encode-laws = (
+  or-yes,
+  or-rest,
+  both-joined,
+  both-kept,
+  ended-done,
+  ended-long,
+  ended-many,
+  hyphen-none,
+  hyphen-put,
+  language-one,
+  language-any,
+  part-ashkenazi,
+  part-sephardic,
+  part-generic,
+)
 
 -- ---- a text at the front of a local array
 

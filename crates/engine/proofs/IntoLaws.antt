@@ -62,7 +62,8 @@ pub bad-told : {o o′ : List ℕ} {at : ℕ} {why : Refusal} {r : Ends} → r .
 unfolding isSpelt IntoBy
 bad-told e h = record { fine = e; is = h }
 
-good-told : {t : Text} {f : Bool} {o o′ : List ℕ} {at : ℕ} {r : Ends} → r .fine ≡ true → Wrote t o o′ at (r .at) → r .flag ≡ f → SpeltInto (speltAs t f) o o′ at r
+good-told : {t : Text} {f : Bool} {o o′ : List ℕ} {at : ℕ} {r : Ends} → r .fine ≡ true → Wrote t o o′ at (r .at) → r .flag ≡ f
+    → SpeltInto (speltAs t f) o o′ at r
 unfolding isSpelt IntoBy
 good-told e w h = record { fine = e; is = (w, h) }
 
@@ -101,9 +102,11 @@ module _ {x : Refusal} {o o′ p p′ : List ℕ} {at q : ℕ} {a r : Ends} (tol
 -- ---- between brackets
 
 pub bracketed-told : (x : Spelt) {o o₁ o₂ o₃ : List ℕ} {at p end : ℕ} {a : Ends}
-    → Put o o₁ at p (40 ∷ []) → SpeltInto x o₁ o₂ p a → Put o₂ o₃ (a .at) end (41 ∷ []) → SpeltInto (bracketed x) o o₃ at (record { at = end; flag = a .flag; fine = a .fine; why = a .why })
+    → Put o o₁ at p (40 ∷ []) → SpeltInto x o₁ o₂ p a → Put o₂ o₃ (a .at) end (41 ∷ [])
+    → SpeltInto (bracketed x) o o₃ at (record { at = end; flag = a .flag; fine = a .fine; why = a .why })
 unfolding bracketed
-bracketed-told (speltAs t f) left told right = good-told (is-fine told) (wrote-then (wrote-put left) (wrote-then (good-wrote told) (wrote-put right))) (good-flag told)
+bracketed-told (speltAs t f) left told right =
+    good-told (is-fine told) (wrote-then (wrote-put left) (wrote-then (good-wrote told) (wrote-put right))) (good-flag told)
 bracketed-told (unspelt k) left told right = bad-told (not-fine told) (bad-why told)
 
 -- ---- words, a hyphen between them
@@ -113,7 +116,8 @@ hyphened-told : (x y : Spelt) {o o₁ o₂ o₃ : List ℕ} {at q : ℕ} {a b r 
 unfolding hyphened
 hyphened-told (speltAs t f) (speltAs u g) ta middle tb e =
     let fine = is-fine ta in
-    good-told (both-fine _ _ _ _ e fine ∙ is-fine tb) (rw (both-at _ _ _ _ e fine) (wrote-then (good-wrote ta) (wrote-then (wrote-put middle) (good-wrote tb))))
+    good-told (both-fine _ _ _ _ e fine ∙ is-fine tb)
+    (rw (both-at _ _ _ _ e fine) (wrote-then (good-wrote ta) (wrote-then (wrote-put middle) (good-wrote tb))))
     (both-flag _ _ _ _ e fine ∙ ap₂ or (good-flag ta) (good-flag tb))
 hyphened-told (speltAs t f) (unspelt k) ta middle tb e = bad-second tb _ _ (is-fine ta) e
 hyphened-told (unspelt j) y ta middle tb e =
@@ -121,28 +125,33 @@ hyphened-told (unspelt j) y ta middle tb e =
 
 -- a name with a prefix: the remainder and the joined name, each between brackets
 pub both-told : (x y : Spelt) {o o₁ o₂ o₃ : List ℕ} {at p : ℕ} {a b r : Ends}
-    → SpeltInto (bracketed x) o o₁ at a → Put o₁ o₂ (a .at) p (45 ∷ []) → SpeltInto (bracketed y) o₂ o₃ p b → r ≡ bothOf b a (b .at) → SpeltInto (both x y) o o₃ at r
+    → SpeltInto (bracketed x) o o₁ at a → Put o₁ o₂ (a .at) p (45 ∷ []) → SpeltInto (bracketed y) o₂ o₃ p b → r ≡ bothOf b a (b .at)
+    → SpeltInto (both x y) o o₃ at r
 unfolding both bracketed
 both-told (speltAs t f) (speltAs u g) ta middle tb e =
     let fine = is-fine tb in
     let same = append-assoc t (41 ∷ []) (45 ∷ 40 ∷ (u ++ (41 ∷ []))) in
-    good-told (both-fine _ _ _ _ e fine ∙ is-fine ta) (rw (both-at _ _ _ _ e fine, ← same) (wrote-then (good-wrote ta) (wrote-then (wrote-put middle) (good-wrote tb))))
+    good-told (both-fine _ _ _ _ e fine ∙ is-fine ta)
+    (rw (both-at _ _ _ _ e fine, ← same) (wrote-then (good-wrote ta) (wrote-then (wrote-put middle) (good-wrote tb))))
     (both-flag _ _ _ _ e fine ∙ ap₂ or (good-flag tb) (good-flag ta))
 both-told (speltAs t f) (unspelt k) ta middle tb e = bad-first tb (both-first _ _ _ _ e (not-fine tb))
 both-told (unspelt j) (speltAs u g) ta middle tb e = bad-second ta _ _ (is-fine tb) e
 both-told (unspelt j) (unspelt k) ta middle tb e = bad-first tb (both-first _ _ _ _ e (not-fine tb))
 
 -- the first word's answer stands for all so far
-first-told : (y : Spelt) {o o′ : List ℕ} {at : ℕ} (a : Ends) {b r : Ends} → a .fine ≡ true → a .flag ≡ false → SpeltInto y o o′ at b → r ≡ bothOf a b (b .at) → SpeltInto y o o′ at r
+first-told : (y : Spelt) {o o′ : List ℕ} {at : ℕ} (a : Ends) {b r : Ends} → a .fine ≡ true → a .flag ≡ false → SpeltInto y o o′ at b
+    → r ≡ bothOf a b (b .at) → SpeltInto y o o′ at r
 unfolding or
 first-told (speltAs u g) a fine down tb e =
-    good-told (both-fine _ _ _ _ e fine ∙ is-fine tb) (rw (both-at _ _ _ _ e fine) (good-wrote tb)) (both-flag _ _ _ _ e fine ∙ ap₂ or down (good-flag tb))
+    good-told (both-fine _ _ _ _ e fine ∙ is-fine tb) (rw (both-at _ _ _ _ e fine) (good-wrote tb))
+    (both-flag _ _ _ _ e fine ∙ ap₂ or down (good-flag tb))
 first-told (unspelt k) a fine down tb e = bad-second tb _ _ fine e
 
 -- nothing is written yet, or the words read so far are told
 pub data Begun (f : Text → Spelt) (name : Text) (o₀ o : List ℕ) (at p : ℕ) (all : Ends) : Type 0 where
   not-yet : p ≡ 0 → o ≡ o₀ → (all .at ≡ at) × (all .flag ≡ false) × (all .fine ≡ true) → Begun f name o₀ o at p all
-  begun : (x : Spelt) → (p ≡ 0 → ⊥) → SpeltInto x o₀ o at all → andWords f x (wordsOf (drop p name)) ≡ eachWord f (wordsOf name) → Begun f name o₀ o at p all
+  begun : (x : Spelt) → (p ≡ 0 → ⊥) → SpeltInto x o₀ o at all → andWords f x (wordsOf (drop p name)) ≡ eachWord f (wordsOf name)
+      → Begun f name o₀ o at p all
 
 -- the invariant of `spell_words`' loop
 pub record WordsHeld (f : Text → Spelt) (name : Text) (o₀ o : List ℕ) (at p : ℕ) (all : Ends) : Type 0 where
@@ -154,9 +163,11 @@ pub record WordsHeld (f : Text → Spelt) (name : Text) (o₀ o : List ℕ) (at 
 
 pub held-start : (f : Text → Spelt) (name : Text) (o : List ℕ) (at : ℕ) (why : Refusal) → at ≤ cap → length o * 1 < cap
     → WordsHeld f name o o at 0 (record { at = at; flag = false; fine = true; why = why })
-held-start f name o at why h r = record { fits = h; room = slice-room o r; so-far = not-yet refl refl (refl, refl, refl); within = zero-le; out-same = refl }
+held-start f name o at why h r =
+    record { fits = h; room = slice-room o r; so-far = not-yet refl refl (refl, refl, refl); within = zero-le; out-same = refl }
 
-module _ {f : Text → Spelt} {name : Text} {o₀ o : List ℕ} {at p : ℕ} {all : Ends} (k : WordsHeld f name o₀ o at p all) {w : Text} (ew : w ≡ wordAt name p) where
+module _ {f : Text → Spelt} {name : Text} {o₀ o : List ℕ} {at p : ℕ} {all : Ends} (k : WordsHeld f name o₀ o at p all) {w : Text}
+    (ew : w ≡ wordAt name p) where
   pub held-end : length w ≡ 0 → SpeltInto (eachWord f (wordsOf name)) o₀ o at all
   unfolding eachWord andWords
   held-end h = end-by (k .so-far) where
@@ -200,7 +211,8 @@ module _ {f : Text → Spelt} {name : Text} {o₀ o : List ℕ} {at p : ℕ} {al
             let told : SpeltInto (f w) o₀ o₂ at b = rw (h .first ep .1 ∙ eo, h .first ep .0 ∙ ea .0) at tb in
             let words : wordsOf name ≡ w ∷ wordsOf (drop (pastWord name p) name) = sym (ap (λ (k : ℕ). wordsOf (drop k name)) ep) ∙ words-are in
             begun (f w) later-on (first-told (f w) all (ea .2) (ea .1) told e) (rw words refl)
-        turn-by (begun x later told rest) = begun (hyphened x (f w)) later-on (hyphened-told x (f w) told (h .later later) tb e) (rw words-are at rest)
+        turn-by (begun x later told rest) =
+            begun (hyphened x (f w)) later-on (hyphened-told x (f w) told (h .later later) tb e) (rw words-are at rest)
 
         pub held-turn : {p′ : ℕ} → p′ ≡ pastWord name p → length o₂ ≡ length o → WordsHeld f name o₀ o₂ at p′ r
         held-turn {p′} ep eo = rw ep (record {

@@ -23,7 +23,8 @@ use Rattle.choices.specs.Texts.{Text}
 sets-front : (vs xs ys : List ℕ) (i : ℕ) → i + length vs ≤ length xs → sets xs i vs ++ ys ≡ sets (xs ++ ys) i vs
 sets-front [] xs ys i h = refl
 sets-front (v ∷ vs) xs ys i h =
-    sets-front vs (set xs i v) ys (suc i) (omega (arith, length-set xs i v)) ∙ ap (λ (l : List ℕ). sets l (suc i) vs) (sym (set-append-left xs ys i v (omega arith)))
+    sets-front vs (set xs i v) ys (suc i) (omega (arith, length-set xs i v))
+    ∙ ap (λ (l : List ℕ). sets l (suc i) vs) (sym (set-append-left xs ys i v (omega arith)))
 
 sets-behind : (vs : List ℕ) (x : ℕ) (xs : List ℕ) (i : ℕ) → x ∷ sets xs i vs ≡ sets (x ∷ xs) (suc i) vs
 sets-behind [] x xs i = refl
@@ -31,7 +32,8 @@ sets-behind (v ∷ vs) x xs i = sets-behind vs x (set xs i v) (suc i)
 
 -- what is stored in a part is stored in the whole
 sets-part : (a k : ℕ) (o t : List ℕ) → length t ≤ k → a + k ≤ length o → take a o ++ (sets (take k (drop a o)) 0 t ++ drop k (drop a o)) ≡ sets o a t
-sets-part zero k o t h l = sets-front t (take k o) (drop k o) 0 (omega (arith, length-take k o)) ∙ ap (λ (m : List ℕ). sets m 0 t) (take-append-drop k o)
+sets-part zero k o t h l =
+    sets-front t (take k o) (drop k o) 0 (omega (arith, length-take k o)) ∙ ap (λ (m : List ℕ). sets m 0 t) (take-append-drop k o)
 sets-part (suc a) k [] t h l = absurd (omega arith)
 sets-part (suc a) k (x ∷ o) t h l = ap (λ (m : List ℕ). x ∷ m) (sets-part a k o t h (omega arith)) ∙ sets-behind t x o a
 
@@ -50,7 +52,8 @@ long-part : (a e : ℕ) (o : List ℕ) → a ≤ e → e ≤ length o → length
 long-part a e o h k = omega (arith, length-take (e - a) (drop a o), length-drop a o)
 
 -- the part from a to e is lent for an answer in its place in a line
-module _ {o : List ℕ} {space : Space} (w : SpaceOf o space) {a e : ℕ} (f : a ≡ min (space .at + 4) (space .size)) (g : e ≡ max a (space .size - 1)) where
+module _ {o : List ℕ} {space : Space} (w : SpaceOf o space) {a e : ℕ} (f : a ≡ min (space .at + 4) (space .size))
+    (g : e ≡ max a (space .size - 1)) where
   pub lent-order : a ≤ e
   lent-order = omega (arith, g)
 
@@ -73,17 +76,21 @@ module _ {o : List ℕ} {space : Space} (w : SpaceOf o space) {a e : ℕ} (f : a
   filled-by : (t : Text) (b : Bool) → leb (length t) (answerRoom space) ≡ b
       → take a o ++ (pick b (sets part 0 t) part ++ drop (e - a) (drop a o)) ≡ pick b (sets o (space .at + 4) t) o
   unfolding pick
-  filled-by t true h = sets-part a (e - a) o t (omega (arith, leb-true (length t) (answerRoom space) h, lent-room)) (omega (arith, lent-order, lent-within)) ∙ place-same t (leb-true _ _ h)
+  filled-by t true h =
+      sets-part a (e - a) o t (omega (arith, leb-true (length t) (answerRoom space) h, lent-room)) (omega (arith, lent-order, lent-within))
+      ∙ place-same t (leb-true _ _ h)
   filled-by t false h = back-same a (e - a) o
 
   part-filled : (x : CallOutcome) → take a o ++ (filledBy x part ++ drop (e - a) (drop a o)) ≡ behindFilled x space o
   unfolding filledBy behindFilled
   part-filled (refusedBy code place) = back-same a (e - a) o
-  part-filled (key t f) = ap (λ (n : ℕ). take a o ++ (pick (leb (length t) n) (sets part 0 t) part ++ drop (e - a) (drop a o))) part-long ∙ filled-by t _ refl
+  part-filled (key t f) =
+      ap (λ (n : ℕ). take a o ++ (pick (leb (length t) n) (sets part 0 t) part ++ drop (e - a) (drop a o))) part-long ∙ filled-by t _ refl
 
   module _ {x : CallOutcome} {r : Spelled} {m : List ℕ} (p : SpellIs x part r m) where
     pub lent-long : length (take a o ++ (m ++ drop (e - a) (drop a o))) ≡ length o
-    lent-long = alike-long (take a o) m part (drop (e - a) (drop a o)) (ap length (p .buffer) ∙ filled-long x part) ∙ ap length (back-same a (e - a) o)
+    lent-long =
+        alike-long (take a o) m part (drop (e - a) (drop a o)) (ap length (p .buffer) ∙ filled-long x part) ∙ ap length (back-same a (e - a) o)
 
     pub behind-is : BehindIs x space o r (take a o ++ (m ++ drop (e - a) (drop a o)))
     behind-is = record {

@@ -42,11 +42,13 @@ block-one (lines.NoRoom n) (lines.NoRoom m) e = ap lines.NoRoom (ap (λ (x : Blo
 block-one (lines.Done read written) (lines.NoRoom n) e = clash (omega (arith, ap (λ (x : BlockNumbers). x .code) e))
 block-one (lines.NoRoom n) (lines.Done read written) e = clash (omega (arith, ap (λ (x : BlockNumbers). x .code) e))
 
-pub lines-one : {call : Text → CallOutcome} {block out : List ℕ} {r s : Lines} {o p : List ℕ} → LinesIs call block out r o → LinesIs call block out s p → (r ≡ s) × (o ≡ p)
+pub lines-one : {call : Text → CallOutcome} {block out : List ℕ} {r s : Lines} {o p : List ℕ} → LinesIs call block out r o
+    → LinesIs call block out s p → (r ≡ s) × (o ≡ p)
 lines-one x y = (block-one _ _ (one (x .result) (y .result)), one (x .buffer) (y .buffer))
 
 -- the first line of a text, and what is taken of it
-pub lines-more : (n : ℕ) (s : List ℕ) → placeOf 10 s < length s → linesFrom (suc n) s ≡ take (placeOf 10 s) s ∷ linesFrom n (drop (suc (placeOf 10 s)) s)
+pub lines-more : (n : ℕ) (s : List ℕ) → placeOf 10 s < length s
+    → linesFrom (suc n) s ≡ take (placeOf 10 s) s ∷ linesFrom n (drop (suc (placeOf 10 s)) s)
 unfolding linesFrom has
 lines-more n s h = pick-true _ _ _ (lt-ltb _ _ h)
 
@@ -56,7 +58,8 @@ lines-none zero s h = refl
 lines-none (suc n) s h = pick-false _ _ _ (le-ltb _ _ h)
 
 module _ (f : Text → Text) (size : ℕ) (name : Text) (names : List Text) where
-  pub take-fits : length (f name) ≤ size → takeLines f size (name ∷ names) ≡ andTaken (suc (length name)) (f name) (takeLines f (size - length (f name)) names)
+  pub take-fits : length (f name) ≤ size
+      → takeLines f size (name ∷ names) ≡ andTaken (suc (length name)) (f name) (takeLines f (size - length (f name)) names)
   unfolding takeLines
   take-fits h = pick-true _ _ _ (le-leb _ _ h)
 
@@ -66,7 +69,9 @@ module _ (f : Text → Text) (size : ℕ) (name : Text) (names : List Text) wher
 
   take-read : (k : ℕ) → suc (length name) + takeLines f (size - length (f name)) names .read ≤ k → takeLines f size (name ∷ names) .read ≤ k
   unfolding takeLines andTaken
-  take-read k h = pick-all (λ (r : Taken). r .read ≤ k) (leb (length (f name)) size) (andTaken (suc (length name)) (f name) (takeLines f (size - length (f name)) names)) noneTaken h zero-le
+  take-read k h =
+      pick-all (λ (r : Taken). r .read ≤ k) (leb (length (f name)) size)
+      (andTaken (suc (length name)) (f name) (takeLines f (size - length (f name)) names)) noneTaken h zero-le
 
 taken-read : (f : Text → Text) (size n : ℕ) (s : List ℕ) → takeLines f size (linesFrom n s) .read ≤ length s
 unfolding linesFrom takeLines
@@ -87,7 +92,8 @@ unfolding takeLines andTaken
 taken-long f size [] = zero-le
 taken-long f size (name ∷ names) = elim (decLe (length (f name)) size) [
   | yes h ↦
-      rw (take-fits f size name names h) (omega (arith, taken-long f (size - length (f name)) names, length-append (f name) (takeLines f (size - length (f name)) names .text)))
+      rw (take-fits f size name names h)
+      (omega (arith, taken-long f (size - length (f name)) names, length-append (f name) (takeLines f (size - length (f name)) names .text)))
   | no h ↦ rw (take-stop f size name names (omega arith)) zero-le
 ]
 
@@ -97,12 +103,14 @@ unfolding pick
 took-first true x n e = refl
 took-first false x n e = clash (omega (arith, e))
 
-took-by : (call : Text → CallOutcome) (size : ℕ) (names : List Text) (t : Taken) → numbersBy call size names t .code ≡ 0 → numbersBy call size names t ≡ took t
+took-by : (call : Text → CallOutcome) (size : ℕ) (names : List Text) (t : Taken) → numbersBy call size names t .code ≡ 0
+    → numbersBy call size names t ≡ took t
 unfolding numbersBy
 took-by call size [] t e = refl
 took-by call size (name ∷ names) t e = took-first _ _ _ e
 
-pub blocked-took : (call : Text → CallOutcome) (block : List ℕ) (size : ℕ) → blockBy call block size .code ≡ 0 → blockBy call block size ≡ took (taken call block size)
+pub blocked-took : (call : Text → CallOutcome) (block : List ℕ) (size : ℕ) → blockBy call block size .code ≡ 0
+    → blockBy call block size ≡ took (taken call block size)
 unfolding blockBy
 blocked-took call block size e = took-by call size (wholeLines block) (taken call block size) e
 
@@ -113,11 +121,13 @@ module _ {call : Text → CallOutcome} {block out o : List ℕ} {read written : 
 
   pub lines-read : read ≤ length block
   unfolding taken wholeLines blockNumbers
-  lines-read = omega (arith, ap (λ (n : BlockNumbers). n .first) taken-is, taken-read (lineFor call (length out)) (min (length out) most) (length block) block)
+  lines-read =
+      omega (arith, ap (λ (n : BlockNumbers). n .first) taken-is, taken-read (lineFor call (length out)) (min (length out) most) (length block) block)
 
   pub lines-written : written ≤ length out
   unfolding taken blockNumbers
-  lines-written = omega (arith, ap (λ (n : BlockNumbers). n .second) taken-is, taken-long (lineFor call (length out)) (min (length out) most) (wholeLines block))
+  lines-written =
+      omega (arith, ap (λ (n : BlockNumbers). n .second) taken-is, taken-long (lineFor call (length out)) (min (length out) most) (wholeLines block))
 
 -- ---- the lines of a block
 
@@ -146,7 +156,8 @@ pub record Going (call : Text → CallOutcome) (block o₀ o : List ℕ) (size r
   pub text : Text
   pub long : length text ≡ written
   pub stands : o ≡ sets o₀ 0 text
-  pub is : taken call block (length o₀) ≡ andTaken read text (takeLines (lineFor call (length o₀)) (size - written) (linesFrom fuel (drop read block)))
+  pub is : taken call block (length o₀) ≡ andTaken read text
+      (takeLines (lineFor call (length o₀)) (size - written) (linesFrom fuel (drop read block)))
   pub first : written ≡ 0 → linesFrom fuel (drop read block) ≡ wholeLines block
   pub later : (written ≡ 0 → ⊥) → blockBy call block (length o₀) ≡ took (taken call block (length o₀))
 
@@ -190,7 +201,8 @@ module _ {call : Text → CallOutcome} {block o₀ o : List ℕ} {size read writ
   module _ (e : takeLines (lineFor call (length o₀)) (size - written) (linesFrom (w .fuel) (drop read block)) ≡ noneTaken) where
     taken-here : taken call block (length o₀) ≡ record { read = read; text = w .text }
     unfolding andTaken
-    taken-here = w .is ∙ ap (andTaken read (w .text)) e ∙ ap₂ (λ (k : ℕ) (v : Text). record { read = k; text = v }) (omega arith) (append-nil (w .text))
+    taken-here =
+        w .is ∙ ap (andTaken read (w .text)) e ∙ ap₂ (λ (k : ℕ) (v : Text). record { read = k; text = v }) (omega arith) (append-nil (w .text))
 
     stands-here : o ≡ sets o₀ 0 (taken call block (length o₀) .text)
     stands-here = w .stands ∙ ap (λ (x : Taken). sets o₀ 0 (x .text)) (sym taken-here)
@@ -249,7 +261,8 @@ module _ {call : Text → CallOutcome} {block o₀ o : List ℕ} {size read writ
         ∙ ap (λ (k : ℕ). take k (drop read block) ∷ linesFrom (w .fuel - 1) (drop (suc k) (drop read block))) (sym place)
         ∙ ap (λ (s : List ℕ). name ∷ linesFrom (w .fuel - 1) s) (drop-drop (suc n) read block ∙ ap (λ (k : ℕ). drop k block) behind)
 
-    none-fits : size - written < length line → takeLines (lineFor call (length o₀)) (size - written) (linesFrom (w .fuel) (drop read block)) ≡ noneTaken
+    none-fits : size - written < length line
+        → takeLines (lineFor call (length o₀)) (size - written) (linesFrom (w .fuel) (drop read block)) ≡ noneTaken
     none-fits k = ap (takeLines (lineFor call (length o₀)) (size - written)) names-are ∙ take-stop _ _ _ _ k
 
     -- whether the buffer holds the first line
@@ -258,7 +271,8 @@ module _ {call : Text → CallOutcome} {block o₀ o : List ℕ} {size read writ
     unfolding blockBy numbersBy holdsLine
     first-by b z k =
         ap (λ (ns : List Text). numbersBy call (length o₀) ns (taken call block (length o₀))) (sym (w .first z) ∙ names-are)
-        ∙ ap (λ (t : Bool). pick t (took (taken call block (length o₀))) (noRoom (needed (call name)))) (ap (leb (length line)) (sym (w .size-is)) ∙ k)
+        ∙ ap (λ (t : Bool). pick t (took (taken call block (length o₀))) (noRoom (needed (call name))))
+        (ap (leb (length line)) (sym (w .size-is)) ∙ k)
 
     going-narrow : written ≡ 0 → size - written < length line → LinesIs call block o₀ (lines.NoRoom (needed (call name))) o
     unfolding blockNumbers
@@ -299,7 +313,8 @@ module _ {call : Text → CallOutcome} {block o₀ o : List ℕ} {size read writ
       going-on =
           let put = line-at .fits going-fits in
           let left : size - written - length line ≡ size - at = omega (arith, going-at) in
-          let read-is : read + suc (length name) ≡ read + n + 1 = omega (arith, going-most n h, length-take n (drop read block), length-drop read block) in
+          let read-is : read + suc (length name) ≡ read + n + 1 =
+          omega (arith, going-most n h, length-take n (drop read block), length-drop read block) in
           record {
             fuel = w .fuel - 1;
             enough = omega (arith, w .enough);
@@ -308,12 +323,14 @@ module _ {call : Text → CallOutcome} {block o₀ o : List ℕ} {size read writ
             size-is = w .size-is;
             text = w .text ++ line;
             long = omega (arith, length-append (w .text) line, w .long, going-at);
-            stands = put .1 ∙ ap₂ (λ (l : List ℕ) (k : ℕ). sets l k line) (w .stands) (sym (w .long) ∙ sym (zero-add _)) ∙ sets-then o₀ 0 (w .text) line;
+            stands =
+                put .1 ∙ ap₂ (λ (l : List ℕ) (k : ℕ). sets l k line) (w .stands) (sym (w .long) ∙ sym (zero-add _)) ∙ sets-then o₀ 0 (w .text) line;
             is =
                 w .is ∙ ap (λ (ns : List Text). andTaken read (w .text) (takeLines (lineFor call (length o₀)) (size - written) ns)) names-are
                 ∙ ap (andTaken read (w .text)) (take-fits _ _ _ _ going-fits)
                 ∙ and-twice read (suc (length name)) (w .text) line _
-                ∙ ap₂ (λ (k m : ℕ). andTaken k (w .text ++ line) (takeLines (lineFor call (length o₀)) m (linesFrom (w .fuel - 1) (drop (read + n + 1) block)))) read-is left;
+                ∙ ap₂ (λ (k m : ℕ). andTaken k (w .text ++ line) (takeLines (lineFor call (length o₀)) m
+                (linesFrom (w .fuel - 1) (drop (read + n + 1) block)))) read-is left;
             first = λ y. absurd (omega (arith, going-at, some-line));
             later = λ _. elim (ℕ-discrete written 0) [
               | yes y ↦ first-by true y (le-leb (length line) size (omega (arith, going-fits))) ∙ pick-true _ _ _ refl

@@ -34,7 +34,8 @@ use Rattle.base.proofs.Stores.{rest-is}
 -- ---- a name with a prefix: it stands within the name, and both parts are shorter
 
 module _ (kind : NameType) (name : Text) (x : Prefix) (e : x ≡ partedAs kind name) where
-  pub join-parted : (keep skip n : ℕ) (o o′ : List ℕ) → (length name ≤ 96) × (length o ≡ 96) → x ≡ prefix.Parted keep skip → Put o o′ 0 n (joinedName keep skip name)
+  pub join-parted : (keep skip n : ℕ) (o o′ : List ℕ) → (length name ≤ 96) × (length o ≡ 96) → x ≡ prefix.Parted keep skip
+      → Put o o′ 0 n (joinedName keep skip name)
       → JoinedIs kind name o′ (joined.Parted skip n)
   unfolding JoinedIs
   join-parted keep skip n o o′ h q p =
@@ -88,10 +89,15 @@ module _ (kind : NameType) (name : Text) (u : List ℕ) (x : Joined) (w : Joined
 module _ (s : List ℕ) (call : Call) (name : Text) (u : List ℕ) (x : Joined) (w : JoinedIs (call .kind) name u x) where
   pub parted-told : (skip n : ℕ) → x ≡ joined.Parted skip n → (o o₁ o₂ o₃ : List ℕ) (at p : ℕ) (a b r : Ends)
       → SpeltInto (bracketed (speltAfresh s call (take (length name - skip) (drop skip name)))) o o₁ at a → Put o₁ o₂ (a .at) p (45 ∷ [])
-      → SpeltInto (bracketed (speltAfresh s call (take (n - 0) (drop 0 u)))) o₂ o₃ p b → r ≡ bothOf b a (b .at) → SpeltInto (speltName s call name) o o₃ at r
+      → SpeltInto (bracketed (speltAfresh s call (take (n - 0) (drop 0 u)))) o₂ o₃ p b → r ≡ bothOf b a (b .at)
+      → SpeltInto (speltName s call name) o o₃ at r
   unfolding speltName speltAfresh stepsAt stepsBy
   parted-told skip n q o o₁ o₂ o₃ at p a b r ta middle tb h =
-      rw (name-parted (stepsAt s call) (startAt s call name) name _ skip (at-parted _ name u x w skip n q .parted), ← rest-is name skip, ← joined-is _ name u x w skip n q) (both-told _ _ ta middle tb h)
+      rw (
+        name-parted (stepsAt s call) (startAt s call name) name _ skip (at-parted _ name u x w skip n q .parted),
+        ← rest-is name skip,
+        ← joined-is _ name u x w skip n q,
+      ) (both-told _ _ ta middle tb h)
 
   module _ (q : x ≡ joined.Whole) (t : Bool) (et : t ≡ pick (call .concat) true (oneWord name)) (o o′ : List ℕ) (at : ℕ) (r : Ends) where
     is-whole : partedAs (call .kind) name ≡ prefix.Whole
@@ -115,21 +121,30 @@ module _ (s : List ℕ) (call again : Call) (e : again ≡ withStart call true (
   pub again-asks : (table : List (List ℕ)) (name : Text) (at p : ℕ) → Asks s table call name at → p ≤ cap → Asks s table again name p
   again-asks table name at p w h = record { ready = ready-afresh s call e (w .ready); short = w .short; place = h }
 
-  pub between-told : (t : Text) (o o₁ o₂ o₃ : List ℕ) (at p end : ℕ) (a : Ends) → Put o o₁ at p (40 ∷ []) → SpeltInto (speltName s again t) o₁ o₂ p a → Put o₂ o₃ (a .at) end (41 ∷ [])
+  pub between-told : (t : Text) (o o₁ o₂ o₃ : List ℕ) (at p end : ℕ) (a : Ends) → Put o o₁ at p (40 ∷ [])
+      → SpeltInto (speltName s again t) o₁ o₂ p a → Put o₂ o₃ (a .at) end (41 ∷ [])
       → SpeltInto (bracketed (speltAfresh s call t)) o o₃ at (record { at = end; flag = a .flag; fine = a .fine; why = a .why })
   between-told t o o₁ o₂ o₃ at p end a left told right = bracketed-told _ left (afresh-told s call e _ told) right
 
 -- ---- words
 
-module _ (f : Text → Spelt) (name : Text) (o₀ o : List ℕ) (at p : ℕ) (all : Ends) (k : WordsHeld f name o₀ o at p all) (w : Text) (ew : w ≡ wordAt name p) (some : length w ≡ 0 → ⊥) (several : oneWord name ≡ false) where
+module _ (f : Text → Spelt) (name : Text) (o₀ o : List ℕ) (at p : ℕ) (all : Ends) (k : WordsHeld f name o₀ o at p all) (w : Text)
+    (ew : w ≡ wordAt name p) (some : length w ≡ 0 → ⊥) (several : oneWord name ≡ false) where
   pub word-falls : (t : ℕ) → length name * 2 ≡ t → length w * 2 + 1 < t
   word-falls t h = omega (arith, h, held-shorter k ew some several)
 
-  pub word-asks : (s : List ℕ) (table : List (List ℕ)) (call again : Call) → again ≡ withStart call true (call .set) → (at₀ : ℕ) → Asks s table call name at₀
+  pub word-asks : (s : List ℕ) (table : List (List ℕ)) (call again : Call) → again ≡ withStart call true (call .set) → (at₀ : ℕ)
+      → Asks s table call name at₀
       → (o₁ : List ℕ) (q : ℕ) → HyphenAt o o₁ (all .at) p q → Asks s table again w q
-  word-asks s table call again e at₀ a o₁ q h = record { ready = ready-afresh s call e (a .ready); short = omega (arith, a .short, held-shorter k ew some several); place = held-place k ew some h }
+  word-asks s table call again e at₀ a o₁ q h =
+      record {
+        ready = ready-afresh s call e (a .ready);
+        short = omega (arith, a .short, held-shorter k ew some several);
+        place = held-place k ew some h;
+      }
 
-module _ (s : List ℕ) (call : Call) (name : Text) (o₀ o : List ℕ) (at p : ℕ) (all : Ends) (k : WordsHeld (speltAfresh s call) name o₀ o at p all) (w : Text) (ew : w ≡ wordAt name p) where
+module _ (s : List ℕ) (call : Call) (name : Text) (o₀ o : List ℕ) (at p : ℕ) (all : Ends) (k : WordsHeld (speltAfresh s call) name o₀ o at p all)
+    (w : Text) (ew : w ≡ wordAt name p) where
   pub words-told : length w ≡ 0 → SpeltInto (speltWords s call name) o₀ o at all
   unfolding speltWords
   words-told h = held-end k ew h
@@ -144,6 +159,19 @@ module _ (o o₁ o₂ : List ℕ) (e : length o₁ ≡ length o) (e′ : length 
 
 pub ruleset bracketed-laws = (again-asks, put-place, between-told, long-three)
 
-pub ruleset name-laws = (skip-within, rest-falls, rest-asks, joined-in, joined-falls, joined-asks, put-place, parted-told, whole-part, whole-words, several, long-three)
+pub ruleset name-laws = (
+  skip-within,
+  rest-falls,
+  rest-asks,
+  joined-in,
+  joined-falls,
+  joined-asks,
+  put-place,
+  parted-told,
+  whole-part,
+  whole-words,
+  several,
+  long-three,
+)
 
 pub ruleset words-laws = (held-start, word-falls, word-asks, held-less, held-turn, words-told, afresh-told, long-two)

@@ -32,17 +32,22 @@ use Rattle.engine.proofs.BelowLaws.{Below}
 -- ---- the line of a name
 
 -- what a line is by what the call came to
-pub line-answer : (size : ℕ) (t : Text) (f : Bool) → length t + 5 ≤ min size most → lineWith size (key t f) ≡ answerLine (spelledNumbers (Done (length t) f)) t
+pub line-answer : (size : ℕ) (t : Text) (f : Bool) → length t + 5 ≤ min size most
+    → lineWith size (key t f) ≡ answerLine (spelledNumbers (Done (length t) f)) t
 unfolding lineWith wholeLine holdsLine
-line-answer size t f h = pick-true _ _ _ (le-leb (length (answerLine (spelledNumbers (Done (length t) f)) t)) (min size most) (omega (arith, answer-long (length t) f t)))
+line-answer size t f h =
+    pick-true _ _ _ (le-leb (length (answerLine (spelledNumbers (Done (length t) f)) t)) (min size most) (omega (arith, answer-long (length t) f t)))
 
 pub needed-answer : (t : Text) (f : Bool) → needed (key t f) ≡ lineLength (length t)
 unfolding needed wholeLine
 needed-answer t f = omega (arith, answer-long (length t) f t)
 
-pub line-long : (size : ℕ) (t : Text) (f : Bool) → min size most < length t + 5 → lineWith size (key t f) ≡ refusalLine (refusedAs 9 (lineLength (length t)))
+pub line-long : (size : ℕ) (t : Text) (f : Bool) → min size most < length t + 5
+    → lineWith size (key t f) ≡ refusalLine (refusedAs 9 (lineLength (length t)))
 unfolding lineWith wholeLine holdsLine spelledNumbers numberOf
-line-long size t f h = pick-false _ _ _ (lt-leb (length (answerLine (spelledNumbers (Done (length t) f)) t)) (min size most) (omega (arith, answer-long (length t) f t))) ∙ ap (λ (n : ℕ). refusalLine (refusedAs 9 n)) (needed-answer t f)
+line-long size t f h =
+    pick-false _ _ _ (lt-leb (length (answerLine (spelledNumbers (Done (length t) f)) t)) (min size most) (omega (arith, answer-long (length t) f t)))
+    ∙ ap (λ (n : ℕ). refusalLine (refusedAs 9 n)) (needed-answer t f)
 
 pub line-other : (size : ℕ) (why : Refusal) (place : ℕ) → lineWith size (refusedBy why place) ≡ refusalLine (refusedAs (numberOf why) place)
 unfolding lineWith wholeLine spelledNumbers
@@ -76,7 +81,8 @@ record Other (x : CallOutcome) (o o₁ : List ℕ) (why : Refusal) (place : ℕ)
 
 module _ (space : Space) (o o₁ : List ℕ) where
   answered-by : (t : Text) (f : Bool) (written : ℕ) (flag b : Bool) → leb (length t) (answerRoom space) ≡ b
-      → Done written flag ≡ pick b (Done (length t) f) (Refused NoRoom (min (length t) most)) → o₁ ≡ pick b (sets o (space .at + 4) t) o → Answered (key t f) space o o₁ written flag
+      → Done written flag ≡ pick b (Done (length t) f) (Refused NoRoom (min (length t) most)) → o₁ ≡ pick b (sets o (space .at + 4) t) o
+      → Answered (key t f) space o o₁ written flag
   unfolding pick
   answered-by t f written flag true e p q =
       let long : length t ≡ written = cc in
@@ -84,7 +90,8 @@ module _ (space : Space) (o o₁ : List ℕ) where
   answered-by t f written flag false e p q = clash (cc)
 
   long-by : (t : Text) (f : Bool) (why : Refusal) (place : ℕ) (b : Bool) → leb (length t) (answerRoom space) ≡ b
-      → Refused why place ≡ pick b (Done (length t) f) (Refused NoRoom (min (length t) most)) → o₁ ≡ pick b (sets o (space .at + 4) t) o → Long (key t f) space o o₁ (numberOf why) place
+      → Refused why place ≡ pick b (Done (length t) f) (Refused NoRoom (min (length t) most)) → o₁ ≡ pick b (sets o (space .at + 4) t) o
+      → Long (key t f) space o o₁ (numberOf why) place
   unfolding pick numberOf
   long-by t f why place true e p q = clash (cc)
   long-by t f why place false e p q =
@@ -97,7 +104,8 @@ module _ (space : Space) (o o₁ : List ℕ) where
     answered-of (refusedBy k place) written flag p e = let no : Done written flag ≡ Refused k place = sym e ∙ p .result in clash (cc)
     answered-of (key t f) written flag p e = answered-by t f written flag _ refl (sym e ∙ p .result) (p .buffer)
 
-    refused-of : (x : CallOutcome) (why : Refusal) (place : ℕ) → Below x → BehindIs x space o r o₁ → r ≡ Refused why place → Long x space o o₁ (numberOf why) place ⊎ Other x o o₁ why place
+    refused-of : (x : CallOutcome) (why : Refusal) (place : ℕ) → Below x → BehindIs x space o r o₁ → r ≡ Refused why place
+        → Long x space o o₁ (numberOf why) place ⊎ Other x o o₁ why place
     unfolding Below spelledIn behindFilled
     refused-of (refusedBy k at) why place l p e =
         let same : Refused k at ≡ Refused why place = sym (p .result) ∙ e in
@@ -110,16 +118,20 @@ module _ {o : List ℕ} {space : Space} (w : SpaceOf o space) where
   space-in o₁ e = record { within = w .within; inside = omega (arith, e, w .size-is) }
 
   -- an answer whose line has room in the whole buffer
-  line-room : {x : CallOutcome} (t : Text) (f : Bool) → x ≡ key t f → length t + 5 ≤ space .size → lineWith (length o) x ≡ answerLine (spelledNumbers (Done (length t) f)) t
+  line-room : {x : CallOutcome} (t : Text) (f : Bool) → x ≡ key t f → length t + 5 ≤ space .size
+      → lineWith (length o) x ≡ answerLine (spelledNumbers (Done (length t) f)) t
   line-room t f p h = ap (lineWith (length o)) p ∙ line-answer (length o) t f (omega (arith, w .size-is))
 
-  line-nine : {x : CallOutcome} (t : Text) (f : Bool) (place : ℕ) → x ≡ key t f → min (length o) most < length t + 5 → lineLength place ≡ lineLength (length t) → lineWith (length o) x ≡ refusedLine 9 place
+  line-nine : {x : CallOutcome} (t : Text) (f : Bool) (place : ℕ) → x ≡ key t f → min (length o) most < length t + 5
+      → lineLength place ≡ lineLength (length t) → lineWith (length o) x ≡ refusedLine 9 place
   unfolding refusedLine
-  line-nine t f place p over q = ap (lineWith (length o)) p ∙ line-long (length o) t f over ∙ ap (λ (n : ℕ). refusalLine (refusedAs 9 n)) (sym (told-nine place ∙ q))
+  line-nine t f place p over q =
+      ap (lineWith (length o)) p ∙ line-long (length o) t f over ∙ ap (λ (n : ℕ). refusalLine (refusedAs 9 n)) (sym (told-nine place ∙ q))
 
   module _ {x : CallOutcome} {o₁ o₂ : List ℕ} {r : Fit} where
     -- an answer that has no room here: its line waits, or is that of 9
-    line-long-by : {place : ℕ} (t : Text) (f b : Bool) → waitsFor 9 place (space .size) ≡ b → x ≡ key t f → place ≡ min (length t) most → space .size - space .at < length t + 5 → o₁ ≡ o
+    line-long-by : {place : ℕ} (t : Text) (f b : Bool) → waitsFor 9 place (space .size) ≡ b → x ≡ key t f → place ≡ min (length t) most
+        → space .size - space .at < length t + 5 → o₁ ≡ o
         → RefusedIs 9 place o₁ o₂ space r → LineFor x o o₂ space r
     unfolding waitsFor and
     line-long-by {place} t f true h p q over same d =
@@ -153,10 +165,12 @@ module _ {o : List ℕ} {space : Space} (w : SpaceOf o space) where
           })
       | no here ↦
           let empty : length (p .text) ≡ 0 = omega (arith, p .long, p .room-is) in
-          line-long-by (p .text) flag _ refl (p .is) (omega (arith, p .long)) (omega (arith, p .long)) (p .stands ∙ sets-none (p .text) o _ empty) (d .stops (omega arith))
+          line-long-by (p .text) flag _ refl (p .is) (omega (arith, p .long)) (omega (arith, p .long)) (p .stands ∙ sets-none (p .text) o _ empty)
+          (d .stops (omega arith))
     ]
 
-    line-refused : (why : Refusal) {place : ℕ} → Long x space o o₁ (numberOf why) place ⊎ Other x o o₁ why place → RefusedIs (numberOf why) place o₁ o₂ space r → LineFor x o o₂ space r
+    line-refused : (why : Refusal) {place : ℕ} → Long x space o o₁ (numberOf why) place ⊎ Other x o o₁ why place
+        → RefusedIs (numberOf why) place o₁ o₂ space r → LineFor x o o₂ space r
     unfolding waitsFor
     line-refused why {place} (inl p) d =
         line-long-by (p .text) (p .flag) _ refl (p .is) (p .place-is) (omega (arith, p .over)) (p .same) (rw (p .code-is) at d)
@@ -164,12 +178,14 @@ module _ {o : List ℕ} {space : Space} (w : SpaceOf o space) where
         let other : numberOf why ≡ 9 → ⊥ = λ z. omega (arith, p .low) in
         let line-is : lineWith (length o) x ≡ refusedLine (numberOf why) place =
         ap (lineWith (length o)) (p .is) ∙ line-other (length o) why place ∙ sym (line-told (numberOf why) place other) in
-        let told : lengthNeeded (numberOf why) place ≡ needed x = needed-other (numberOf why) place other ∙ sym (ap needed (p .is) ∙ needed-refusal why place) in
+        let told : lengthNeeded (numberOf why) place ≡ needed x =
+        needed-other (numberOf why) place other ∙ sym (ap needed (p .is) ∙ needed-refusal why place) in
         rw (line-is, ← told, ← p .same) (d .line (and-first _ _ (ne-eqb (numberOf why) 9 other)))
 
     module _ {s : Spelled} (p : BehindIs x space o s o₁) where
       pub put-done : {written : ℕ} {flag : Bool} → s ≡ Done written flag → DoneIs written flag o₁ o₂ space r → LineFor x o o₂ space r
       put-done q d = line-done (answered-of space o o₁ s x _ _ p q) d
 
-      pub put-refused : {why : Refusal} {code place : ℕ} → Below x → s ≡ Refused why place → code ≡ numberOf why → RefusedIs code place o₁ o₂ space r → LineFor x o o₂ space r
+      pub put-refused : {why : Refusal} {code place : ℕ} → Below x → s ≡ Refused why place → code ≡ numberOf why
+          → RefusedIs code place o₁ o₂ space r → LineFor x o o₂ space r
       put-refused {why} low q n d = line-refused why (refused-of space o o₁ s x why _ low p q) (rw n at d)

@@ -55,7 +55,8 @@ abbrev spell-words-below : ℕ → In 6 spell-words-kinds.ps
 spell-words-below t = and 6 spell-words-kinds.ps (falls 6 spell-words-kinds.ps _<_ μ-spell-words t) spell-words.Pre
 
 abbrev spell-words-Inv-loop : spell-words-lts.InvT-loop
-spell-words-Inv-loop store₀ slots₀ pack table call name out₀ at all₀ p₀ store slots out all p = WordsHeld (speltAfresh pack call) name out₀ out at p all
+spell-words-Inv-loop store₀ slots₀ pack table call name out₀ at all₀ p₀ store slots out all p =
+    WordsHeld (speltAfresh pack call) name out₀ out at p all
 
 abbrev spell-words-μ-loop : spell-words-lts.MeasureT-loop
 spell-words-μ-loop store₀ slots₀ pack table call name out₀ at all₀ p₀ store slots out all p = length name - p
@@ -63,11 +64,32 @@ spell-words-μ-loop store₀ slots₀ pack table call name out₀ at all₀ p₀
 pub +spell-bracketed+spell-name+spell-words-spec : {M : Type 1} → statement M
 +spell-bracketed+spell-name+spell-words-spec =
     close μ-spell-bracketed μ-spell-name μ-spell-words
-    (λ t. spell-bracketed-lts.spec (push-reads.Asked, push-reads.Learnt, afresh-reads.Asked, afresh-reads.Learnt, spell-name-below t, spell-name.Post) (spell-bracketed-at t) spell-bracketed.Post
+    (λ t. spell-bracketed-lts.spec (
+      push-reads.Asked,
+      push-reads.Learnt,
+      afresh-reads.Asked,
+      afresh-reads.Learnt,
+      spell-name-below t,
+      spell-name.Post,
+    ) (spell-bracketed-at t) spell-bracketed.Post
     (λ c κs. search needs) (λ c κs. search needs) (λ c κs. (search (bracketed-laws, needs), search (bracketed-laws, needs)))
     (λ c κs. search needs) (λ c. search (bracketed-laws, needs)) (λ c. search (bracketed-laws, needs)))
-    (λ t. spell-name-lts.spec
-    (join-parts-reads.Asked, join-parts-reads.Learnt, spell-bracketed-below t, spell-bracketed.Post, push-reads.Asked, push-reads.Learnt, both-reads.Asked, both-reads.Learnt, is-one-part-reads.Asked, is-one-part-reads.Learnt, spell-part-reads.Asked, spell-part-reads.Learnt, spell-words-below t, spell-words.Post)
+    (λ t. spell-name-lts.spec (
+      join-parts-reads.Asked,
+      join-parts-reads.Learnt,
+      spell-bracketed-below t,
+      spell-bracketed.Post,
+      push-reads.Asked,
+      push-reads.Learnt,
+      both-reads.Asked,
+      both-reads.Learnt,
+      is-one-part-reads.Asked,
+      is-one-part-reads.Learnt,
+      spell-part-reads.Asked,
+      spell-part-reads.Learnt,
+      spell-words-below t,
+      spell-words.Post,
+    )
     (spell-name-at t) spell-name.Post
     (λ c. search needs) (λ c κs. (search needs, search needs)) (λ c. search needs) (λ c. search (name-laws, needs))
     (λ c. search (name-laws, needs)) (λ c. search needs) (λ c κs. (search (name-laws, needs), search (name-laws, needs)))
@@ -83,7 +105,20 @@ pub +spell-bracketed+spell-name+spell-words-spec : {M : Type 1} → statement M
     (f .before .before .before .spell-bracketed .ensures) (e .before .before .before .push .ensures)
     (c .before .before .before .spell-bracketed2 .ensures) (c .both .ensures))
     (λ c. search needs) (λ c. search (name-laws, needs)) (λ c. search needs) (λ c. search (name-laws, needs)))
-    λ t. spell-words-lts.spec (next-word-reads.Asked, next-word-reads.Learnt, hyphen-reads.Asked, hyphen-reads.Learnt, afresh-reads.Asked, afresh-reads.Learnt, spell-name-below t, spell-name.Post, both-reads.Asked, both-reads.Learnt, past-word-reads.Asked, past-word-reads.Learnt)
+    λ t. spell-words-lts.spec (
+      next-word-reads.Asked,
+      next-word-reads.Learnt,
+      hyphen-reads.Asked,
+      hyphen-reads.Learnt,
+      afresh-reads.Asked,
+      afresh-reads.Learnt,
+      spell-name-below t,
+      spell-name.Post,
+      both-reads.Asked,
+      both-reads.Learnt,
+      past-word-reads.Asked,
+      past-word-reads.Learnt,
+    )
     (spell-words-at t) spell-words.Post spell-words-Inv-loop spell-words-μ-loop
     (λ c. search (words-laws, needs)) (λ c κs. search needs) (λ c. search needs) (λ c. search (words-laws, needs)) (λ c κs. search needs)
     (λ c κs. search needs) (λ c κs. (search (words-laws, needs), search (words-laws, needs))) (λ c κs. search needs) (λ c κs. search needs)
