@@ -2,7 +2,7 @@
 use mathlib.Core.Path.{_≡_, refl, sym, ap, ap₂, _∙_}
 use mathlib.Core.Bool.{Bool, true, false, false≢true}
 use mathlib.Core.List.{List, [], _∷_, map}
-use Prim.Native.Nat.{ℕ, zero, suc, _-_, _+_, _≤_, _<_, min}
+use Prim.Native.Nat.{ℕ, zero, suc, _-_, _+_, _≤_, _<_, min, zero-le}
 use native.Mathlib.Nat.{zero-add, sub-zero}
 use native.Mathlib.Omega.{arith}
 use lib.Dec.{eqb, leb}
@@ -196,6 +196,8 @@ module _ {x : Spelt} {u u′ o o₁ : List ℕ} {a : Ends} {t : Bool} (m : Spelt
   again-told n q =
       let w : (a .fine ≡ true) × (a .at ≤ length o) × (o₁ ≡ o) = rw n at k in
       again-by x m (w .0) (w .1) (rw (w .2) at q)
+
+pub ruleset lowered-laws = (single-told, kept-told, again-told, zero-le)
 
 -- what is told as a whole is a call's answer
 answer-told : (x : Spelt) {a : Ends} {ans : Spelled} {o o′ : List ℕ} → SpeltWhole x o o′ 0 a → ans ≡ answeredBy a (length o′)

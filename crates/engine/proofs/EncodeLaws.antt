@@ -291,3 +291,5 @@ module _ {o o′ t : List ℕ} {n : ℕ} (x : Put o o′ 0 n t) (h : length t �
 -- the words of a name that is short enough for it
 pub joined-few : (kind : NameType) (name : Text) → length name ≤ 96 → length (joinedWords kind name) ≤ 96
 joined-few kind name h = omega (arith, joined-short kind name)
+
+pub ruleset part-laws = (ready-started, part-joined, part-only, front-in, front-is, joined-few)

@@ -97,3 +97,5 @@ module _ {o : List ℕ} {space : Space} (w : SpaceOf o space) {a e : ℕ} (f : a
       result = told-is p ∙ ap (spelledIn x) part-long;
       buffer = ap (λ (l : List ℕ). take a o ++ (l ++ drop (e - a) (drop a o))) (p .buffer) ∙ part-filled x;
     }
+
+pub ruleset lent-laws = (lent-order, lent-within, lent-long, behind-is)
