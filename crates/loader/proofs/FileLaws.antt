@@ -2,16 +2,21 @@
 use mathlib.Core.Path.{_≡_, refl, sym, ap, _∙_}
 use mathlib.Core.Bool.{Bool, true}
 use mathlib.Core.List.{List, [], _∷_}
-use Prim.Native.Nat.{ℕ, zero, suc, _+_, _-_, _≤_, _<_}
+use Prim.Native.Nat.{ℕ, zero, suc, _+_, _-_, _*_, _≤_, _<_}
 use native.Mathlib.Decide.{decLe}
 use native.Mathlib.Omega.{arith}
+use borrow.Author.Needs.{needs}
 use lib.ListN.{length}
+use mir.Syntax.{w64}
+use mir.Val.{Fits}
 use Rattle.refusals.specs.declared.Refusal.{Refusal}
 use Rattle.refusals.specs.declared.Refusal.the-variants.{LineUnreadable}
 use Rattle.base.proofs.Arms.{clash}
+use Rattle.writing.specs.Contracts.{cap}
 use Rattle.pack.specs.Packs.{all}
+use Rattle.rules_parser.proofs.NumberLaws.{item-one}
 use Rattle.rules_parser.specs.Files.{itemAt, itemsOf}
-use Rattle.rules_parser.proofs.Laws.{passed-goes, passed-in, tells-goes, tells-in, items-start, items-end, items-passed, items-tells, items-wrong}
+use Rattle.rules_parser.proofs.Laws.{passed-goes, passed-in, passed-lines, tells-goes, tells-in, items-start, items-end, items-passed, items-tells, items-wrong}
 use Rattle.rules_parser.specs.declared.lines.FileKind.{FileKind}
 use Rattle.rules_parser.specs.declared.lines.Told.{Told}
 use Rattle.rules_parser.specs.declared.files.Item.{Item}
@@ -30,6 +35,52 @@ pub then-fine : {A B : Type 0} (x : Loading A) (k : A → Loading B) (b : B) →
 unfolding andLoad
 then-fine (fine a) k b e = (a, refl, e)
 then-fine (notLoaded c l f) k b e = clash (cc)
+
+pub then-then : {A B C : Type 0} (x : Loading A) (g : A → B) (k : B → Loading C) → andLoad (andLoad x (λ a. fine (g a))) k ≡ andLoad x (λ a. k (g a))
+unfolding andLoad
+then-then (fine a) g k = refl
+then-then (notLoaded c l f) g k = refl
+
+-- ---- the place p to which a file is read, in its line l
+
+pub record AtLine (s : List ℕ) (p l : ℕ) : Type 0 where
+  pub within : p ≤ length s
+  pub lines : l ≤ p + 1
+  pub small : length s < cap
+
+pub line-start : (s : List ℕ) → length s * 1 < cap → AtLine s 0 1
+line-start s h = record { within = omega arith; lines = omega arith; small = omega arith }
+
+module _ (k : FileKind) (s : List ℕ) (p l : ℕ) (w : AtLine s p l) (x : Item) (e : x ≡ itemAt k s p) where
+  module _ (a n : ℕ) (q : x ≡ Passed a n) where
+    here : itemAt k s p ≡ Passed a n
+    here = sym e ∙ q
+
+    pub passed-line : AtLine s n (l + a)
+    passed-line = record { within = passed-in k s p a n here; lines = omega (arith, w .lines, passed-goes k s p a n here, passed-lines k s p a n here); small = w .small }
+
+    pub passed-less : length s - n < length s - p
+    passed-less = omega (arith, passed-goes k s p a n here, passed-in k s p a n here)
+
+    pub passed-room : Fits w64 (l + a)
+    passed-room = record { fits = omega (arith, passed-line) }
+
+  module _ (t : Told) (n : ℕ) (q : x ≡ Tells t n) where
+    goes : (p < n) × (n ≤ length s)
+    goes = (tells-goes k s p t n (sym e ∙ q), tells-in k s p t n (sym e ∙ q))
+
+    pub told-line : AtLine s n (l + 1)
+    told-line = record { within = goes .1; lines = omega (arith, w .lines, goes .0); small = w .small }
+
+    pub told-less : length s - n < length s - p
+    told-less = omega (arith, goes .0, goes .1)
+
+pub line-room : (s : List ℕ) (p l : ℕ) → AtLine s p l → Fits w64 (l + 1)
+line-room s p l w = record { fits = omega (arith, w .within, w .lines, w .small) }
+
+pub ruleset line-laws = (needs, item-one, line-start, line-room, passed-line, passed-less, passed-room, told-line, told-less)
+
+-- ---- what a file says
 
 module _ {A : Type 0} (meaning : Told → Kept A) (f : ℕ) (k : FileKind) (s : List ℕ) where
   -- what is said from the place p on, which is in line l

@@ -2,7 +2,7 @@
 use mathlib.Core.Path.{_≡_, refl, sym, ap, ap₂, _∙_}
 use mathlib.Core.Bool.{Bool, true, false, not}
 use mathlib.Core.List.{List, [], _∷_, _++_}
-use Prim.Native.Nat.{ℕ, zero, suc, _+_, _-_, _*_, _^_, _≤_, _<_}
+use Prim.Native.Nat.{ℕ, zero, suc, _+_, _*_, _^_, _≤_, _<_}
 use native.Mathlib.Nat.{zero-add}
 use native.Mathlib.Omega.{arith}
 use lib.Bits.{bitOr, bitAnd, or-lt, and-zero-r}
@@ -10,7 +10,6 @@ use lib.Dec.{eqb, leb, ltb}
 use lib.ListN.{length}
 use lib.Pow.{pow-pos}
 use types.Run.{OneOf, miss}
-use borrow.Author.Needs.{needs}
 use denote.Enum.Declared.{tagOf}
 use mir.Syntax.{w64}
 use mir.Val.{Fits, boolByte}
@@ -31,9 +30,8 @@ use Rattle.writing.proofs.Laws.{put-none, put-then, put-long, put-place}
 use Rattle.pack.specs.Packs.{Guess, guess, guessGood, guessesGood}
 use Rattle.pack_bytes.specs.Bytes.{textBytes, maskBytes, guessBytes}
 use Rattle.rules_parser.specs.Fields.{partOf}
-use Rattle.rules_parser.proofs.NumberLaws.{item-one}
 use Rattle.rules_parser.specs.Files.{itemAt}
-use Rattle.rules_parser.proofs.Laws.{passed-goes, passed-in, passed-lines, tells-goes, guess-pattern}
+use Rattle.rules_parser.proofs.Laws.{passed-goes, tells-goes, guess-pattern}
 use Rattle.rules_parser.proofs.lines.Told.{the-type}
 use Rattle.rules_parser.specs.declared.fields.Text.{Text}
 use Rattle.rules_parser.specs.declared.lines.FileKind.the-variants.{Guesses}
@@ -49,7 +47,7 @@ use Rattle.loader.specs.declared.guesses.Judged.{Judged}
 use Rattle.loader.specs.declared.guesses.Judged.the-variants.{Mask, Fault}
 use Rattle.loader.specs.declared.guesses.Guessed.{Guessed}
 use Rattle.loader.specs.declared.guesses.Guessed.the-variants.{Done, Refused}
-use Rattle.loader.proofs.FileLaws.{fine-is, then-fine, toldFrom, told-start, told-end, told-wrong, told-passed, told-fault, told-kept, each-told, each-all}
+use Rattle.loader.proofs.FileLaws.{fine-is, then-fine, toldFrom, told-start, told-end, told-wrong, told-passed, told-fault, told-kept, each-told, each-all, AtLine, line-start, passed-line, told-line, line-laws}
 use Rattle.base.proofs.PickLaws.{pick-true, pick-false, pick-all, and-yes}
 use Rattle.held.specs.Met.{bytesOfAll}
 use Rattle.pack_bytes.specs.Contracts.{textPut, none, more}
@@ -153,9 +151,8 @@ other names s (told.Name a) h = refl
 
 -- n rules were written up to the place `at` of o, and the file is read up to its place p, in line l
 pub record Writing (names s : List ℕ) (f : ℕ) (o₀ : List ℕ) (at₀ : ℕ) (o : List ℕ) (at n p l : ℕ) : Type 0 where
-  pub lines : l ≤ p + 1
+  pub line-at : AtLine s p l
   pub rules : n ≤ p
-  pub small : length s < cap
   pub room : length o < cap
   pub long : length o ≡ length o₀
   pub place : at ≤ cap
@@ -164,9 +161,8 @@ pub record Writing (names s : List ℕ) (f : ℕ) (o₀ : List ℕ) (at₀ : ℕ
 pub writing-start : (names s : List ℕ) (f : ℕ) (o : List ℕ) (at : ℕ) → length s * 1 < cap → length o * 1 < cap → at ≤ cap → Writing names s f o at o at 0 0 1
 unfolding GuessesAre guessesIn
 writing-start names s f o at b h k = record {
-  lines = omega arith;
+  line-at = line-start s b;
   rules = omega arith;
-  small = omega arith;
   room = omega arith;
   long = refl;
   place = k;
@@ -184,47 +180,26 @@ module _ {names s : List ℕ} {f : ℕ} {o₀ : List ℕ} {at₀ : ℕ} {o : Lis
   pub writing-done : length s ≤ p → GuessesAre names s f o₀ at₀ (Done n at) o
   writing-done h = w .is _ o (rw (told-end (guessOf names s) f Guesses s l p h) (from-end n o at (w .room) (w .place)))
 
-  module _ (h : p < length s) where
-    pub writing-count : Fits w64 (n + 1)
-    writing-count = record { fits = omega (arith, w .rules, w .small) }
+  pub writing-count : Fits w64 (n + 1)
+  writing-count = record { fits = omega (arith, w .rules, w .line-at .within, w .line-at .small) }
 
-    pub writing-line : Fits w64 (l + 1)
-    writing-line = record { fits = omega (arith, w .lines, w .small) }
+  module _ (x : Item) (e : x ≡ itemAt Guesses s p) where
+    pub writing-wrong : p < length s → x ≡ Wrong → GuessesAre names s f o₀ at₀ (Refused LineUnreadable l f) o
+    writing-wrong h q = stops LineUnreadable (told-wrong (guessOf names s) f Guesses s l p h (sym e ∙ q))
 
-  module _ (h : p < length s) (x : Item) (e : x ≡ itemAt Guesses s p) where
-    pub writing-wrong : x ≡ Wrong → GuessesAre names s f o₀ at₀ (Refused LineUnreadable l f) o
-    writing-wrong q = stops LineUnreadable (told-wrong (guessOf names s) f Guesses s l p h (sym e ∙ q))
-
-    module _ (k i : ℕ) (q : x ≡ Passed k i) where
-      here-passed : itemAt Guesses s p ≡ Passed k i
-      here-passed = sym e ∙ q
-
-      lines-passed : l + k ≤ i + 1
-      lines-passed = omega (arith, w .lines, passed-goes Guesses s p k i here-passed, passed-lines Guesses s p k i here-passed)
-
-      pub writing-lines : Fits w64 (l + k)
-      writing-lines = record { fits = omega (arith, lines-passed, passed-in Guesses s p k i here-passed, w .small) }
-
-      pub passed-less : length s - i < length s - p
-      passed-less = omega (arith, passed-goes Guesses s p k i here-passed)
-
-      pub writing-passed : Writing names s f o₀ at₀ o at n i (l + k)
-      writing-passed = record {
-        lines = lines-passed;
-        rules = omega (arith, w .rules, passed-goes Guesses s p k i here-passed);
-        small = w .small;
-        room = w .room;
-        long = w .long;
-        place = w .place;
-        is = λ r o′ y. w .is r o′ (rw (told-passed (guessOf names s) f Guesses s l p k i here-passed) y);
-      }
+    pub writing-passed : (k i : ℕ) → x ≡ Passed k i → Writing names s f o₀ at₀ o at n i (l + k)
+    writing-passed k i q = record {
+      line-at = passed-line Guesses s p l (w .line-at) x e k i q;
+      rules = omega (arith, w .rules, passed-goes Guesses s p k i (sym e ∙ q));
+      room = w .room;
+      long = w .long;
+      place = w .place;
+      is = λ r o′ y. w .is r o′ (rw (told-passed (guessOf names s) f Guesses s l p k i (sym e ∙ q)) y);
+    }
 
     module _ (t : Told) (i : ℕ) (q : x ≡ Tells t i) where
       here-tells : itemAt Guesses s p ≡ Tells t i
       here-tells = sym e ∙ q
-
-      pub tells-less : length s - i < length s - p
-      tells-less = omega (arith, tells-goes Guesses s p t i here-tells)
 
       faulty : (c : Refusal) → guessOf names s t ≡ fault c → GuessesAre names s f o₀ at₀ (Refused c l f) o
       faulty c m = stops c (told-fault (guessOf names s) f Guesses s l p t i c here-tells m)
@@ -252,16 +227,15 @@ module _ {names s : List ℕ} {f : ℕ} {o₀ : List ℕ} {at₀ : ℕ} {o : Lis
               let goes = tells-goes Guesses s p t i here-tells in
               let bytes = rw (put-bytes v m pattern (ltb-false _ _ (kept .0))) at y in
               record {
-                lines = omega (arith, w .lines);
+                line-at = told-line Guesses s p l (w .line-at) x e t i q;
                 rules = omega (arith, w .rules);
-                small = w .small;
                 room = omega (arith, w .room, put-long o o₁ at r _ y);
                 long = put-long o o₁ at r _ y ∙ w .long;
                 place = put-place o o₁ at r _ y;
                 is = λ u o′ x. w .is u o′ (rw (told-kept (guessOf names s) f Guesses s l p t i _ here-tells (judged-here _ (kept .1))) (from-next n _ _ o o₁ at r u o′ bytes x));
               }
 
-pub ruleset writing-laws = (needs, item-one, writing-start, writing-long, writing-done, writing-count, writing-line, writing-wrong, writing-lines, passed-less, writing-passed, tells-less, writing-other, writing-fault, writing-kept)
+pub ruleset writing-laws = (line-laws, writing-start, writing-long, writing-done, writing-count, writing-wrong, writing-passed, writing-other, writing-fault, writing-kept)
 
 -- ---- what is kept is good in a pack
 

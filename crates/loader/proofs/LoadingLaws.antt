@@ -8,7 +8,7 @@ use native.Mathlib.Omega.{arith}
 use borrow.Author.Needs.{needs}
 use lib.Dec.{leb}
 use lib.ListN.{length, take, drop, length-take}
-use borrow.Author.Tests.{le-leb, lt-leb}
+use borrow.Author.Tests.{leb-true, le-leb, lt-leb}
 use Rattle.refusals.specs.declared.Refusal.{Refusal}
 use Rattle.refusals.specs.declared.Refusal.the-variants.{SettingUnknown, NoRoom, BundleBroken, FileMissing}
 use Rattle.strings.specs.Reading.{stringsOf, Read, cut, got}
@@ -33,14 +33,14 @@ use Rattle.rule_lists.specs.declared.list_writing.Written.the-variants as wrote
 use Rattle.loader.specs.Languages.{languagesOf}
 use Rattle.loader.specs.Loading.{onType, languagesPart, onListed, namesOf, guessFile, listsIn, packFrom, onBundle, loadOf, written, doneAt, refusedAt, loadedNumbers, answer, filled, AnswerIs}
 use Rattle.loader.specs.Contracts.{NamesTold, typeNumbered, guessesBytes, packedOf}
-use Rattle.loader.proofs.LanguageLaws.{strings-names, languages-good, languages-few}
+use Rattle.loader.proofs.LanguageLaws.{strings-names, languages-good}
 use Rattle.loader.specs.declared.loading.Kind.{Kind}
 use Rattle.loader.specs.declared.loading.Kind.the-variants as kinds
 use Rattle.loader.specs.declared.loading.Loaded.{Loaded}
 use Rattle.loader.specs.declared.loading.Loaded.the-variants as loaded
 use Rattle.loader.specs.declared.language_list.Names.{Names}
 use Rattle.loader.specs.declared.language_list.Names.the-variants as names
-use Rattle.base.proofs.PickLaws.{pick-true, pick-false}
+use Rattle.base.proofs.PickLaws.{pick-true, pick-false, and-inv}
 use Rattle.held.specs.Met.{bytesOfAll}
 use Rattle.bundles.specs.Contracts.{filesOf}
 use Rattle.rule_lists.specs.Contracts.{WrittenIs}
@@ -201,7 +201,8 @@ module _ (kind : NameType) (fs : List File) (xs : List (List ℕ)) (e : namesOf 
   names-good = let w = names-read in languages-good (w .file) (w .text) xs (w .is)
 
   names-few : length xs ≤ 32
-  names-few = let w = names-read in languages-few (w .file) (w .text) xs (w .is)
+  unfolding namesGood
+  names-few = leb-true _ _ (and-inv _ _ names-good .0)
 
 files-length : (pre : List ℕ) (xs : List (List ℕ)) → length (listFiles pre xs) ≡ 3 * length xs + 2
 unfolding listFiles threeOf twoOf
