@@ -26,14 +26,16 @@ use Rattle.rule_lists.specs.Outcomes as outcome
 use Rattle.rule_lists.specs.Lists.{typePrefix, listFiles, listsOf}
 use Rattle.rule_lists.proofs.WalkLaws.{GoodRead}
 use Rattle.rule_lists.proofs.FileLaws.{list-good}
-use Rattle.loader.specs.Guesses.{guessesOf}
-use Rattle.loader.specs.Loading.{onType, onListed, namesOf, guessFile, listsIn, packFrom, onBundle, loadOf, written, LoadNumbers, doneAt, refusedAt, loadedNumbers, answer, filled, AnswerIs, LoadIs}
-use Rattle.loader.specs.declared.loading.Loaded.{Loaded}
-use Rattle.loader.specs.declared.loading.Loaded.the-variants.{Done, Refused}
-use Rattle.loader.proofs.FileLaws.{fine-is, then-fine}
-use Rattle.loader.proofs.LanguageLaws.{strings-names}
-use Rattle.loader.proofs.GuessLaws.{guesses-good}
-use Rattle.loader.proofs.LoadingLaws.{names-good, lists-counted}
+use Rattle.loader.specs as specs
+use specs.Guesses.{guessesOf}
+use specs.Loading.{onType, onListed, namesOf, guessFile, listsIn, packFrom, onBundle, loadOf, written, LoadNumbers, doneAt, refusedAt, loadedNumbers, answer, filled, AnswerIs, LoadIs}
+use specs.declared.loading.Loaded.{Loaded}
+use specs.declared.loading.Loaded.the-variants.{Done, Refused}
+use Rattle.loader.proofs as laws
+use laws.FileLaws.{fine-is, then-fine}
+use laws.LanguageLaws.{strings-names}
+use laws.GuessLaws.{guesses-good}
+use laws.LoadingLaws.{names-good, lists-counted}
 use Rattle.base.proofs.PickLaws.{pick-true, pick-inv, and-yes}
 use Rattle.pack_bytes.specs.Contracts.{Each, none, more, GoodPack}
 

@@ -15,17 +15,18 @@ use Rattle.base.proofs.Arms.{clash}
 use Rattle.writing.specs.Contracts.{cap}
 use Rattle.pack.specs.Packs.{all}
 use Rattle.rules_parser.proofs.NumberLaws.{item-one}
-use Rattle.rules_parser.specs.Files.{itemAt, itemsOf}
+use Rattle.rules_parser.specs as rules_parser
+use rules_parser.Files.{itemAt, itemsOf}
 use Rattle.rules_parser.proofs.Laws.{passed-goes, passed-in, passed-lines, tells-goes, tells-in, items-start, items-end, items-passed, items-tells, items-wrong}
-use Rattle.rules_parser.specs.declared.lines.FileKind.{FileKind}
-use Rattle.rules_parser.specs.declared.lines.Told.{Told}
-use Rattle.rules_parser.specs.declared.files.Item.{Item}
-use Rattle.rules_parser.specs.declared.files.Item.the-variants.{Passed, Tells, Wrong}
+use rules_parser.declared.lines.FileKind.{FileKind}
+use rules_parser.declared.lines.Told.{Told}
+use rules_parser.declared.files.Item.{Item}
+use rules_parser.declared.files.Item.the-variants.{Passed, Tells, Wrong}
 use Rattle.rule_lists.specs.Outcomes.{Loading, fine, notLoaded, andLoad}
 use Rattle.loader.specs.Files.{Kept, keeps, fault, onKept, toldIn}
 use Rattle.base.proofs.PickLaws.{and-yes}
 use Rattle.pack_bytes.specs.Contracts.{Each, none, more}
-use Rattle.rules_parser.specs.Contracts.{itemsAt}
+use rules_parser.Contracts.{itemsAt}
 
 pub fine-is : {A : Type 0} {x y : A} → fine x ≡ fine y → x ≡ y
 fine-is e = cc

@@ -29,24 +29,26 @@ use Rattle.base.proofs.Arms.{clash}
 use Rattle.writing.proofs.Laws.{put-none, put-then, put-long, put-place}
 use Rattle.pack.specs.Packs.{Guess, guess, guessGood, guessesGood}
 use Rattle.pack_bytes.specs.Bytes.{textBytes, maskBytes, guessBytes}
-use Rattle.rules_parser.specs.Fields.{partOf}
-use Rattle.rules_parser.specs.Files.{itemAt}
+use Rattle.rules_parser.specs as rules_parser
+use rules_parser.Fields.{partOf}
+use rules_parser.Files.{itemAt}
 use Rattle.rules_parser.proofs.Laws.{passed-goes, tells-goes, guess-pattern}
 use Rattle.rules_parser.proofs.lines.Told.{the-type}
-use Rattle.rules_parser.specs.declared.fields.Text.{Text}
-use Rattle.rules_parser.specs.declared.lines.FileKind.the-variants.{Guesses}
-use Rattle.rules_parser.specs.declared.lines.Told.{Told}
-use Rattle.rules_parser.specs.declared.lines.Told.the-variants as told
-use Rattle.rules_parser.specs.declared.files.Item.{Item}
-use Rattle.rules_parser.specs.declared.files.Item.the-variants.{Passed, Tells, Wrong}
+use rules_parser.declared.fields.Text.{Text}
+use rules_parser.declared.lines.FileKind.the-variants.{Guesses}
+use rules_parser.declared.lines.Told.{Told}
+use rules_parser.declared.lines.Told.the-variants as told
+use rules_parser.declared.files.Item.{Item}
+use rules_parser.declared.files.Item.the-variants.{Passed, Tells, Wrong}
 use Rattle.rule_lists.specs.Outcomes.{Loading, fine, notLoaded, andLoad}
-use Rattle.loader.specs.Files.{Kept, keeps, fault}
-use Rattle.loader.specs.Guesses.{acceptOf, withMask, judgedGuess, guessOf, guessesIn, countedGuesses, guessesOf}
-use Rattle.loader.specs.Contracts.{judgment, judgedAs, guessPut, GuessesTold, GuessesAre}
-use Rattle.loader.specs.declared.guesses.Judged.{Judged}
-use Rattle.loader.specs.declared.guesses.Judged.the-variants.{Mask, Fault}
-use Rattle.loader.specs.declared.guesses.Guessed.{Guessed}
-use Rattle.loader.specs.declared.guesses.Guessed.the-variants.{Done, Refused}
+use Rattle.loader.specs as specs
+use specs.Files.{Kept, keeps, fault}
+use specs.Guesses.{acceptOf, withMask, judgedGuess, guessOf, guessesIn, countedGuesses, guessesOf}
+use specs.Contracts.{judgment, judgedAs, guessPut, GuessesTold, GuessesAre}
+use specs.declared.guesses.Judged.{Judged}
+use specs.declared.guesses.Judged.the-variants.{Mask, Fault}
+use specs.declared.guesses.Guessed.{Guessed}
+use specs.declared.guesses.Guessed.the-variants.{Done, Refused}
 use Rattle.loader.proofs.FileLaws.{fine-is, then-fine, toldFrom, told-start, told-end, told-wrong, told-passed, told-fault, told-kept, each-told, each-all, AtLine, line-start, passed-line, told-line, line-laws}
 use Rattle.base.proofs.PickLaws.{pick-true, pick-false, pick-all, and-yes}
 use Rattle.held.specs.Met.{bytesOfAll}

@@ -19,31 +19,34 @@ use Rattle.prefixes.specs.declared.prefixes.NameType.{NameType}
 use Rattle.pack.specs.Packs.{Guess, Pack, namesGood}
 use Rattle.rule_lines.specs.Rules.{Rule}
 use Rattle.pack_bytes.specs.Bytes.{namesBytes, listBytes, packBytes}
-use Rattle.bundles.specs.Bundles.{File, Found, missing, found, readBundle, wellFormed, fileNamed}
-use Rattle.bundles.specs.PlaceContracts as places
-use Rattle.bundles.specs.PlaceContracts.{fileAt}
-use Rattle.bundles.specs.declared.FileAt.{FileAt}
-use Rattle.bundles.specs.declared.FileAt.the-variants as file-at
+use Rattle.bundles.specs as bundles
+use bundles.Bundles.{File, Found, missing, found, readBundle, wellFormed, fileNamed}
+use bundles.PlaceContracts as places
+use bundles.PlaceContracts.{fileAt}
+use bundles.declared.FileAt.{FileAt}
+use bundles.declared.FileAt.the-variants as file-at
 use Rattle.bundles.proofs.Laws.{found-is, found-order, found-within, missing-is, files-read}
-use Rattle.rule_lists.specs.Outcomes.{Loading, fine, notLoaded, andLoad}
-use Rattle.rule_lists.specs.Lists.{typePrefix, twoOf, threeOf, listFiles, listsOf}
+use Rattle.rule_lists.specs as rule_lists
+use rule_lists.Outcomes.{Loading, fine, notLoaded, andLoad}
+use rule_lists.Lists.{typePrefix, twoOf, threeOf, listFiles, listsOf}
 use Rattle.rule_lists.proofs.ListLaws.{lists-length}
-use Rattle.rule_lists.specs.declared.list_writing.Written.{Written}
-use Rattle.rule_lists.specs.declared.list_writing.Written.the-variants as wrote
-use Rattle.loader.specs.Languages.{languagesOf}
-use Rattle.loader.specs.Loading.{onType, languagesPart, onListed, namesOf, guessFile, listsIn, packFrom, onBundle, loadOf, written, doneAt, refusedAt, loadedNumbers, answer, filled, AnswerIs}
-use Rattle.loader.specs.Contracts.{NamesTold, typeNumbered, guessesBytes, packedOf}
+use rule_lists.declared.list_writing.Written.{Written}
+use rule_lists.declared.list_writing.Written.the-variants as wrote
+use Rattle.loader.specs as specs
+use specs.Languages.{languagesOf}
+use specs.Loading.{onType, languagesPart, onListed, namesOf, guessFile, listsIn, packFrom, onBundle, loadOf, written, doneAt, refusedAt, loadedNumbers, answer, filled, AnswerIs}
+use specs.Contracts.{NamesTold, typeNumbered, guessesBytes, packedOf}
 use Rattle.loader.proofs.LanguageLaws.{strings-names, languages-good}
-use Rattle.loader.specs.declared.loading.Kind.{Kind}
-use Rattle.loader.specs.declared.loading.Kind.the-variants as kinds
-use Rattle.loader.specs.declared.loading.Loaded.{Loaded}
-use Rattle.loader.specs.declared.loading.Loaded.the-variants as loaded
-use Rattle.loader.specs.declared.language_list.Names.{Names}
-use Rattle.loader.specs.declared.language_list.Names.the-variants as names
+use specs.declared.loading.Kind.{Kind}
+use specs.declared.loading.Kind.the-variants as kinds
+use specs.declared.loading.Loaded.{Loaded}
+use specs.declared.loading.Loaded.the-variants as loaded
+use specs.declared.language_list.Names.{Names}
+use specs.declared.language_list.Names.the-variants as names
 use Rattle.base.proofs.PickLaws.{pick-true, pick-false, and-inv}
 use Rattle.held.specs.Met.{bytesOfAll}
-use Rattle.bundles.specs.Contracts.{filesOf}
-use Rattle.rule_lists.specs.Contracts.{WrittenIs}
+use bundles.Contracts.{filesOf}
+use rule_lists.Contracts.{WrittenIs}
 
 -- ---- the language list
 

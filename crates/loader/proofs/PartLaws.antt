@@ -16,23 +16,26 @@ use Rattle.base.proofs.Arms.{clash}
 use Rattle.writing.proofs.Laws.{put-then, put-place}
 use Rattle.pack.specs.Packs.{Guess}
 use Rattle.pack_bytes.specs.Bytes.{countBytes}
-use Rattle.bundles.specs.PlaceContracts.{fileNumbers, fileAt}
-use Rattle.bundles.specs.declared.FileAt.{FileAt}
-use Rattle.bundles.specs.declared.FileAt.the-variants as file-at
+use Rattle.bundles.specs as bundles
+use bundles.PlaceContracts.{fileNumbers, fileAt}
+use bundles.declared.FileAt.{FileAt}
+use bundles.declared.FileAt.the-variants as file-at
 use Rattle.bundles.proofs.Laws.{missing-is, found-is, found-order, found-within}
-use Rattle.rule_lists.specs.Outcomes.{Loading, fine, notLoaded, andLoad}
-use Rattle.rule_lists.specs.Lists.{typePrefix}
-use Rattle.rule_lists.specs.Contracts.{WrittenIs}
-use Rattle.rule_lists.specs.declared.list_writing.Written.{Written}
-use Rattle.rule_lists.specs.declared.list_writing.Written.the-variants as wrote
-use Rattle.loader.specs.Guesses.{guessesIn, countedGuesses, guessesOf}
-use Rattle.loader.specs.Loading.{onType, langPart, onListed, guessFile}
-use Rattle.loader.specs.Contracts.{typeNumbered, GuessesTold, GuessesAre, guessesBytes}
-use Rattle.loader.specs.declared.loading.Kind.the-variants.{Is, Unknown}
-use Rattle.loader.specs.declared.guesses.Guessed.{Guessed}
-use Rattle.loader.specs.declared.guesses.Guessed.the-variants.{Done, Refused}
+use Rattle.rule_lists.specs as rule_lists
+use rule_lists.Outcomes.{Loading, fine, notLoaded, andLoad}
+use rule_lists.Lists.{typePrefix}
+use rule_lists.Contracts.{WrittenIs}
+use rule_lists.declared.list_writing.Written.{Written}
+use rule_lists.declared.list_writing.Written.the-variants as wrote
+use Rattle.loader.specs as specs
+use specs.Guesses.{guessesIn, countedGuesses, guessesOf}
+use specs.Loading.{onType, langPart, onListed, guessFile}
+use specs.Contracts.{typeNumbered, GuessesTold, GuessesAre, guessesBytes}
+use specs.declared.loading.Kind.the-variants.{Is, Unknown}
+use specs.declared.guesses.Guessed.{Guessed}
+use specs.declared.guesses.Guessed.the-variants.{Done, Refused}
 use Rattle.base.proofs.PickLaws.{pick-true, pick-false}
-use Rattle.bundles.specs.Contracts.{filesOf}
+use bundles.Contracts.{filesOf}
 
 -- ---- the type's number
 

@@ -11,14 +11,15 @@ use lib.ListN.{length, getD, take, drop, drop-of-length-le, length-drop, List·g
 use lib.Seq.{drop-cons, take-all, take-nil}
 use borrow.Author.Tests.{lt-ltb, le-ltb, eq-eqb, ne-eqb}
 use Rattle.base.specs.Pick.{pick}
-use Rattle.rules_parser.specs.Fields.{partOf, passesOf, spanOf, spanEnd, pairAt, text, quotedAt, bareAt, fieldAt, partedAt, endsAt, tailOk}
-use Rattle.rules_parser.specs.declared.fields.Kind.{Kind}
-use Rattle.rules_parser.specs.declared.fields.Kind.the-variants.{Blank, NotBlank, NotQuote, NotLf}
-use Rattle.rules_parser.specs.declared.fields.FieldKind.{FieldKind}
-use Rattle.rules_parser.specs.declared.fields.FieldKind.the-variants.{Quoted, Plain}
-use Rattle.rules_parser.specs.declared.fields.Text.{Text}
-use Rattle.rules_parser.specs.declared.fields.Field.{Field}
-use Rattle.rules_parser.specs.declared.fields.Field.the-variants.{Is, No}
+use Rattle.rules_parser.specs as specs
+use specs.Fields.{partOf, passesOf, spanOf, spanEnd, pairAt, text, quotedAt, bareAt, fieldAt, partedAt, endsAt, tailOk}
+use specs.declared.fields.Kind.{Kind}
+use specs.declared.fields.Kind.the-variants.{Blank, NotBlank, NotQuote, NotLf}
+use specs.declared.fields.FieldKind.{FieldKind}
+use specs.declared.fields.FieldKind.the-variants.{Quoted, Plain}
+use specs.declared.fields.Text.{Text}
+use specs.declared.fields.Field.{Field}
+use specs.declared.fields.Field.the-variants.{Is, No}
 use Rattle.base.proofs.PickLaws.{pick-true, pick-false}
 
 -- ---- kinds of bytes

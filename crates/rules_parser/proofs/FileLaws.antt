@@ -10,19 +10,20 @@ use lib.ListN.{length, getD, take, drop, drop-of-length-le, length-drop}
 use lib.Seq.{drop-cons}
 use borrow.Author.Tests.{lt-ltb, le-ltb, le-leb, lt-leb, eq-eqb, ne-eqb}
 use Rattle.base.specs.Pick.{pick}
-use Rattle.rules_parser.specs.Fields.{passesOf, spanOf, spanEnd, pairAt}
-use Rattle.rules_parser.specs.Lines.{lineAt}
-use Rattle.rules_parser.specs.Files.{countedOf, closeIn, closeAt, textEnd, nextLine, restBlank, onClose, commentAt, onLine, itemAt}
-use Rattle.rules_parser.specs.declared.fields.Kind.{Kind}
-use Rattle.rules_parser.specs.declared.fields.Kind.the-variants.{Blank as blanks, NotLf}
-use Rattle.rules_parser.specs.declared.lines.FileKind.{FileKind}
-use Rattle.rules_parser.specs.declared.lines.Told.{Told}
-use Rattle.rules_parser.specs.declared.lines.Line.{Line}
-use Rattle.rules_parser.specs.declared.lines.Line.the-variants as line
-use Rattle.rules_parser.specs.declared.files.Close.{Close}
-use Rattle.rules_parser.specs.declared.files.Close.the-variants.{At, Open}
-use Rattle.rules_parser.specs.declared.files.Item.{Item}
-use Rattle.rules_parser.specs.declared.files.Item.the-variants.{Passed, Tells, Wrong}
+use Rattle.rules_parser.specs as specs
+use specs.Fields.{passesOf, spanOf, spanEnd, pairAt}
+use specs.Lines.{lineAt}
+use specs.Files.{countedOf, closeIn, closeAt, textEnd, nextLine, restBlank, onClose, commentAt, onLine, itemAt}
+use specs.declared.fields.Kind.{Kind}
+use specs.declared.fields.Kind.the-variants.{Blank as blanks, NotLf}
+use specs.declared.lines.FileKind.{FileKind}
+use specs.declared.lines.Told.{Told}
+use specs.declared.lines.Line.{Line}
+use specs.declared.lines.Line.the-variants as line
+use specs.declared.files.Close.{Close}
+use specs.declared.files.Close.the-variants.{At, Open}
+use specs.declared.files.Item.{Item}
+use specs.declared.files.Item.the-variants.{Passed, Tells, Wrong}
 use Rattle.base.proofs.PickLaws.{pick-true, pick-false, pick-all}
 
 -- ---- the end of a comment, x being the answer

@@ -10,15 +10,17 @@ use lib.Seq.{take-add, drop-at, length-take-le, take-append-seam}
 use borrow.Author.Tests.{eqb-true, eqb-false, not-false, leb-true, le-leb}
 use Rattle.base.specs.Pick.{pick}
 use Rattle.texts.specs.Parts.{lastIs}
-use Rattle.rules_parser.specs.Fields.{passesOf, spanEnd, pairAt}
-use Rattle.rules_parser.specs.Files.{countedOf, closeIn, textEnd, nextLine, restBlank}
-use Rattle.rules_parser.specs.Grammar.{Every, Other, Blanks, FirstLine, at-end, at-lf, at-cr-lf, Unclosed, lineEnds}
-use Rattle.rules_parser.proofs.FileLaws.{close-step, next-more, next-none, text-cr, text-lf, text-empty, text-last}
-use Rattle.rules_parser.proofs.Ahead.{pick-where}
-use Rattle.rules_parser.proofs.GrammarFields.{Of, Stops, split, spanned, span-is, span-least, place-in, place-more, byte-is, next-is, pair-is, pair-told}
-use Rattle.rules_parser.specs.declared.fields.Kind.the-variants.{Blank, NotLf}
-use Rattle.rules_parser.specs.declared.files.Close.{Close}
-use Rattle.rules_parser.specs.declared.files.Close.the-variants.{At, Open}
+use Rattle.rules_parser.specs as specs
+use specs.Fields.{passesOf, spanEnd, pairAt}
+use specs.Files.{countedOf, closeIn, textEnd, nextLine, restBlank}
+use specs.Grammar.{Every, Other, Blanks, FirstLine, at-end, at-lf, at-cr-lf, Unclosed, lineEnds}
+use Rattle.rules_parser.proofs as laws
+use laws.FileLaws.{close-step, next-more, next-none, text-cr, text-lf, text-empty, text-last}
+use laws.Ahead.{pick-where}
+use laws.GrammarFields.{Of, Stops, split, spanned, span-is, span-least, place-in, place-more, byte-is, next-is, pair-is, pair-told}
+use specs.declared.fields.Kind.the-variants.{Blank, NotLf}
+use specs.declared.files.Close.{Close}
+use specs.declared.files.Close.the-variants.{At, Open}
 use Rattle.base.proofs.PickLaws.{pick-true, pick-false}
 
 -- ---- lists

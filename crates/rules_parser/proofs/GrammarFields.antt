@@ -12,16 +12,17 @@ use lib.ListN.{length, getD, drop, length-drop, length-append, List·getD-eq-def
 use lib.Seq.{drop-cons, drop-drop, drop-append-seam, drop-append-le, take-append-seam}
 use borrow.Author.Tests.{lt-ltb, le-ltb, le-leb, ltb-true, ltb-false, eq-eqb, ne-eqb, eqb-true, eqb-false, not-true, not-false}
 use Rattle.base.specs.Pick.{pick}
-use Rattle.rules_parser.specs.Fields.{partOf, passesOf, spanOf, spanEnd, pairAt, text, quotedAt, bareAt, fieldAt, partedAt, endsAt, tailOk}
-use Rattle.rules_parser.specs.Grammar.{Shape, Every, BlankByte, NoBlank, Other, Blanks, Gap, Word, InQuotes, CommentLine, Just, Anything, _⨾_}
+use Rattle.rules_parser.specs as specs
+use specs.Fields.{partOf, passesOf, spanOf, spanEnd, pairAt, text, quotedAt, bareAt, fieldAt, partedAt, endsAt, tailOk}
+use specs.Grammar.{Shape, Every, BlankByte, NoBlank, Other, Blanks, Gap, Word, InQuotes, CommentLine, Just, Anything, _⨾_}
 use Rattle.rules_parser.proofs.Ahead.{pick-where}
-use Rattle.rules_parser.specs.declared.fields.Kind.{Kind}
-use Rattle.rules_parser.specs.declared.fields.Kind.the-variants.{Blank, NotBlank, NotQuote, NotLf}
-use Rattle.rules_parser.specs.declared.fields.FieldKind.{FieldKind}
-use Rattle.rules_parser.specs.declared.fields.FieldKind.the-variants.{Quoted, Plain}
-use Rattle.rules_parser.specs.declared.fields.Text.{Text}
-use Rattle.rules_parser.specs.declared.fields.Field.{Field}
-use Rattle.rules_parser.specs.declared.fields.Field.the-variants.{Is, No}
+use specs.declared.fields.Kind.{Kind}
+use specs.declared.fields.Kind.the-variants.{Blank, NotBlank, NotQuote, NotLf}
+use specs.declared.fields.FieldKind.{FieldKind}
+use specs.declared.fields.FieldKind.the-variants.{Quoted, Plain}
+use specs.declared.fields.Text.{Text}
+use specs.declared.fields.Field.{Field}
+use specs.declared.fields.Field.the-variants.{Is, No}
 use Rattle.base.proofs.PickLaws.{pick-true, pick-false, pick-inv}
 
 -- ---- kinds of bytes

@@ -12,23 +12,24 @@ use Rattle.base.specs.Pick.{pick, and}
 use Rattle.letters.specs.Order.{sameText}
 use Rattle.texts.specs.Parts.{prefixOf}
 use Rattle.languages.specs.Names.{languageName, allLetters, isLetter, common}
-use Rattle.rules_parser.specs.Fields.{partOf, spanEnd, pairAt, endsAt}
-use Rattle.rules_parser.specs.Lines.{onField, textAt, ruleTold, lastTwo, fourAt, includeWord, includeAt, ruleAt, guessTold, acceptTold, guessEnd, guessAt, nameTold, nameAt, toldAt, lineAt}
-use Rattle.rules_parser.specs.Grammar.{Shape, _⨾_, Just, Anything, Every, NoBlank, Blanks, Gap, Word, CommentLine, OpeningLine, Said, rule, include, guess, name, saidOf, Printable, TextString, TextWord, RuleLine, IncludeLine, verdict, GuessLine, NameLine, LineSays, is-rule, is-include, is-guess, is-name}
+use Rattle.rules_parser.specs as specs
+use specs.Fields.{partOf, spanEnd, pairAt, endsAt}
+use specs.Lines.{onField, textAt, ruleTold, lastTwo, fourAt, includeWord, includeAt, ruleAt, guessTold, acceptTold, guessEnd, guessAt, nameTold, nameAt, toldAt, lineAt}
+use specs.Grammar.{Shape, _⨾_, Just, Anything, Every, NoBlank, Blanks, Gap, Word, CommentLine, OpeningLine, Said, rule, include, guess, name, saidOf, Printable, TextString, TextWord, RuleLine, IncludeLine, verdict, GuessLine, NameLine, LineSays, is-rule, is-include, is-guess, is-name}
 use Rattle.rules_parser.proofs.Ahead.{pick-where}
 use Rattle.rules_parser.proofs.GrammarFields.{Of, Stops, spanned, span-is, place-in, place-more, text-ends, plain, pair-not, pair-told, Written, Where, Met, field-met, Parted, parted-met, Given, Follows, field-given, parted-given, blanks-follow, gap-follows, ends-in, ends-is, ends-told, pair-behind, tail-is, lead, tail-told}
-use Rattle.rules_parser.specs.declared.fields.Kind.the-variants.{Blank as blanks}
-use Rattle.rules_parser.specs.declared.fields.FieldKind.{FieldKind}
-use Rattle.rules_parser.specs.declared.fields.FieldKind.the-variants.{Quoted, Plain}
-use Rattle.rules_parser.specs.declared.fields.Text.{Text}
-use Rattle.rules_parser.specs.declared.fields.Field.{Field}
-use Rattle.rules_parser.specs.declared.fields.Field.the-variants.{Is, No}
-use Rattle.rules_parser.specs.declared.lines.FileKind.{FileKind}
-use Rattle.rules_parser.specs.declared.lines.FileKind.the-variants.{Languages, Guesses, Rules}
-use Rattle.rules_parser.specs.declared.lines.Told.{Told}
-use Rattle.rules_parser.specs.declared.lines.Told.the-variants.{Rule, Include, Guess, Name}
-use Rattle.rules_parser.specs.declared.lines.Line.{Line}
-use Rattle.rules_parser.specs.declared.lines.Line.the-variants.{Blank, Comment, Opens, Tells, Bad}
+use specs.declared.fields.Kind.the-variants.{Blank as blanks}
+use specs.declared.fields.FieldKind.{FieldKind}
+use specs.declared.fields.FieldKind.the-variants.{Quoted, Plain}
+use specs.declared.fields.Text.{Text}
+use specs.declared.fields.Field.{Field}
+use specs.declared.fields.Field.the-variants.{Is, No}
+use specs.declared.lines.FileKind.{FileKind}
+use specs.declared.lines.FileKind.the-variants.{Languages, Guesses, Rules}
+use specs.declared.lines.Told.{Told}
+use specs.declared.lines.Told.the-variants.{Rule, Include, Guess, Name}
+use specs.declared.lines.Line.{Line}
+use specs.declared.lines.Line.the-variants.{Blank, Comment, Opens, Tells, Bad}
 use Rattle.base.proofs.PickLaws.{pick-true, pick-false, and-yes, and-inv}
 use Rattle.letters.proofs.OrderLaws.{same-is}
 
