@@ -31,11 +31,11 @@ use specs.Guesses.{guessesOf}
 use specs.Loading.{onType, onListed, namesOf, guessFile, listsIn, packFrom, onBundle, loadOf, written, LoadNumbers, doneAt, refusedAt, loadedNumbers, answer, filled, AnswerIs, LoadIs}
 use specs.declared.loading.Loaded.{Loaded}
 use specs.declared.loading.Loaded.the-variants.{Done, Refused}
-use Rattle.loader.proofs as laws
-use laws.FileLaws.{fine-is, then-fine}
-use laws.LanguageLaws.{strings-names}
-use laws.GuessLaws.{guesses-good}
-use laws.LoadingLaws.{names-good, lists-counted}
+use Rattle.loader.proofs as own
+use own.FileLaws.{fine-is, then-fine}
+use own.LanguageLaws.{strings-names}
+use own.GuessLaws.{guesses-good}
+use own.LoadingLaws.{names-good, lists-counted}
 use Rattle.base.proofs.PickLaws.{pick-true, pick-inv, and-yes}
 use Rattle.pack_bytes.specs.Contracts.{Each, none, more, GoodPack}
 

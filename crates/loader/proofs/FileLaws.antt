@@ -19,7 +19,7 @@ use Rattle.rules_parser.specs as rules_parser
 use rules_parser.Files.{itemAt, itemsOf}
 use Rattle.rules_parser.proofs.Laws.{passed-goes, passed-in, passed-lines, tells-goes, tells-in, items-start, items-end, items-passed, items-tells, items-wrong}
 use rules_parser.declared.lines.FileKind.{FileKind}
-use rules_parser.declared.lines.Told.{Told}
+use rules_parser.declared.lines.Clause.{Clause}
 use rules_parser.declared.files.Item.{Item}
 use rules_parser.declared.files.Item.the-variants.{Passed, Tells, Wrong}
 use Rattle.rule_lists.specs.Outcomes.{Loading, fine, notLoaded, andLoad}
@@ -66,7 +66,7 @@ module _ (k : FileKind) (s : List ℕ) (p l : ℕ) (w : AtLine s p l) (x : Item)
     pub passed-room : Fits w64 (l + a)
     passed-room = record { fits = omega (arith, passed-line) }
 
-  module _ (t : Told) (n : ℕ) (q : x ≡ Tells t n) where
+  module _ (t : Clause) (n : ℕ) (q : x ≡ Tells t n) where
     goes : (p < n) × (n ≤ length s)
     goes = (tells-goes k s p t n (sym e ∙ q), tells-in k s p t n (sym e ∙ q))
 
@@ -83,7 +83,7 @@ pub ruleset line-laws = (needs, item-one, line-start, line-room, passed-line, pa
 
 -- ---- what a file says
 
-module _ {A : Type 0} (meaning : Told → Kept A) (f : ℕ) (k : FileKind) (s : List ℕ) where
+module _ {A : Type 0} (meaning : Clause → Kept A) (f : ℕ) (k : FileKind) (s : List ℕ) where
   -- what is said from the place p on, which is in line l
   abbrev pub toldFrom : ℕ → ℕ → Loading (List A)
   toldFrom l p = toldIn meaning f l (itemsAt k s p)
@@ -104,27 +104,27 @@ module _ {A : Type 0} (meaning : Told → Kept A) (f : ℕ) (k : FileKind) (s : 
     unfolding toldIn
     told-passed a n e = ap (toldIn meaning f l) (items-passed k s p a n e)
 
-    module _ (t : Told) (n : ℕ) (e : itemAt k s p ≡ Tells t n) (x : Kept A) (m : meaning t ≡ x) where
+    module _ (t : Clause) (n : ℕ) (e : itemAt k s p ≡ Tells t n) (x : Kept A) (m : meaning t ≡ x) where
       told-tells : toldFrom l p ≡ onKept x (λ c. notLoaded c l f) (λ a. andLoad (toldFrom (l + 1) n) (λ rest. fine (a ∷ rest)))
       unfolding toldIn
       told-tells = ap (toldIn meaning f l) (items-tells k s p t n e)
           ∙ ap (λ (y : Kept A). onKept y (λ c. notLoaded c l f) (λ a. andLoad (toldFrom (l + 1) n) (λ rest. fine (a ∷ rest)))) m
 
-    pub told-fault : (t : Told) (n : ℕ) (c : Refusal) → itemAt k s p ≡ Tells t n → meaning t ≡ fault c → toldFrom l p ≡ notLoaded c l f
+    pub told-fault : (t : Clause) (n : ℕ) (c : Refusal) → itemAt k s p ≡ Tells t n → meaning t ≡ fault c → toldFrom l p ≡ notLoaded c l f
     unfolding onKept
     told-fault t n c e m = told-tells t n e _ m
 
-    pub told-kept : (t : Told) (n : ℕ) (a : A) → itemAt k s p ≡ Tells t n → meaning t ≡ keeps a
+    pub told-kept : (t : Clause) (n : ℕ) (a : A) → itemAt k s p ≡ Tells t n → meaning t ≡ keeps a
         → toldFrom l p ≡ andLoad (toldFrom (l + 1) n) (λ rest. fine (a ∷ rest))
     unfolding onKept
     told-kept t n a e m = told-tells t n e _ m
 
   -- what holds of all that a line of the file can be kept as holds of each that is kept
-  module _ (P : A → Type 0) (good : (p : ℕ) (t : Told) (n : ℕ) (a : A) → itemAt k s p ≡ Tells t n → meaning t ≡ keeps a → P a) where
+  module _ (P : A → Type 0) (good : (p : ℕ) (t : Clause) (n : ℕ) (a : A) → itemAt k s p ≡ Tells t n → meaning t ≡ keeps a → P a) where
     abbrev Rest : ℕ → Type 0
     Rest p = (l : ℕ) (xs : List A) → toldFrom l p ≡ fine xs → Each P xs
 
-    kept-by : (l p : ℕ) (xs : List A) (t : Told) (n : ℕ) → itemAt k s p ≡ Tells t n → (y : Kept A) → meaning t ≡ y → Rest n → toldFrom l p ≡ fine xs → Each P xs
+    kept-by : (l p : ℕ) (xs : List A) (t : Clause) (n : ℕ) → itemAt k s p ≡ Tells t n → (y : Kept A) → meaning t ≡ y → Rest n → toldFrom l p ≡ fine xs → Each P xs
     kept-by l p xs t n e (keeps a) m ih q =
         let w = then-fine _ _ xs (sym (told-kept l p t n a e m) ∙ q) in
         rw (← fine-is (w .2)) (more (good p t n a e m) (ih (l + 1) (w .0) (w .1)))

@@ -33,18 +33,18 @@ use Rattle.rules_parser.specs as rules_parser
 use rules_parser.Fields.{partOf}
 use rules_parser.Files.{itemAt}
 use Rattle.rules_parser.proofs.Laws.{passed-goes, tells-goes, guess-pattern}
-use Rattle.rules_parser.proofs.lines.Told.{the-type}
+use Rattle.rules_parser.proofs.lines.Clause.{the-type}
 use rules_parser.declared.fields.Text.{Text}
 use rules_parser.declared.lines.FileKind.the-variants.{Guesses}
-use rules_parser.declared.lines.Told.{Told}
-use rules_parser.declared.lines.Told.the-variants as told
+use rules_parser.declared.lines.Clause.{Clause}
+use rules_parser.declared.lines.Clause.the-variants as told
 use rules_parser.declared.files.Item.{Item}
 use rules_parser.declared.files.Item.the-variants.{Passed, Tells, Wrong}
 use Rattle.rule_lists.specs.Outcomes.{Loading, fine, notLoaded, andLoad}
 use Rattle.loader.specs as specs
 use specs.Files.{Kept, keeps, fault}
 use specs.Guesses.{acceptOf, withMask, judgedGuess, guessOf, guessesIn, countedGuesses, guessesOf}
-use specs.Contracts.{judgment, judgedAs, guessPut, GuessesTold, GuessesAre}
+use specs.Contracts.{judgment, judgedAs, guessPut, GuessesWritten, GuessesAre}
 use specs.declared.guesses.Judged.{Judged}
 use specs.declared.guesses.Judged.the-variants.{Mask, Fault}
 use specs.declared.guesses.Guessed.{Guessed}
@@ -119,32 +119,32 @@ put-bytes v m pattern h = ap (λ (n : ℕ). acceptOf v ∷ (maskBytes m ++ (n �
 
 -- ---- the loop: what is left of the file, written behind n rules
 
-unfoldable pub ToldFrom : ℕ → Loading (List Guess) → List ℕ → ℕ → Guessed → List ℕ → Type 0
-ToldFrom n (fine gs) o at r o′ = (p : ℕ) × (r ≡ Done (n + length gs) p) × Put o o′ at p (bytesOfAll guessBytes gs)
-ToldFrom n (notLoaded c l f) o at r o′ = r ≡ Refused c l f
+unfoldable pub GuessesFrom : ℕ → Loading (List Guess) → List ℕ → ℕ → Guessed → List ℕ → Type 0
+GuessesFrom n (fine gs) o at r o′ = (p : ℕ) × (r ≡ Done (n + length gs) p) × Put o o′ at p (bytesOfAll guessBytes gs)
+GuessesFrom n (notLoaded c l f) o at r o′ = r ≡ Refused c l f
 
-from-start : (x : Loading (List Guess)) (o : List ℕ) (at : ℕ) (r : Guessed) (o′ : List ℕ) → ToldFrom 0 x o at r o′ → GuessesTold x o at r o′
-unfolding ToldFrom GuessesTold
+from-start : (x : Loading (List Guess)) (o : List ℕ) (at : ℕ) (r : Guessed) (o′ : List ℕ) → GuessesFrom 0 x o at r o′ → GuessesWritten x o at r o′
+unfolding GuessesFrom GuessesWritten
 from-start (fine gs) o at r o′ w = (w .0, w .1 ∙ ap (λ (n : ℕ). Done n (w .0)) (zero-add (length gs)), w .2)
 from-start (notLoaded c l f) o at r o′ w = w
 
 from-next : (n : ℕ) (g : Guess) (x : Loading (List Guess)) (o o₁ : List ℕ) (at p : ℕ) (r : Guessed) (o′ : List ℕ) → Put o o₁ at p (guessBytes g)
-    → ToldFrom (n + 1) x o₁ p r o′ → ToldFrom n (andLoad x (λ gs. fine (g ∷ gs))) o at r o′
-unfolding ToldFrom andLoad bytesOfAll
+    → GuessesFrom (n + 1) x o₁ p r o′ → GuessesFrom n (andLoad x (λ gs. fine (g ∷ gs))) o at r o′
+unfolding GuessesFrom andLoad bytesOfAll
 from-next n g (fine gs) o o₁ at p r o′ y w =
     let size : n + 1 + length gs ≡ n + suc (length gs) = omega arith in
     (w .0, w .1 ∙ ap (λ (k : ℕ). Done k (w .0)) size, put-then y (w .2))
 from-next n g (notLoaded c l f) o o₁ at p r o′ y w = w
 
-from-end : (n : ℕ) (o : List ℕ) (at : ℕ) → length o < cap → at ≤ cap → ToldFrom n (fine []) o at (Done n at) o
-unfolding ToldFrom bytesOfAll
+from-end : (n : ℕ) (o : List ℕ) (at : ℕ) → length o < cap → at ≤ cap → GuessesFrom n (fine []) o at (Done n at) o
+unfolding GuessesFrom bytesOfAll
 from-end n o at h k = let size : n ≡ n + 0 = omega arith in (at, ap (λ (i : ℕ). Done i at) size, put-none o at h k)
 
-from-refused : (n : ℕ) (c : Refusal) (l f : ℕ) (o : List ℕ) (at : ℕ) → ToldFrom n (notLoaded c l f) o at (Refused c l f) o
-unfolding ToldFrom
+from-refused : (n : ℕ) (c : Refusal) (l f : ℕ) (o : List ℕ) (at : ℕ) → GuessesFrom n (notLoaded c l f) o at (Refused c l f) o
+unfolding GuessesFrom
 from-refused n c l f o at = refl
 
-other : (names s : List ℕ) (t : Told) → OneOf (0 ∷ 1 ∷ 3 ∷ []) (tagOf the-type t) → guessOf names s t ≡ fault LineUnreadable
+other : (names s : List ℕ) (t : Clause) → OneOf (0 ∷ 1 ∷ 3 ∷ []) (tagOf the-type t) → guessOf names s t ≡ fault LineUnreadable
 unfolding guessOf
 other names s (told.Rule a b c d) h = refl
 other names s (told.Include a) h = refl
@@ -158,7 +158,7 @@ pub record Writing (names s : List ℕ) (f : ℕ) (o₀ : List ℕ) (at₀ : ℕ
   pub room : length o < cap
   pub long : length o ≡ length o₀
   pub place : at ≤ cap
-  pub is : (r : Guessed) (o′ : List ℕ) → ToldFrom n (toldFrom (guessOf names s) f Guesses s l p) o at r o′ → GuessesAre names s f o₀ at₀ r o′
+  pub is : (r : Guessed) (o′ : List ℕ) → GuessesFrom n (toldFrom (guessOf names s) f Guesses s l p) o at r o′ → GuessesAre names s f o₀ at₀ r o′
 
 pub writing-start : (names s : List ℕ) (f : ℕ) (o : List ℕ) (at : ℕ) → length s * 1 < cap → length o * 1 < cap → at ≤ cap → Writing names s f o at o at 0 0 1
 unfolding GuessesAre guessesIn
@@ -199,7 +199,7 @@ module _ {names s : List ℕ} {f : ℕ} {o₀ : List ℕ} {at₀ : ℕ} {o : Lis
       is = λ r o′ y. w .is r o′ (rw (told-passed (guessOf names s) f Guesses s l p k i (sym e ∙ q)) y);
     }
 
-    module _ (t : Told) (i : ℕ) (q : x ≡ Tells t i) where
+    module _ (t : Clause) (i : ℕ) (q : x ≡ Tells t i) where
       here-tells : itemAt Guesses s p ≡ Tells t i
       here-tells = sym e ∙ q
 
@@ -292,7 +292,7 @@ accept-good true = refl
 accept-good false = refl
 
 -- a line that is kept
-kept-good : (names s : List ℕ) (p : ℕ) (t : Told) (n : ℕ) (g : Guess) → itemAt Guesses s p ≡ Tells t n → guessOf names s t ≡ keeps g
+kept-good : (names s : List ℕ) (p : ℕ) (t : Clause) (n : ℕ) (g : Guess) → itemAt Guesses s p ≡ Tells t n → guessOf names s t ≡ keeps g
     → guessGood (length (stringsOf names)) g ≡ true
 unfolding guessOf judgedGuess guessGood
 kept-good names s p (told.Rule a b c d) n g e k = clash (cc)

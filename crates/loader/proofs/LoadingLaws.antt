@@ -35,7 +35,7 @@ use rule_lists.declared.list_writing.Written.the-variants as wrote
 use Rattle.loader.specs as specs
 use specs.Languages.{languagesOf}
 use specs.Loading.{onType, languagesPart, onListed, namesOf, guessFile, listsIn, packFrom, onBundle, loadOf, written, doneAt, refusedAt, loadedNumbers, answer, filled, AnswerIs}
-use specs.Contracts.{NamesTold, typeNumbered, guessesBytes, packedOf}
+use specs.Contracts.{NamesRead, typeNumbered, guessesBytes, packedOf}
 use Rattle.loader.proofs.LanguageLaws.{strings-names, languages-good}
 use specs.declared.loading.Kind.{Kind}
 use specs.declared.loading.Kind.the-variants as kinds
@@ -51,7 +51,7 @@ use rule_lists.Contracts.{WrittenIs}
 -- ---- the language list
 
 module _ (kind : NameType) (s : List ℕ) (e : FileAt) (w : places.fileNumbers e ≡ fileAt s (typePrefix kind ++ languagesPart)) where
-  pub names-found : (k a b : ℕ) (out′ : List ℕ) (r : Names) → e ≡ file-at.At k a b → NamesTold (languagesOf k (take (b - a) (drop a s))) r out′ → NamesTold (namesOf kind (filesOf s)) r out′
+  pub names-found : (k a b : ℕ) (out′ : List ℕ) (r : Names) → e ≡ file-at.At k a b → NamesRead (languagesOf k (take (b - a) (drop a s))) r out′ → NamesRead (namesOf kind (filesOf s)) r out′
   unfolding namesOf onListed
   names-found k a b out′ r h x = rw (found-is s _ e w k a b h) x
 
@@ -61,8 +61,8 @@ module _ (kind : NameType) (s : List ℕ) (e : FileAt) (w : places.fileNumbers e
   pub names-within : (k a b : ℕ) → e ≡ file-at.At k a b → b ≤ length s
   names-within k a b h = found-within s _ e w k a b h
 
-  pub names-missing : (out′ : List ℕ) → e ≡ file-at.Missing → NamesTold (namesOf kind (filesOf s)) (names.Refused FileMissing 0 0) out′
-  unfolding NamesTold namesOf onListed
+  pub names-missing : (out′ : List ℕ) → e ≡ file-at.Missing → NamesRead (namesOf kind (filesOf s)) (names.Refused FileMissing 0 0) out′
+  unfolding NamesRead namesOf onListed
   names-missing out′ h = rw (missing-is s _ e w h) refl
 
 -- ---- what was told, backwards
@@ -99,15 +99,15 @@ pub record WasNamed (x : Loading (List (List ℕ))) (out′ : List ℕ) (n len :
   pub front : take len out′ ≡ namesBytes it
 
 module _ (out′ : List ℕ) (r : Names) where
-  was-named : (x : Loading (List (List ℕ))) (n len : ℕ) → NamesTold x r out′ → r ≡ names.Done n len → WasNamed x out′ n len
-  unfolding NamesTold
+  was-named : (x : Loading (List (List ℕ))) (n len : ℕ) → NamesRead x r out′ → r ≡ names.Done n len → WasNamed x out′ n len
+  unfolding NamesRead
   was-named (fine xs) n len (e, w) h =
       let i : len ≡ length (namesBytes xs) = cc in
       record { it = xs; is = refl; count = cc; size = i; front = rw i w }
   was-named (notLoaded c l f) n len e h = clash (cc)
 
-  not-named : (x : Loading (List (List ℕ))) (c : Refusal) (l f : ℕ) → NamesTold x r out′ → r ≡ names.Refused c l f → x ≡ notLoaded c l f
-  unfolding NamesTold
+  not-named : (x : Loading (List (List ℕ))) (c : Refusal) (l f : ℕ) → NamesRead x r out′ → r ≡ names.Refused c l f → x ≡ notLoaded c l f
+  unfolding NamesRead
   not-named (fine xs) c l f (e, w) h = clash (cc)
   not-named (notLoaded a b d) c l f e h = cc
 
@@ -221,7 +221,7 @@ unfolding packedOf packFrom listsIn andLoad
 packed-is kind fs xs bytes n h e c =
     rw (e, c, h, strings-names xs) (parts-packed xs (guessFile kind fs (namesBytes xs)) (listsOf (namesBytes xs) fs (listFiles (typePrefix kind) xs)) (lists-counted kind fs xs))
 
-module _ (kind : NameType) (fs : List File) (nm : List ℕ) (r : Names) (w : NamesTold (namesOf kind fs) r nm) where
+module _ (kind : NameType) (fs : List File) (nm : List ℕ) (r : Names) (w : NamesRead (namesOf kind fs) r nm) where
   pub files-no-names : (c : Refusal) (l f : ℕ) (out : List ℕ) → r ≡ names.Refused c l f → AnswerIs (written (packFrom kind fs)) out (loaded.Refused c l f) out
   unfolding packFrom andLoad
   files-no-names c l f out h = refused-is (packFrom kind fs) c l f out (rw (not-named nm r _ c l f w h) refl)

@@ -30,7 +30,7 @@ use rule_lists.declared.list_writing.Written.the-variants as wrote
 use Rattle.loader.specs as specs
 use specs.Guesses.{guessesIn, countedGuesses, guessesOf}
 use specs.Loading.{onType, langPart, onListed, guessFile}
-use specs.Contracts.{typeNumbered, GuessesTold, GuessesAre, guessesBytes}
+use specs.Contracts.{typeNumbered, GuessesWritten, GuessesAre, guessesBytes}
 use specs.declared.loading.Kind.the-variants.{Is, Unknown}
 use specs.declared.guesses.Guessed.{Guessed}
 use specs.declared.guesses.Guessed.the-variants.{Done, Refused}
@@ -100,24 +100,24 @@ put-over {o} {at = at} {t = t} {u = u} {v = v} x y z h =
     let w = put-then x y in
     record { wrote = z .wrote ∙ rw (w .wrote) (sets-over v t u o at h); ends = omega (arith, w .ends, length-append t u, length-append v u); room = x .room }
 
-counted-done : (x : Loading (List Guess)) (n p : ℕ) (o o₁ o₂ o₃ : List ℕ) (at i r : ℕ) → Put o o₁ at i (countBytes 0) → GuessesTold x o₁ i (Done n p) o₂ → n ≤ 4096
+counted-done : (x : Loading (List Guess)) (n p : ℕ) (o o₁ o₂ o₃ : List ℕ) (at i r : ℕ) → Put o o₁ at i (countBytes 0) → GuessesWritten x o₁ i (Done n p) o₂ → n ≤ 4096
     → Put o₂ o₃ at r (countBytes n) → WrittenIs guessesBytes (andLoad x countedGuesses) o o₃ at (wrote.Done p)
-unfolding GuessesTold andLoad countedGuesses WrittenIs guessesBytes countBytes
+unfolding GuessesWritten andLoad countedGuesses WrittenIs guessesBytes countBytes
 counted-done (fine gs) n p o o₁ o₂ o₃ at i r c (q, e, w) h d =
     let size : n ≡ length gs = cc in
     let same : q ≡ p = cc in
     rw (pick-true _ (fine gs) (notLoaded TooMuch 0 0) (le-leb (length gs) 4096 (omega arith))) (p, refl, put-over c (rw same at w) (rw size at d) refl)
 counted-done (notLoaded c l f) n p o o₁ o₂ o₃ at i r x e h d = clash (cc)
 
-counted-many : (x : Loading (List Guess)) (n p : ℕ) (o o₁ o₂ : List ℕ) (at i : ℕ) → GuessesTold x o₁ i (Done n p) o₂ → 4096 < n → WrittenIs guessesBytes (andLoad x countedGuesses) o o₂ at (wrote.Refused TooMuch 0 0)
-unfolding GuessesTold andLoad countedGuesses WrittenIs
+counted-many : (x : Loading (List Guess)) (n p : ℕ) (o o₁ o₂ : List ℕ) (at i : ℕ) → GuessesWritten x o₁ i (Done n p) o₂ → 4096 < n → WrittenIs guessesBytes (andLoad x countedGuesses) o o₂ at (wrote.Refused TooMuch 0 0)
+unfolding GuessesWritten andLoad countedGuesses WrittenIs
 counted-many (fine gs) n p o o₁ o₂ at i (q, e, w) h =
     let size : n ≡ length gs = cc in
     rw (pick-false _ (fine gs) (notLoaded TooMuch 0 0) (lt-leb (length gs) 4096 (omega arith))) refl
 counted-many (notLoaded c l f) n p o o₁ o₂ at i e h = clash (cc)
 
-counted-refused : (x : Loading (List Guess)) (o o₁ o₂ : List ℕ) (at i : ℕ) (c : Refusal) (l f : ℕ) → GuessesTold x o₁ i (Refused c l f) o₂ → WrittenIs guessesBytes (andLoad x countedGuesses) o o₂ at (wrote.Refused c l f)
-unfolding GuessesTold andLoad WrittenIs
+counted-refused : (x : Loading (List Guess)) (o o₁ o₂ : List ℕ) (at i : ℕ) (c : Refusal) (l f : ℕ) → GuessesWritten x o₁ i (Refused c l f) o₂ → WrittenIs guessesBytes (andLoad x countedGuesses) o o₂ at (wrote.Refused c l f)
+unfolding GuessesWritten andLoad WrittenIs
 counted-refused (fine gs) o o₁ o₂ at i c l f (q, e, w) = clash (cc)
 counted-refused (notLoaded d m g) o o₁ o₂ at i c l f e = cc
 
@@ -144,7 +144,7 @@ module _ (kind : NameType) (s : List ℕ) (x : FileAt) (e : fileNumbers x ≡ fi
       unfolding guessFile onListed guessesOf
       is-file = rw (found-is s _ x e k a b q) refl
 
-      told : (y : Guessed) → g ≡ y → GuessesTold inFile o₁ i y o₂
+      told : (y : Guessed) → g ≡ y → GuessesWritten inFile o₁ i y o₂
       unfolding GuessesAre
       told y z = rw z at w
 

@@ -7,7 +7,7 @@ use native.Mathlib.Numerals.{add-one}
 use native.Mathlib.Nat.{add-sub-cancel-left}
 use native.Mathlib.Omega.{arith}
 use lib.Dec.{eqb, leb}
-use lib.ListN.{length, getD, take, drop, drop-of-length-le, length-drop, List·getD-eq-default}
+use lib.ListN.{length, getD, take, drop, drop-of-length-le, length-drop}
 use lib.Seq.{drop-cons, take-all, take-nil}
 use borrow.Author.Tests.{lt-ltb, le-ltb, eq-eqb, ne-eqb}
 use Rattle.base.specs.Pick.{pick}
@@ -41,9 +41,6 @@ module _ (k : Kind) (b : ℕ) (x : Bool) where
   is-not-lf e p = p ∙ rw e refl
 
 pub ruleset kinds = (is-blank, is-not-blank, is-not-quote, is-not-lf)
-
-pub byte-past : (s : List ℕ) (i : ℕ) → length s ≤ i → 0 ≡ getD s i 0
-byte-past s i h = sym (List·getD-eq-default s 0 h)
 
 -- a test of what a call returned
 pub eqb-by : (x y b : ℕ) → x ≡ y → eqb x b ≡ eqb y b

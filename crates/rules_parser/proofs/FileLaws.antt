@@ -17,7 +17,7 @@ use specs.Files.{countedOf, closeIn, closeAt, textEnd, nextLine, restBlank, onCl
 use specs.declared.fields.Kind.{Kind}
 use specs.declared.fields.Kind.the-variants.{Blank as blanks, NotLf}
 use specs.declared.lines.FileKind.{FileKind}
-use specs.declared.lines.Told.{Told}
+use specs.declared.lines.Clause.{Clause}
 use specs.declared.lines.Line.{Line}
 use specs.declared.lines.Line.the-variants as line
 use specs.declared.files.Close.{Close}
@@ -153,7 +153,7 @@ module _ (k : FileKind) (s : List ℕ) (p e : ℕ) (r : Line) (l : p < length s)
   unfolding onLine
   item-opens x f h = h ∙ sym (item-by ∙ rw f refl)
 
-  pub item-tells : (t : Told) (m : ℕ) → r ≡ line.Tells t → m ≡ nextLine s p → Tells t m ≡ itemAt k s p
+  pub item-tells : (t : Clause) (m : ℕ) → r ≡ line.Tells t → m ≡ nextLine s p → Tells t m ≡ itemAt k s p
   unfolding onLine
   item-tells t m f h = sym (item-by ∙ rw (f, h) refl)
 

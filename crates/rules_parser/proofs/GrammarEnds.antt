@@ -14,10 +14,10 @@ use Rattle.rules_parser.specs as specs
 use specs.Fields.{passesOf, spanEnd, pairAt}
 use specs.Files.{countedOf, closeIn, textEnd, nextLine, restBlank}
 use specs.Grammar.{Every, Other, Blanks, FirstLine, at-end, at-lf, at-cr-lf, Unclosed, lineEnds}
-use Rattle.rules_parser.proofs as laws
-use laws.FileLaws.{close-step, next-more, next-none, text-cr, text-lf, text-empty, text-last}
-use laws.Ahead.{pick-where}
-use laws.GrammarFields.{Of, Stops, split, spanned, span-is, span-least, place-in, place-more, byte-is, next-is, pair-is, pair-told}
+use Rattle.rules_parser.proofs as own
+use own.FileLaws.{close-step, next-more, next-none, text-cr, text-lf, text-empty, text-last}
+use own.Ahead.{pick-where}
+use own.GrammarFields.{Of, Stops, split, spanned, span-is, span-least, place-in, place-more, byte-is, next-is, pair-is, pair-told}
 use specs.declared.fields.Kind.the-variants.{Blank, NotLf}
 use specs.declared.files.Close.{Close}
 use specs.declared.files.Close.the-variants.{At, Open}

@@ -10,9 +10,9 @@ use borrow.Author.Tests.{ltb-true, ltb-false}
 use Rattle.rules_parser.specs as specs
 use specs.Files.{itemAt, itemsOf}
 use specs.Grammar.{FoundItem, wrong, foundOf, Begins, Reads, over, next, stop}
-use Rattle.rules_parser.proofs as laws
-use laws.Laws.{items-start, items-end, items-passed, items-tells, items-wrong, passed-goes, tells-goes}
-use laws.GrammarFields.{place-in, place-some}
+use Rattle.rules_parser.proofs as own
+use own.Laws.{items-start, items-end, items-passed, items-tells, items-wrong, passed-goes, tells-goes}
+use own.GrammarFields.{place-in, place-some}
 use specs.declared.lines.FileKind.{FileKind}
 use specs.declared.files.Item.{Item}
 use specs.declared.files.Item.the-variants.{Passed, Tells, Wrong}

@@ -11,11 +11,11 @@ use specs.Fields.{spanEnd}
 use specs.Lines.{lineAt}
 use specs.Files.{closeAt, nextLine, onClose, commentAt, onLine, itemAt}
 use specs.Grammar.{Every, Other, BlankByte, Blanks, OpeningLine, CommentLine, FirstLine, at-end, at-lf, at-cr-lf, Said, saidOf, FoundItem, passed, said, foundOf, Block, Begins, blank, comment, block, says, next}
-use Rattle.rules_parser.proofs as laws
-use laws.Ahead.{pick-where}
-use laws.GrammarFields.{Of, Stops, span-is, place-in, place-more, text-ends, plain}
-use laws.GrammarLaws.{Means, line-sound, Told-as, blank-complete, comment-complete, opening-complete, says-complete}
-use laws.GrammarEnds.{every-both, cut, lined, line-text, rest-complete, rest-sound, Closes, close-complete, close-sound}
+use Rattle.rules_parser.proofs as own
+use own.Ahead.{pick-where}
+use own.GrammarFields.{Of, Stops, span-is, place-in, place-more, text-ends, plain}
+use own.GrammarLaws.{Means, line-sound, Tells-as, blank-complete, comment-complete, opening-complete, says-complete}
+use own.GrammarEnds.{every-both, cut, lined, line-text, rest-complete, rest-sound, Closes, close-complete, close-sound}
 use specs.declared.fields.Kind.the-variants.{Blank as blanks}
 use specs.declared.lines.FileKind.{FileKind}
 use specs.declared.lines.Line.{Line}
@@ -97,7 +97,7 @@ module _ (k : FileKind) (s : List ℕ) (p : ℕ) (o : p < length s) (l left : Li
   unfolding onLine
   opening-item h = rw (item-line, opening-complete k upTo p (rw here h)) refl
 
-  says-item : (x : Said) → (Told-as (upTo ++ beyond) (lineAt k upTo p) x) → Item-as s (itemAt k s p) (said x) left
+  says-item : (x : Said) → (Tells-as (upTo ++ beyond) (lineAt k upTo p) x) → Item-as s (itemAt k s p) (said x) left
   unfolding onLine foundOf More
   says-item x w =
       let m : saidOf s (w .told) ≡ x = ap (λ (v : List ℕ). saidOf v (w .told)) (sym joined) ∙ w .same in

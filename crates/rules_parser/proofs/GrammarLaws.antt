@@ -26,8 +26,8 @@ use specs.declared.fields.Field.{Field}
 use specs.declared.fields.Field.the-variants.{Is, No}
 use specs.declared.lines.FileKind.{FileKind}
 use specs.declared.lines.FileKind.the-variants.{Languages, Guesses, Rules}
-use specs.declared.lines.Told.{Told}
-use specs.declared.lines.Told.the-variants.{Rule, Include, Guess, Name}
+use specs.declared.lines.Clause.{Clause}
+use specs.declared.lines.Clause.the-variants.{Rule, Include, Guess, Name}
 use specs.declared.lines.Line.{Line}
 use specs.declared.lines.Line.the-variants.{Blank, Comment, Opens, Tells, Bad}
 use Rattle.base.proofs.PickLaws.{pick-true, pick-false, and-yes, and-inv}
@@ -200,20 +200,20 @@ opening-complete k s p (x, y, e, h, (u, v, d, g, o)) =
     pick-false _ _ _ (lt-leb _ _ (w .0)) ∙ pick-false _ _ _ (not-both s _ _ refl (w .1)) ∙ pick-true _ _ _ (w .1)
 
 -- the line is told, and says x in the file f
-pub record Told-as (f : List ℕ) (l : Line) (x : Said) : Type 0 where
-  pub told : Told
+pub record Tells-as (f : List ℕ) (l : Line) (x : Said) : Type 0 where
+  pub told : Clause
   pub is : l ≡ Tells told
   pub same : saidOf f told ≡ x
 
 -- a field that stands there, and what is told behind it
 on-given : {f s w r : List ℕ} {x : Field} {y : Said} {c : Text → ℕ → Line} → Given s x w r
-    → ((t : Text) (q : ℕ) → partOf s t ≡ w → ((z : List ℕ) → partOf (s ++ z) t ≡ w) → drop q s ≡ r → Told-as f (c t q) y) → Told-as f (onField x c) y
+    → ((t : Text) (q : ℕ) → partOf s t ≡ w → ((z : List ℕ) → partOf (s ++ z) t ≡ w) → drop q s ≡ r → Tells-as f (c t q) y) → Tells-as f (onField x c) y
 unfolding onField
 on-given {c} g h =
     let m = h (g .part) (g .next) (g .here) (g .there) (g .place) in
     record { told = m .told; is = rw (g .is) (m .is); same = m .same }
 
-on-true : {f : List ℕ} {y : Said} {t : Bool} {a : Line} (b : Line) → t ≡ true → Told-as f a y → Told-as f (pick t a b) y
+on-true : {f : List ℕ} {y : Said} {t : Bool} {a : Line} (b : Line) → t ≡ true → Tells-as f a y → Tells-as f (pick t a b) y
 on-true b e m = record { told = m .told; is = pick-true _ _ _ e ∙ m .is; same = m .same }
 
 text-good : (s : List ℕ) (t : Text) (w : List ℕ) → partOf s t ≡ w → Printable w → textAt s t ≡ true
@@ -222,7 +222,7 @@ text-good s t w e h = rw e h
 
 module _ (s z : List ℕ) (q : ℕ) (y : List ℕ) (d : drop q s ≡ y) where
   four-complete : (p l r e : List ℕ) → (TextString p ⨾ Gap ⨾ TextString l ⨾ Gap ⨾ TextString r ⨾ Gap ⨾ TextString e ⨾ λ t. Blanks t ⊎ CommentLine t) y
-      → Told-as (s ++ z) (fourAt s q) (rule p l r e)
+      → Tells-as (s ++ z) (fourAt s q) (rule p l r e)
   unfolding fourAt lastTwo ruleTold saidOf Written Follows
   four-complete p l r e (x₁, y₁, d₁, (h₁, t₁), (g₂, w₂, f₂, k₂, (x₂, y₂, d₂, (h₂, t₂), (g₃, w₃, f₃, k₃, (x₃, y₃, d₃, (h₃, t₃), (g₄, w₄, f₄, k₄, (x₄, y₄, d₄, (h₄, t₄), o))))))) =
       on-given (field-given Quoted s q p x₁ y₁ (d ∙ d₁) h₁ tt) λ a₁ q₁ i₁ j₁ n₁.
@@ -233,25 +233,25 @@ module _ (s z : List ℕ) (q : ℕ) (y : List ℕ) (d : drop q s ≡ y) where
       (on-true _ (and-yes _ _ (text-good s a₁ _ i₁ t₁) (and-yes _ _ (text-good s a₂ _ i₂ t₂) (and-yes _ _ (text-good s a₃ _ i₃ t₃) (text-good s a₄ _ i₄ t₄))))
       (record { told = Rule a₁ a₂ a₃ a₄; is = refl; same = rw (j₁ z, j₂ z, j₃ z, j₄ z) refl }))
 
-  include-complete : (n : List ℕ) → (Just includeWord ⨾ Gap ⨾ Word n ⨾ Blanks) y → Told-as (s ++ z) (includeAt s (q + 8)) (include n)
+  include-complete : (n : List ℕ) → (Just includeWord ⨾ Gap ⨾ Word n ⨾ Blanks) y → Tells-as (s ++ z) (includeAt s (q + 8)) (include n)
   unfolding includeAt saidOf Written
   include-complete n (x₁, y₁, d₁, h₁, (g₂, w₂, f₂, k₂, (x₂, y₂, d₂, h₂, o))) =
       let m : drop (q + 8) s ≡ y₁ = place-more s q includeWord y₁ (d ∙ d₁ ∙ ap (λ (l : List ℕ). l ++ y₁) h₁) in
       on-given (parted-given Plain s (q + 8) g₂ w₂ n x₂ y₂ (m ∙ f₂) k₂ d₂ h₂ (blanks-follow y₂ o)) λ a₁ q₁ i₁ j₁ n₁.
       on-true _ (ends-is s q₁ (rw n₁ o)) (record { told = Include a₁; is = refl; same = rw (j₁ z) refl })
 
-  name-complete : (n : List ℕ) → languageName n ≡ true → (Word n ⨾ Blanks) y → Told-as (s ++ z) (nameAt s q) (name n)
+  name-complete : (n : List ℕ) → languageName n ≡ true → (Word n ⨾ Blanks) y → Tells-as (s ++ z) (nameAt s q) (name n)
   unfolding nameAt nameTold saidOf Written
   name-complete n h (x₁, y₁, d₁, h₁, o) =
       on-given (field-given Plain s q n x₁ y₁ (d ∙ d₁) h₁ (blanks-follow y₁ o)) λ a₁ q₁ i₁ j₁ n₁.
       on-true _ (ends-is s q₁ (rw n₁ o)) (on-true _ (rw i₁ h) (record { told = Name a₁; is = refl; same = rw (j₁ z) refl }))
 
-  accepted : (v : Bool) (f : List ℕ) (a b c : Text) (m : Said) → partOf s c ≡ verdict v → Told-as f (guessTold s a b v) m → Told-as f (acceptTold s a b c) m
+  accepted : (v : Bool) (f : List ℕ) (a b c : Text) (m : Said) → partOf s c ≡ verdict v → Tells-as f (guessTold s a b v) m → Tells-as f (acceptTold s a b c) m
   unfolding acceptTold sameText pick and
   accepted true f a b c m e w = rw e w
   accepted false f a b c m e w = rw e w
 
-  guess-complete : (p n : List ℕ) (v : Bool) → (TextWord p ⨾ Gap ⨾ TextWord n ⨾ Gap ⨾ Word (verdict v) ⨾ Blanks) y → Told-as (s ++ z) (guessAt s q) (guess p n v)
+  guess-complete : (p n : List ℕ) (v : Bool) → (TextWord p ⨾ Gap ⨾ TextWord n ⨾ Gap ⨾ Word (verdict v) ⨾ Blanks) y → Tells-as (s ++ z) (guessAt s q) (guess p n v)
   unfolding guessAt guessEnd guessTold saidOf Written
   guess-complete p n v (x₁, y₁, d₁, (h₁, t₁), (g₂, w₂, f₂, k₂, (x₂, y₂, d₂, (h₂, t₂), (g₃, w₃, f₃, k₃, (x₃, y₃, d₃, h₃, o))))) =
       on-given (field-given Plain s q p x₁ y₁ (d ∙ d₁) h₁ (gap-follows g₂ w₂ y₁ f₂ k₂)) λ a₁ q₁ i₁ j₁ n₁.
@@ -273,7 +273,7 @@ told-other k s p x c y e h n o =
     let d = place-more s p x (c ∷ y) e in
     told-at k s p x c y e h n (pair-not s (p + length x) 47 47 c y d o) (pair-not s (p + length x) 47 42 c y d o)
 
-told-by : {f : List ℕ} {l m : Line} {x : Said} → l ≡ m → Told-as f m x → Told-as f l x
+told-by : {f : List ℕ} {l m : Line} {x : Said} → l ≡ m → Tells-as f m x → Tells-as f l x
 told-by e w = record { told = w .told; is = e ∙ w .is; same = w .same }
 
 -- a name begins with a letter
@@ -288,7 +288,7 @@ name-first c w h e =
     false≢true (sym (slash-name w) ∙ and-inv _ _ (and-inv _ _ g .1) .1)
 
 module _ (s z : List ℕ) (p : ℕ) where
-  rule-complete : (a l r e : List ℕ) → RuleLine a l r e (drop p s) → Told-as (s ++ z) (lineAt Rules s p) (rule a l r e)
+  rule-complete : (a l r e : List ℕ) → RuleLine a l r e (drop p s) → Tells-as (s ++ z) (lineAt Rules s p) (rule a l r e)
   unfolding toldAt ruleAt prefixOf and
   rule-complete a l r e (x, y, d, h, (x₁, y₁, d₁, (h₁, t₁), o)) =
       let v : List ℕ = (a ++ 34 ∷ []) ++ y₁ in
@@ -298,7 +298,7 @@ module _ (s z : List ℕ) (p : ℕ) where
       told-by (told-other Rules s p x 34 v (d ∙ ap (λ (v : List ℕ). x ++ v) m) h (plain 34 (omega arith)) (λ n. omega arith) ∙ pick-false _ _ _ (lt-leb _ _ (place-in s _ 34 v (j ∙ m))) ∙ pick-false _ _ _ f)
       (four-complete s z (p + length x) y j a l r e (x₁, y₁, d₁, (h₁, t₁), o))
 
-  include-said : (n : List ℕ) → IncludeLine n (drop p s) → Told-as (s ++ z) (lineAt Rules s p) (include n)
+  include-said : (n : List ℕ) → IncludeLine n (drop p s) → Tells-as (s ++ z) (lineAt Rules s p) (include n)
   unfolding toldAt ruleAt prefixOf and
   include-said n (x, y, d, h, (x₁, y₁, d₁, h₁, o)) =
       let m : y ≡ includeWord ++ y₁ = d₁ ∙ ap (λ (v : List ℕ). v ++ y₁) h₁ in
@@ -308,7 +308,7 @@ module _ (s z : List ℕ) (p : ℕ) where
       told-by (told-other Rules s p x 35 v (d ∙ ap (λ (v : List ℕ). x ++ v) m) h (plain 35 (omega arith)) (λ n. omega arith) ∙ pick-false _ _ _ (lt-leb _ _ (place-in s _ 35 v (j ∙ m))) ∙ pick-true _ _ _ f)
       (include-complete s z (p + length x) y j n (x₁, y₁, d₁, h₁, o))
 
-  name-said : (n : List ℕ) → NameLine n (drop p s) → languageName n ≡ true → Told-as (s ++ z) (lineAt Languages s p) (name n)
+  name-said : (n : List ℕ) → NameLine n (drop p s) → languageName n ≡ true → Tells-as (s ++ z) (lineAt Languages s p) (name n)
   unfolding toldAt Every
   name-said [] (x, y, d, h, (x₁, y₁, d₁, h₁, o)) g = absurd (h₁ .1 refl)
   name-said (c ∷ n) (x, y, d, h, (x₁, y₁, d₁, h₁, o)) g =
@@ -323,7 +323,7 @@ module _ (s z : List ℕ) (p : ℕ) where
   unpaired a b x c y l d h n true e =
       absurd (n (x, c ∷ y, d, h, (a ∷ b ∷ [], drop (p + length x + 2) s, sym (place-more s p x (c ∷ y) d) ∙ pair-told s (p + length x) a b l e, refl, tt)))
 
-  guess-said : (a n : List ℕ) (v : Bool) → GuessLine a n v (drop p s) → (CommentLine (drop p s) → ⊥) → (OpeningLine (drop p s) → ⊥) → Told-as (s ++ z) (lineAt Guesses s p) (guess a n v)
+  guess-said : (a n : List ℕ) (v : Bool) → GuessLine a n v (drop p s) → (CommentLine (drop p s) → ⊥) → (OpeningLine (drop p s) → ⊥) → Tells-as (s ++ z) (lineAt Guesses s p) (guess a n v)
   unfolding toldAt Every
   guess-said [] n v (x, y, d, h, (x₁, y₁, d₁, (h₁, t₁), o)) f g = absurd (h₁ .1 refl)
   guess-said (c ∷ a) n v (x, y, d, h, (x₁, y₁, d₁, (h₁, t₁), o)) f g =
@@ -333,7 +333,7 @@ module _ (s z : List ℕ) (p : ℕ) where
       (guess-complete s z (p + length x) y (place-more s p x y d) (c ∷ a) n v (x₁, y₁, d₁, (h₁, t₁), o))
 
 -- what the grammar says of a line is told so; z is what follows it in its file
-pub says-complete : {k : FileKind} (s z : List ℕ) (p : ℕ) (l : List ℕ) {x : Said} → drop p s ≡ l → LineSays k l x → Told-as (s ++ z) (lineAt k s p) x
+pub says-complete : {k : FileKind} (s z : List ℕ) (p : ℕ) (l : List ℕ) {x : Said} → drop p s ≡ l → LineSays k l x → Tells-as (s ++ z) (lineAt k s p) x
 says-complete s z p l e (is-rule w) = rule-complete s z p _ _ _ _ (rw e w)
 says-complete s z p l e (is-include w) = include-said s z p _ (rw e w)
 says-complete s z p l e (is-guess w f g) = guess-said s z p _ _ _ (rw e w) (rw e f) (rw e g)
@@ -342,8 +342,8 @@ says-complete s z p l e (is-name w h) = name-said s z p _ (rw e w) h
 -- a line says one thing
 pub one-saying : (k : FileKind) (l : List ℕ) (x y : Said) → LineSays k l x → LineSays k l y → x ≡ y
 one-saying k l x y v w =
-    let a : Told-as (l ++ []) (lineAt k l 0) x = says-complete l [] 0 l refl v in
-    let b : Told-as (l ++ []) (lineAt k l 0) y = says-complete l [] 0 l refl w in
+    let a : Tells-as (l ++ []) (lineAt k l 0) x = says-complete l [] 0 l refl v in
+    let b : Tells-as (l ++ []) (lineAt k l 0) y = says-complete l [] 0 l refl w in
     let e : Tells (a .told) ≡ Tells (b .told) = sym (a .is) ∙ b .is in
     let f : a .told ≡ b .told = cc in
     sym (a .same) ∙ ap (saidOf (l ++ [])) f ∙ b .same

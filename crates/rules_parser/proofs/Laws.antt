@@ -17,8 +17,8 @@ use Rattle.rules_parser.specs.Grammar.{saidOf}
 use specs.declared.fields.Text.{Text}
 use specs.declared.lines.FileKind.{FileKind}
 use specs.declared.lines.FileKind.the-variants.{Languages, Guesses, Rules}
-use specs.declared.lines.Told.{Told}
-use specs.declared.lines.Told.the-variants.{Rule, Guess, Name}
+use specs.declared.lines.Clause.{Clause}
+use specs.declared.lines.Clause.the-variants.{Rule, Guess, Name}
 use specs.declared.files.Item.{Item}
 use specs.declared.files.Item.the-variants.{Passed, Tells, Wrong}
 use Rattle.base.proofs.PickLaws.{pick-true, pick-false, pick-cong}
@@ -43,7 +43,7 @@ module _ (k : FileKind) (s : List ℕ) (p l n : ℕ) (e : itemAt k s p ≡ Passe
   pub passed-lines : l ≤ n - p
   passed-lines = omega (arith, passed .3)
 
-module _ (k : FileKind) (s : List ℕ) (p : ℕ) (t : Told) (n : ℕ) (e : itemAt k s p ≡ Tells t n) where
+module _ (k : FileKind) (s : List ℕ) (p : ℕ) (t : Clause) (n : ℕ) (e : itemAt k s p ≡ Tells t n) where
   tells : (p < n) × (n ≤ length s)
   unfolding Ahead
   tells = subst (Ahead s p) e (item-ahead k s p)
@@ -94,7 +94,7 @@ items-passed k s p l n e =
     let b = passed-in k s p l n e in
     items-here k s p (omega arith) ∙ rw e (ap (λ (r : List Item). Passed l n ∷ r) (same-items _ _ k s n (omega arith) (omega arith)))
 
-pub items-tells : (k : FileKind) (s : List ℕ) (p : ℕ) (t : Told) (n : ℕ) → itemAt k s p ≡ Tells t n → itemsAt k s p ≡ Tells t n ∷ itemsAt k s n
+pub items-tells : (k : FileKind) (s : List ℕ) (p : ℕ) (t : Clause) (n : ℕ) → itemAt k s p ≡ Tells t n → itemsAt k s p ≡ Tells t n ∷ itemsAt k s n
 unfolding onNext
 items-tells k s p t n e =
     let a = tells-goes k s p t n e in
@@ -109,7 +109,7 @@ pub ruleset reading = (items-start, items-end, items-passed, items-tells, items-
 
 -- ---- what a told line guarantees
 
-good : (k : FileKind) (s : List ℕ) (p : ℕ) (t : Told) (n : ℕ) → itemAt k s p ≡ Tells t n → Good (saidOf s t)
+good : (k : FileKind) (s : List ℕ) (p : ℕ) (t : Clause) (n : ℕ) → itemAt k s p ≡ Tells t n → Good (saidOf s t)
 good k s p t n e = told-good k s p t n (omega (arith, tells-goes k s p t n e, tells-in k s p t n e)) e
 
 module _ (s : List ℕ) (p : ℕ) (a b c d : Text) (n : ℕ) (e : itemAt Rules s p ≡ Tells (Rule a b c d) n) where

@@ -21,7 +21,7 @@ use specs.declared.fields.Field.{Field}
 use specs.declared.fields.Field.the-variants.{Is, No}
 use specs.declared.lines.FileKind.{FileKind}
 use specs.declared.lines.FileKind.the-variants.{Languages, Guesses, Rules}
-use specs.declared.lines.Told.the-variants.{Name}
+use specs.declared.lines.Clause.the-variants.{Name}
 use specs.declared.lines.Line.{Line}
 use specs.declared.lines.Line.the-variants.{Blank, Comment, Opens, Tells, Bad}
 use Rattle.base.proofs.PickLaws.{pick-true, pick-false}

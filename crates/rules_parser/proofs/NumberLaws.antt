@@ -8,7 +8,7 @@ use lib.ListN.{getD}
 use Rattle.rules_parser.specs as specs
 use specs.Numbers.{acceptNumber, toldNumbers, itemNumbers}
 use specs.declared.fields.Text.{Text}
-use specs.declared.lines.Told.the-variants.{Rule, Include, Guess, Name}
+use specs.declared.lines.Clause.the-variants.{Rule, Include, Guess, Name}
 use specs.declared.files.Item.{Item}
 use specs.declared.files.Item.the-variants.{Passed, Tells, Wrong}
 

@@ -11,7 +11,7 @@ use specs.Files.{itemAt}
 use specs.Grammar.{Said, rule, include, guess, name, Printable, LineSays, is-rule, is-include, is-guess, is-name, FoundItem, said, Begins, blank, comment, block, says, saidOf}
 use Rattle.rules_parser.proofs.GrammarItems.{Begun, item-sound}
 use specs.declared.lines.FileKind.{FileKind}
-use specs.declared.lines.Told.{Told}
+use specs.declared.lines.Clause.{Clause}
 use specs.declared.files.Item.the-variants.{Tells}
 
 unfoldable pub Good : Said → Type 0
@@ -34,6 +34,6 @@ begins-good x (comment f h) e = clash (cc)
 begins-good x (block b) e = clash (cc)
 begins-good x (says {x = z} f h) e = let same : z ≡ x = cc in rw (← same) (line-good h)
 
-pub told-good : (k : FileKind) (s : List ℕ) (p : ℕ) (t : Told) (n : ℕ) → p < length s → itemAt k s p ≡ Tells t n → Good (saidOf s t)
+pub told-good : (k : FileKind) (s : List ℕ) (p : ℕ) (t : Clause) (n : ℕ) → p < length s → itemAt k s p ≡ Tells t n → Good (saidOf s t)
 unfolding Begun
 told-good k s p t n h e = begins-good (saidOf s t) (rw e at (item-sound k s p h)) refl

@@ -1,8 +1,9 @@
 use Rattle.languages.proofs.NumberLaws.{listed-one}
-use Rattle.loader.proofs.GuessLaws.{judge-laws}
+use Rattle.loader.proofs as own
+use own.GuessLaws.{judge-laws}
 use borrow.Author.Needs.{needs}
-use Rattle.loader.proofs.guesses.judge.Statement.{statement}
-use Rattle.loader.proofs.guesses.judge.Tie as tie
+use own.guesses.judge.Statement.{statement}
+use own.guesses.judge.Tie as tie
 
 pub judge-spec : {M : Type 1} → statement M
 judge-spec =

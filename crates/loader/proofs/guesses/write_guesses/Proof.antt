@@ -1,8 +1,9 @@
 use Prim.Native.Nat.{_-_}
 use lib.ListN.{length}
-use Rattle.loader.proofs.GuessLaws.{Writing, writing-laws}
-use Rattle.loader.proofs.guesses.write_guesses.Statement.{statement}
-use Rattle.loader.proofs.guesses.write_guesses.Tie as tie
+use Rattle.loader.proofs as own
+use own.GuessLaws.{Writing, writing-laws}
+use own.guesses.write_guesses.Statement.{statement}
+use own.guesses.write_guesses.Tie as tie
 
 abbrev Inv-loop : tie.InvT-loop
 Inv-loop s file names out₀ at place₀ count₀ p₀ line₀ out place count p line = Writing names s file out₀ at out place count p line

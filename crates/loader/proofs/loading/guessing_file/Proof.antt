@@ -1,7 +1,8 @@
-use Rattle.loader.proofs.PartLaws.{file-laws}
+use Rattle.loader.proofs as own
+use own.PartLaws.{file-laws}
 use borrow.Author.Needs.{needs}
-use Rattle.loader.proofs.loading.guessing_file.Statement.{statement}
-use Rattle.loader.proofs.loading.guessing_file.Tie as tie
+use own.loading.guessing_file.Statement.{statement}
+use own.loading.guessing_file.Tie as tie
 
 pub guessing-file-spec : {M : Type 1} → statement M
 guessing-file-spec =

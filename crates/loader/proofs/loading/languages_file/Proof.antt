@@ -1,7 +1,8 @@
-use Rattle.loader.proofs.PartLaws.{file-laws}
+use Rattle.loader.proofs as own
+use own.PartLaws.{file-laws}
 use borrow.Author.Needs.{needs}
-use Rattle.loader.proofs.loading.languages_file.Statement.{statement}
-use Rattle.loader.proofs.loading.languages_file.Tie as tie
+use own.loading.languages_file.Statement.{statement}
+use own.loading.languages_file.Tie as tie
 
 pub languages-file-spec : {M : Type 1} → statement M
 languages-file-spec =

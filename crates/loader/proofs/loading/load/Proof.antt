@@ -1,7 +1,8 @@
 use borrow.Author.Needs.{needs}
-use Rattle.loader.proofs.LoadingLaws.{loading}
-use Rattle.loader.proofs.loading.load.Statement.{statement}
-use Rattle.loader.proofs.loading.load.Tie as tie
+use Rattle.loader.proofs as own
+use own.LoadingLaws.{loading}
+use own.loading.load.Statement.{statement}
+use own.loading.load.Tie as tie
 use Rattle.base.proofs.PickLaws.{tests}
 
 pub load-spec : {M : Type 1} → statement M

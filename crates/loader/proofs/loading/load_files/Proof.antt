@@ -1,6 +1,7 @@
-use Rattle.loader.proofs.LoadingLaws.{file-laws}
-use Rattle.loader.proofs.loading.load_files.Statement.{statement}
-use Rattle.loader.proofs.loading.load_files.Tie as tie
+use Rattle.loader.proofs as own
+use own.LoadingLaws.{file-laws}
+use own.loading.load_files.Statement.{statement}
+use own.loading.load_files.Tie as tie
 
 pub load-files-spec : {M : Type 1} → statement M
 load-files-spec =

@@ -1,6 +1,7 @@
-use Rattle.loader.proofs.PartLaws.{load-laws}
-use Rattle.loader.proofs.loading.load_guesses.Statement.{statement}
-use Rattle.loader.proofs.loading.load_guesses.Tie as tie
+use Rattle.loader.proofs as own
+use own.PartLaws.{load-laws}
+use own.loading.load_guesses.Statement.{statement}
+use own.loading.load_guesses.Tie as tie
 
 pub load-guesses-spec : {M : Type 1} → statement M
 load-guesses-spec =

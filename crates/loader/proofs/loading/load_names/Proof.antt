@@ -1,7 +1,8 @@
 use borrow.Author.Needs.{needs}
-use Rattle.loader.proofs.LoadingLaws.{names-laws}
-use Rattle.loader.proofs.loading.load_names.Statement.{statement}
-use Rattle.loader.proofs.loading.load_names.Tie as tie
+use Rattle.loader.proofs as own
+use own.LoadingLaws.{names-laws}
+use own.loading.load_names.Statement.{statement}
+use own.loading.load_names.Tie as tie
 
 pub load-names-spec : {M : Type 1} → statement M
 load-names-spec =

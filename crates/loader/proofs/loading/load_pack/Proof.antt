@@ -1,6 +1,7 @@
-use Rattle.loader.proofs.LoadingLaws.{answer-laws}
-use Rattle.loader.proofs.loading.load_pack.Statement.{statement}
-use Rattle.loader.proofs.loading.load_pack.Tie as tie
+use Rattle.loader.proofs as own
+use own.LoadingLaws.{answer-laws}
+use own.loading.load_pack.Statement.{statement}
+use own.loading.load_pack.Tie as tie
 
 pub load-pack-spec : {M : Type 1} → statement M
 load-pack-spec =

@@ -1,6 +1,7 @@
-use Rattle.loader.proofs.LoadingLaws.{pack-laws}
-use Rattle.loader.proofs.loading.write_pack.Statement.{statement}
-use Rattle.loader.proofs.loading.write_pack.Tie as tie
+use Rattle.loader.proofs as own
+use own.LoadingLaws.{pack-laws}
+use own.loading.write_pack.Statement.{statement}
+use own.loading.write_pack.Tie as tie
 
 pub write-pack-spec : {M : Type 1} → statement M
 write-pack-spec =

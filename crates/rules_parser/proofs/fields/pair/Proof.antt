@@ -1,8 +1,9 @@
 use Rattle.rules_parser.specs.Fields.{pairAt}
-use Rattle.rules_parser.proofs.FieldLaws.{eqb-by}
+use Rattle.rules_parser.proofs as own
+use own.FieldLaws.{eqb-by}
 use borrow.Author.Needs.{needs}
-use Rattle.rules_parser.proofs.fields.pair.Statement.{statement}
-use Rattle.rules_parser.proofs.fields.pair.Tie as tie
+use own.fields.pair.Statement.{statement}
+use own.fields.pair.Tie as tie
 use Rattle.base.proofs.PickLaws.{cases}
 
 pub pair-spec : {M : Type 1} → statement M

@@ -1,7 +1,8 @@
 use Rattle.rules_parser.specs.Files.{countedOf}
 use borrow.Author.Needs.{needs}
-use Rattle.rules_parser.proofs.files.counted.Statement.{statement}
-use Rattle.rules_parser.proofs.files.counted.Tie as tie
+use Rattle.rules_parser.proofs as own
+use own.files.counted.Statement.{statement}
+use own.files.counted.Tie as tie
 use Rattle.base.proofs.PickLaws.{cases}
 
 pub counted-spec : {M : Type 1} → statement M

@@ -1,8 +1,9 @@
 use Rattle.rules_parser.specs.Lines.{fourAt}
-use Rattle.rules_parser.proofs.LineLaws.{in-order}
+use Rattle.rules_parser.proofs as own
+use own.LineLaws.{in-order}
 use borrow.Author.Needs.{needs}
-use Rattle.rules_parser.proofs.lines.four.Statement.{statement}
-use Rattle.rules_parser.proofs.lines.four.Tie as tie
+use own.lines.four.Statement.{statement}
+use own.lines.four.Tie as tie
 use Rattle.base.proofs.PickLaws.{cases}
 
 pub four-spec : {M : Type 1} → statement M

@@ -1,8 +1,9 @@
 use Rattle.rules_parser.specs.Lines.{guessEnd}
-use Rattle.rules_parser.proofs.LineLaws.{in-order}
+use Rattle.rules_parser.proofs as own
+use own.LineLaws.{in-order}
 use borrow.Author.Needs.{needs}
-use Rattle.rules_parser.proofs.lines.guess_end.Statement.{statement}
-use Rattle.rules_parser.proofs.lines.guess_end.Tie as tie
+use own.lines.guess_end.Statement.{statement}
+use own.lines.guess_end.Tie as tie
 use Rattle.base.proofs.PickLaws.{cases}
 
 pub guess-end-spec : {M : Type 1} → statement M

@@ -1,7 +1,8 @@
 use Rattle.rules_parser.specs.Lines.{guessTold}
 use borrow.Author.Needs.{needs}
-use Rattle.rules_parser.proofs.lines.guess_told.Statement.{statement}
-use Rattle.rules_parser.proofs.lines.guess_told.Tie as tie
+use Rattle.rules_parser.proofs as own
+use own.lines.guess_told.Statement.{statement}
+use own.lines.guess_told.Tie as tie
 use Rattle.base.proofs.PickLaws.{cases}
 
 pub guess-told-spec : {M : Type 1} → statement M

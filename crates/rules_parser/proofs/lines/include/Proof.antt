@@ -1,8 +1,9 @@
 use Rattle.rules_parser.specs.Lines.{includeAt}
-use Rattle.rules_parser.proofs.LineLaws.{in-order}
+use Rattle.rules_parser.proofs as own
+use own.LineLaws.{in-order}
 use borrow.Author.Needs.{needs}
-use Rattle.rules_parser.proofs.lines.include.Statement.{statement}
-use Rattle.rules_parser.proofs.lines.include.Tie as tie
+use own.lines.include.Statement.{statement}
+use own.lines.include.Tie as tie
 use Rattle.base.proofs.PickLaws.{cases}
 
 pub include-spec : {M : Type 1} → statement M

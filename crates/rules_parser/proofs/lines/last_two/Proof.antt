@@ -1,8 +1,9 @@
 use Rattle.rules_parser.specs.Lines.{lastTwo}
-use Rattle.rules_parser.proofs.LineLaws.{in-order}
+use Rattle.rules_parser.proofs as own
+use own.LineLaws.{in-order}
 use borrow.Author.Needs.{needs}
-use Rattle.rules_parser.proofs.lines.last_two.Statement.{statement}
-use Rattle.rules_parser.proofs.lines.last_two.Tie as tie
+use own.lines.last_two.Statement.{statement}
+use own.lines.last_two.Tie as tie
 use Rattle.base.proofs.PickLaws.{cases}
 
 pub last-two-spec : {M : Type 1} → statement M

@@ -1,8 +1,9 @@
 use Rattle.rules_parser.specs.Lines.{nameAt}
-use Rattle.rules_parser.proofs.LineLaws.{in-order}
+use Rattle.rules_parser.proofs as own
+use own.LineLaws.{in-order}
 use borrow.Author.Needs.{needs}
-use Rattle.rules_parser.proofs.lines.name_line.Statement.{statement}
-use Rattle.rules_parser.proofs.lines.name_line.Tie as tie
+use own.lines.name_line.Statement.{statement}
+use own.lines.name_line.Tie as tie
 use Rattle.base.proofs.PickLaws.{cases}
 
 pub name-line-spec : {M : Type 1} → statement M

@@ -1,7 +1,8 @@
 use Rattle.rules_parser.specs.Lines.{ruleTold}
 use borrow.Author.Needs.{needs}
-use Rattle.rules_parser.proofs.lines.rule_told.Statement.{statement}
-use Rattle.rules_parser.proofs.lines.rule_told.Tie as tie
+use Rattle.rules_parser.proofs as own
+use own.lines.rule_told.Statement.{statement}
+use own.lines.rule_told.Tie as tie
 use Rattle.base.proofs.PickLaws.{pick-no, and-second, yes-by, no-by, cases}
 
 pub rule-told-spec : {M : Type 1} → statement M
