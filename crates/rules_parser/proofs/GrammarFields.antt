@@ -333,9 +333,9 @@ field-given Plain s p w x r e h g = word-given s p w r (e ∙ rw (h .0) refl) (h
 -- a field begins with no blank
 written-stops : (k : FieldKind) (w x r : List ℕ) → Written k w x → Stops Blank (x ++ r)
 unfolding Written Stops Every
-written-stops Quoted w x r h = rw (h .0) (text-ends 34 (plain 34 (omega arith)))
-written-stops Plain [] x r h = absurd (h .1 refl)
-written-stops Plain (b ∷ w) x r h = rw (h .0) (text-ends b (h .2 .0))
+written-stops Quoted w x r (e, h) = rw e (text-ends 34 (plain 34 (omega arith)))
+written-stops Plain [] x r (e, n, h) = absurd (n refl)
+written-stops Plain (b ∷ w) x r (e, n, h) = rw e (text-ends b (h .0))
 
 pub parted-given : (k : FieldKind) (s : List ℕ) (p : ℕ) (g y w x r : List ℕ) → drop p s ≡ g ++ y → Gap g → y ≡ x ++ r → Written k w x → Follows k r → Given s (partedAt k s p) w r
 unfolding partedAt Of
@@ -355,8 +355,8 @@ blanks-follow (b ∷ l) h = blank-ends b (h .0)
 
 pub gap-follows : (g y l : List ℕ) → l ≡ g ++ y → Gap g → Follows Plain l
 unfolding Follows Stops Every
-gap-follows [] y l e h = absurd (h .1 refl)
-gap-follows (b ∷ g) y l e h = rw e (blank-ends b (h .0 .0))
+gap-follows [] y l e (h, n) = absurd (n refl)
+gap-follows (b ∷ g) y l e (h, n) = rw e (blank-ends b (h .0))
 
 pub ends-in : (s : List ℕ) (p : ℕ) → Blanks (drop p s) → length s ≤ spanEnd Blank s p
 unfolding Of Stops

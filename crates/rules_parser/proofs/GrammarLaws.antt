@@ -310,11 +310,11 @@ module _ (s z : List ℕ) (p : ℕ) where
 
   name-said : (n : List ℕ) → NameLine n (drop p s) → languageName n ≡ true → Tells-as (s ++ z) (lineAt Languages s p) (name n)
   unfolding toldAt Every
-  name-said [] (x, y, d, h, (x₁, y₁, d₁, h₁, o)) g = absurd (h₁ .1 refl)
-  name-said (c ∷ n) (x, y, d, h, (x₁, y₁, d₁, h₁, o)) g =
-      let m : y ≡ c ∷ n ++ y₁ = d₁ ∙ ap (λ (v : List ℕ). v ++ y₁) (h₁ .0) in
-      told-by (told-other Languages s p x c (n ++ y₁) (d ∙ ap (λ (v : List ℕ). x ++ v) m) h (h₁ .2 .0) (name-first c n g))
-      (name-complete s z (p + length x) y (place-more s p x y d) (c ∷ n) g (x₁, y₁, d₁, h₁, o))
+  name-said [] (x, y, d, h, (x₁, y₁, d₁, (e, i, j), o)) g = absurd (i refl)
+  name-said (c ∷ n) (x, y, d, h, (x₁, y₁, d₁, (e, i, j), o)) g =
+      let m : y ≡ c ∷ n ++ y₁ = d₁ ∙ ap (λ (v : List ℕ). v ++ y₁) e in
+      told-by (told-other Languages s p x c (n ++ y₁) (d ∙ ap (λ (v : List ℕ). x ++ v) m) h (j .0) (name-first c n g))
+      (name-complete s z (p + length x) y (place-more s p x y d) (c ∷ n) g (x₁, y₁, d₁, (e, i, j), o))
 
   -- a line that the pair does not begin
   unpaired : (a b : ℕ) (x : List ℕ) (c : ℕ) (y : List ℕ) → 0 < b → drop p s ≡ x ++ c ∷ y → Blanks x → ((Blanks ⨾ Just (a ∷ b ∷ []) ⨾ Anything) (drop p s) → ⊥)
@@ -325,12 +325,12 @@ module _ (s z : List ℕ) (p : ℕ) where
 
   guess-said : (a n : List ℕ) (v : Bool) → GuessLine a n v (drop p s) → (CommentLine (drop p s) → ⊥) → (OpeningLine (drop p s) → ⊥) → Tells-as (s ++ z) (lineAt Guesses s p) (guess a n v)
   unfolding toldAt Every
-  guess-said [] n v (x, y, d, h, (x₁, y₁, d₁, (h₁, t₁), o)) f g = absurd (h₁ .1 refl)
-  guess-said (c ∷ a) n v (x, y, d, h, (x₁, y₁, d₁, (h₁, t₁), o)) f g =
-      let m : y ≡ c ∷ a ++ y₁ = d₁ ∙ ap (λ (v : List ℕ). v ++ y₁) (h₁ .0) in
-      let i : drop p s ≡ x ++ c ∷ (a ++ y₁) = d ∙ ap (λ (v : List ℕ). x ++ v) m in
-      told-by (told-at Guesses s p x c (a ++ y₁) i h (h₁ .2 .0) (unpaired 47 47 x c (a ++ y₁) (omega arith) i h f _ refl) (unpaired 47 42 x c (a ++ y₁) (omega arith) i h g _ refl))
-      (guess-complete s z (p + length x) y (place-more s p x y d) (c ∷ a) n v (x₁, y₁, d₁, (h₁, t₁), o))
+  guess-said [] n v (x, y, d, h, (x₁, y₁, d₁, ((e, i, j), t₁), o)) f g = absurd (i refl)
+  guess-said (c ∷ a) n v (x, y, d, h, (x₁, y₁, d₁, ((e, i, j), t₁), o)) f g =
+      let m : y ≡ c ∷ a ++ y₁ = d₁ ∙ ap (λ (v : List ℕ). v ++ y₁) e in
+      let k : drop p s ≡ x ++ c ∷ (a ++ y₁) = d ∙ ap (λ (v : List ℕ). x ++ v) m in
+      told-by (told-at Guesses s p x c (a ++ y₁) k h (j .0) (unpaired 47 47 x c (a ++ y₁) (omega arith) k h f _ refl) (unpaired 47 42 x c (a ++ y₁) (omega arith) k h g _ refl))
+      (guess-complete s z (p + length x) y (place-more s p x y d) (c ∷ a) n v (x₁, y₁, d₁, ((e, i, j), t₁), o))
 
 -- what the grammar says of a line is told so; z is what follows it in its file
 pub says-complete : {k : FileKind} (s z : List ℕ) (p : ℕ) (l : List ℕ) {x : Said} → drop p s ≡ l → LineSays k l x → Tells-as (s ++ z) (lineAt k s p) x
