@@ -17,14 +17,13 @@ use Rattle.base.proofs.Arms.{clash}
 use Rattle.prefixes.specs.declared.prefixes.NameType.{NameType}
 use Rattle.prefixes.specs.declared.prefixes.NameType.the-variants.{Ashkenazi, Generic, Sephardic}
 use Rattle.strings.specs.Reading.{Read, cut, got}
-use Rattle.pack.specs.Packs.{Guess, Pack, accepted, packOf, all, guessesGood, listGood, listCount}
+use Rattle.pack.specs.Packs.{Guess, Pack, accepted, packOf, guessesGood, listGood, listCount}
 use Rattle.rule_lines.specs.Rules.{Rule, ruleGood}
 use Rattle.pack_bytes.specs.Bytes.{namesBytes, packBytes}
 use Rattle.pack_bytes.proofs.Laws.{packed}
 use Rattle.bundles.specs.Bundles.{File, Found, missing, found, readBundle}
 use Rattle.rule_lists.specs.Outcomes as outcome
 use Rattle.rule_lists.specs.Lists.{typePrefix, listFiles, listsOf}
-use Rattle.rule_lists.proofs.WalkLaws.{GoodRead}
 use Rattle.rule_lists.proofs.FileLaws.{list-good}
 use Rattle.loader.specs as specs
 use specs.Guesses.{guessesOf}
@@ -32,8 +31,8 @@ use specs.Loading.{onType, onListed, namesOf, guessFile, listsIn, packFrom, onBu
 use specs.declared.loading.Loaded.{Loaded}
 use specs.declared.loading.Loaded.the-variants.{Done, Refused}
 use Rattle.loader.proofs as own
-use own.FileLaws.{fine-is, then-fine}
-use own.LanguageLaws.{strings-names}
+use own.FileLaws.{fine-is, then-fine, each-all}
+use own.NameLaws.{strings-names}
 use own.GuessLaws.{guesses-good}
 use own.LoadingLaws.{names-good, lists-counted}
 use Rattle.base.proofs.PickLaws.{pick-true, pick-inv, and-yes}
@@ -95,11 +94,6 @@ loaded-from (suc (suc (suc n))) s p e = clash (cc)
 
 -- ---- they are good
 
-rules-good : (names : List ℕ) (rs : List Rule) → Each (GoodRead names) rs → all (ruleGood names) rs ≡ true
-unfolding all
-rules-good names [] none = refl
-rules-good names (r ∷ rs) (more g w) = and-yes _ _ g (rules-good names rs w)
-
 lists-good : (names : List ℕ) (fs : List File) (ws : List (List ℕ)) (ls : List (List Rule)) → listsOf names fs ws ≡ outcome.fine ls → Each (λ rs. listGood names rs ≡ true) ls
 unfolding listsOf listGood
 lists-good names fs [] ls e = rw (← fine-is e) none
@@ -107,7 +101,7 @@ lists-good names fs (w ∷ ws) ls e =
     let a = then-fine _ _ ls e in
     let b = then-fine _ _ ls (a .2) in
     let g = list-good names fs w (a .0) (a .1) in
-    rw (← fine-is (b .2)) (more (and-yes _ _ (le-leb _ _ (g .few)) (and-yes _ _ (rules-good names (a .0) (g .each)) (g .order))) (lists-good names fs ws (b .0) (b .1)))
+    rw (← fine-is (b .2)) (more (and-yes _ _ (le-leb _ _ (g .few)) (and-yes _ _ (each-all (ruleGood names) (g .each)) (g .order))) (lists-good names fs ws (b .0) (b .1)))
 
 found-guesses : (xs : List (List ℕ)) (gs : List Guess) (x : Found) → onListed x (guessesOf (namesBytes xs)) ≡ outcome.fine gs → guessesGood (length xs) gs ≡ true
 unfolding onListed

@@ -79,7 +79,7 @@ module _ (k : FileKind) (s : List ℕ) (p l : ℕ) (w : AtLine s p l) (x : Item)
 pub line-room : (s : List ℕ) (p l : ℕ) → AtLine s p l → Fits w64 (l + 1)
 line-room s p l w = record { fits = omega (arith, w .within, w .lines, w .small) }
 
-pub ruleset line-laws = (needs, item-one, line-start, line-room, passed-line, passed-less, passed-room, told-line, told-less)
+pub ruleset line-steps = (needs, item-one, line-start, line-room, passed-line, passed-less, passed-room, told-line, told-less)
 
 -- ---- what a file says
 

@@ -1,12 +1,12 @@
 -- The guessing file: a rule judged and written, the loop over its lines, and that what is kept is good in a pack. Assumes nothing.
-use mathlib.Core.Path.{_≡_, refl, sym, ap, ap₂, _∙_}
+use mathlib.Core.Path.{_≡_, refl, sym, ap, _∙_}
 use mathlib.Core.Bool.{Bool, true, false, not}
 use mathlib.Core.List.{List, [], _∷_, _++_}
 use Prim.Native.Nat.{ℕ, zero, suc, _+_, _*_, _^_, _≤_, _<_}
-use native.Mathlib.Nat.{zero-add}
 use native.Mathlib.Omega.{arith}
+use borrow.Author.Needs.{needs}
 use lib.Bits.{bitOr, bitAnd, or-lt, and-zero-r}
-use lib.Dec.{eqb, leb, ltb}
+use lib.Dec.{eqb, leb}
 use lib.ListN.{length}
 use lib.Pow.{pow-pos}
 use types.Run.{OneOf, miss}
@@ -21,6 +21,7 @@ use Rattle.refusals.specs.declared.Refusal.the-variants.{LineUnreadable, Outsid
 use Rattle.strings.specs.Reading.{stringsOf}
 use Rattle.languages.specs.declared.names.Listed.{Listed}
 use Rattle.languages.specs.declared.names.Listed.the-variants.{Bit, Unlisted}
+use Rattle.languages.proofs.NumberLaws.{listed-one}
 use Rattle.languages.proofs.Laws.{is-listed, bit-held}
 use Rattle.phonemes.specs.Expressions.{plus, onFirst, cutAt, withBits, namesMask}
 use Rattle.lang.specs.Patterns.{inForms}
@@ -49,7 +50,7 @@ use specs.declared.guesses.Judged.{Judged}
 use specs.declared.guesses.Judged.the-variants.{Mask, Fault}
 use specs.declared.guesses.Guessed.{Guessed}
 use specs.declared.guesses.Guessed.the-variants.{Done, Refused}
-use Rattle.loader.proofs.FileLaws.{fine-is, then-fine, toldFrom, told-start, told-end, told-wrong, told-passed, told-fault, told-kept, each-told, each-all, AtLine, line-start, passed-line, told-line, line-laws}
+use Rattle.loader.proofs.FileLaws.{fine-is, then-fine, toldFrom, told-start, told-end, told-wrong, told-passed, told-fault, told-kept, each-told, each-all, AtLine, line-start, passed-line, told-line, line-steps}
 use Rattle.base.proofs.PickLaws.{pick-true, pick-false, pick-all, and-yes}
 use Rattle.held.specs.Met.{bytesOfAll}
 use Rattle.pack_bytes.specs.Contracts.{textPut, none, more}
@@ -79,30 +80,34 @@ module _ (names pattern joined : List ℕ) where
       unfolding judgment withMask
       judge-mask m p = rw p at listed-by
 
-      pub judge-stranger : x ≡ Unlisted → Fault NameUnlisted ≡ judgedAs names pattern joined
+      pub judge-unlisted : x ≡ Unlisted → Fault NameUnlisted ≡ judgedAs names pattern joined
       unfolding judgment withMask
-      judge-stranger p = rw p at listed-by
+      judge-unlisted p = rw p at listed-by
 
-pub ruleset judge-laws = (judge-long, judge-bad, judge-mask, judge-stranger)
+pub ruleset judges = (needs, listed-one, judge-long, judge-bad, judge-mask, judge-unlisted)
 
 -- what a judgment tells, whether the rule accepts or not
 abbrev judgedBy : Bool → List ℕ → Bool → Bool → Listed → Kept Guess
 judgedBy v pattern t u x = pick t (fault TooMuch) (pick u (withMask v pattern x) (fault OutsideForms))
 
-mask-by : (v : Bool) (pattern : List ℕ) (t u : Bool) (x : Listed) (m : ℕ) → judgment (judgedBy true pattern t u x) ≡ Mask m
-    → (t ≡ false) × (judgedBy v pattern t u x ≡ keeps (guess (acceptOf v) m pattern))
-unfolding judgment withMask pick
-mask-by v pattern true u x m e = clash (cc)
-mask-by v pattern false true (Bit k) m e = let same : k ≡ m = cc in (refl, ap (λ (i : ℕ). keeps (guess (acceptOf v) i pattern)) same)
-mask-by v pattern false true Unlisted m e = clash (cc)
-mask-by v pattern false false x m e = clash (cc)
+keptAs : Bool → List ℕ → Judged → Kept Guess
+keptAs v pattern (Mask m) = keeps (guess (acceptOf v) m pattern)
+keptAs v pattern (Fault c) = fault c
 
-fault-by : (v : Bool) (pattern : List ℕ) (t u : Bool) (x : Listed) (c : Refusal) → judgment (judgedBy true pattern t u x) ≡ Fault c → judgedBy v pattern t u x ≡ fault c
-unfolding judgment withMask pick
-fault-by v pattern true u x c e = let same : TooMuch ≡ c = cc in ap (λ (i : Refusal). fault i) same
-fault-by v pattern false true (Bit k) c e = clash (cc)
-fault-by v pattern false true Unlisted c e = let same : NameUnlisted ≡ c = cc in ap (λ (i : Refusal). fault i) same
-fault-by v pattern false false x c e = let same : OutsideForms ≡ c = cc in ap (λ (i : Refusal). fault i) same
+judged-is : (v : Bool) (pattern : List ℕ) (t u : Bool) (x : Listed) → judgedBy v pattern t u x ≡ keptAs v pattern (judgment (judgedBy true pattern t u x))
+unfolding judgment withMask pick keptAs
+judged-is v pattern true u x = refl
+judged-is v pattern false true (Bit k) = refl
+judged-is v pattern false true Unlisted = refl
+judged-is v pattern false false x = refl
+
+kept-inv : (v : Bool) (pattern : List ℕ) (t u : Bool) (x : Listed) (g : Guess) → judgedBy v pattern t u x ≡ keeps g
+    → (m : ℕ) × (t ≡ false) × (u ≡ true) × (x ≡ Bit m) × (guess (acceptOf v) m pattern ≡ g)
+unfolding withMask pick
+kept-inv v pattern true u x g e = clash (cc)
+kept-inv v pattern false true (Bit m) g e = (m, refl, refl, refl, cc)
+kept-inv v pattern false true Unlisted g e = clash (cc)
+kept-inv v pattern false false x g e = clash (cc)
 
 -- ---- a rule written
 
@@ -119,29 +124,20 @@ put-bytes v m pattern h = ap (λ (n : ℕ). acceptOf v ∷ (maskBytes m ++ (n �
 
 -- ---- the loop: what is left of the file, written behind n rules
 
-unfoldable pub GuessesFrom : ℕ → Loading (List Guess) → List ℕ → ℕ → Guessed → List ℕ → Type 0
-GuessesFrom n (fine gs) o at r o′ = (p : ℕ) × (r ≡ Done (n + length gs) p) × Put o o′ at p (bytesOfAll guessBytes gs)
-GuessesFrom n (notLoaded c l f) o at r o′ = r ≡ Refused c l f
-
-from-start : (x : Loading (List Guess)) (o : List ℕ) (at : ℕ) (r : Guessed) (o′ : List ℕ) → GuessesFrom 0 x o at r o′ → GuessesWritten x o at r o′
-unfolding GuessesFrom GuessesWritten
-from-start (fine gs) o at r o′ w = (w .0, w .1 ∙ ap (λ (n : ℕ). Done n (w .0)) (zero-add (length gs)), w .2)
-from-start (notLoaded c l f) o at r o′ w = w
-
 from-next : (n : ℕ) (g : Guess) (x : Loading (List Guess)) (o o₁ : List ℕ) (at p : ℕ) (r : Guessed) (o′ : List ℕ) → Put o o₁ at p (guessBytes g)
-    → GuessesFrom (n + 1) x o₁ p r o′ → GuessesFrom n (andLoad x (λ gs. fine (g ∷ gs))) o at r o′
-unfolding GuessesFrom andLoad bytesOfAll
+    → GuessesWritten (n + 1) x o₁ p r o′ → GuessesWritten n (andLoad x (λ gs. fine (g ∷ gs))) o at r o′
+unfolding GuessesWritten andLoad bytesOfAll
 from-next n g (fine gs) o o₁ at p r o′ y w =
     let size : n + 1 + length gs ≡ n + suc (length gs) = omega arith in
     (w .0, w .1 ∙ ap (λ (k : ℕ). Done k (w .0)) size, put-then y (w .2))
 from-next n g (notLoaded c l f) o o₁ at p r o′ y w = w
 
-from-end : (n : ℕ) (o : List ℕ) (at : ℕ) → length o < cap → at ≤ cap → GuessesFrom n (fine []) o at (Done n at) o
-unfolding GuessesFrom bytesOfAll
+from-end : (n : ℕ) (o : List ℕ) (at : ℕ) → length o < cap → at ≤ cap → GuessesWritten n (fine []) o at (Done n at) o
+unfolding GuessesWritten bytesOfAll
 from-end n o at h k = let size : n ≡ n + 0 = omega arith in (at, ap (λ (i : ℕ). Done i at) size, put-none o at h k)
 
-from-refused : (n : ℕ) (c : Refusal) (l f : ℕ) (o : List ℕ) (at : ℕ) → GuessesFrom n (notLoaded c l f) o at (Refused c l f) o
-unfolding GuessesFrom
+from-refused : (n : ℕ) (c : Refusal) (l f : ℕ) (o : List ℕ) (at : ℕ) → GuessesWritten n (notLoaded c l f) o at (Refused c l f) o
+unfolding GuessesWritten
 from-refused n c l f o at = refl
 
 other : (names s : List ℕ) (t : Clause) → OneOf (0 ∷ 1 ∷ 3 ∷ []) (tagOf the-type t) → guessOf names s t ≡ fault LineUnreadable
@@ -158,7 +154,7 @@ pub record Writing (names s : List ℕ) (f : ℕ) (o₀ : List ℕ) (at₀ : ℕ
   pub room : length o < cap
   pub long : length o ≡ length o₀
   pub place : at ≤ cap
-  pub is : (r : Guessed) (o′ : List ℕ) → GuessesFrom n (toldFrom (guessOf names s) f Guesses s l p) o at r o′ → GuessesAre names s f o₀ at₀ r o′
+  pub is : (r : Guessed) (o′ : List ℕ) → GuessesWritten n (toldFrom (guessOf names s) f Guesses s l p) o at r o′ → GuessesAre names s f o₀ at₀ r o′
 
 pub writing-start : (names s : List ℕ) (f : ℕ) (o : List ℕ) (at : ℕ) → length s * 1 < cap → length o * 1 < cap → at ≤ cap → Writing names s f o at o at 0 0 1
 unfolding GuessesAre guessesIn
@@ -168,7 +164,7 @@ writing-start names s f o at b h k = record {
   room = omega arith;
   long = refl;
   place = k;
-  is = λ r o′ w. from-start _ o at r o′ (rw (told-start (guessOf names s) f Guesses s) at w);
+  is = λ r o′ w. rw (told-start (guessOf names s) f Guesses s) at w;
 }
 
 module _ {names s : List ℕ} {f : ℕ} {o₀ : List ℕ} {at₀ : ℕ} {o : List ℕ} {at n p l : ℕ} (w : Writing names s f o₀ at₀ o at n p l) where
@@ -211,33 +207,32 @@ module _ {names s : List ℕ} {f : ℕ} {o₀ : List ℕ} {at₀ : ℕ} {o : Lis
 
       module _ (a b : Text) (v : Bool) (g : t ≡ told.Guess a b v) (pattern joined : List ℕ) (ea : pattern ≡ partOf s a) (eb : joined ≡ partOf s b)
           (j : Judged) (ej : j ≡ judgedAs names pattern joined) where
-        judged-here : (y : Kept Guess) → judgedGuess names v pattern joined ≡ y → guessOf names s t ≡ y
+        judged : (k : Judged) → j ≡ k → judgedGuess names v pattern joined ≡ keptAs v pattern k
+        unfolding judgedAs judgedGuess
+        judged k z = judged-is v pattern _ _ _ ∙ ap (keptAs v pattern) (sym ej ∙ z)
+
+        here : guessOf names s t ≡ judgedGuess names v pattern joined
         unfolding guessOf
-        judged-here y z = ap (guessOf names s) g ∙ ap₂ (judgedGuess names v) (sym ea) (sym eb) ∙ z
+        here = rw (g, ← ea, ← eb) refl
 
         pub writing-fault : (c : Refusal) → j ≡ Fault c → GuessesAre names s f o₀ at₀ (Refused c l f) o
-        unfolding judgedAs judgedGuess
-        writing-fault c z = faulty c (judged-here _ (fault-by v pattern _ _ _ c (sym ej ∙ z)))
+        unfolding keptAs
+        writing-fault c z = faulty c (here ∙ judged (Fault c) z)
 
-        module _ (m : ℕ) (z : j ≡ Mask m) where
-          kept : (ltb 255 (length pattern) ≡ false) × (judgedGuess names v pattern joined ≡ keeps (guess (acceptOf v) m pattern))
-          unfolding judgedAs judgedGuess
-          kept = mask-by v pattern _ _ _ m (sym ej ∙ z)
+        pub writing-kept : (m : ℕ) → j ≡ Mask m → (o₁ : List ℕ) (r : ℕ) → Put o o₁ at r (guessPut v m pattern) → Writing names s f o₀ at₀ o₁ r (n + 1) i (l + 1)
+        unfolding keptAs judgedGuess
+        writing-kept m z o₁ r y =
+            let bytes = rw (put-bytes v m pattern (ltb-false _ _ (kept-inv v pattern _ _ _ _ (judged (Mask m) z) .1))) at y in
+            record {
+              line-at = told-line Guesses s p l (w .line-at) x e t i q;
+              rules = omega (arith, w .rules, tells-goes Guesses s p t i here-tells);
+              room = omega (arith, w .room, put-long o o₁ at r _ y);
+              long = put-long o o₁ at r _ y ∙ w .long;
+              place = put-place o o₁ at r _ y;
+              is = λ u o′ x. w .is u o′ (rw (told-kept (guessOf names s) f Guesses s l p t i _ here-tells (here ∙ judged (Mask m) z)) (from-next n _ _ o o₁ at r u o′ bytes x));
+            }
 
-          pub writing-kept : (o₁ : List ℕ) (r : ℕ) → Put o o₁ at r (guessPut v m pattern) → Writing names s f o₀ at₀ o₁ r (n + 1) i (l + 1)
-          writing-kept o₁ r y =
-              let goes = tells-goes Guesses s p t i here-tells in
-              let bytes = rw (put-bytes v m pattern (ltb-false _ _ (kept .0))) at y in
-              record {
-                line-at = told-line Guesses s p l (w .line-at) x e t i q;
-                rules = omega (arith, w .rules);
-                room = omega (arith, w .room, put-long o o₁ at r _ y);
-                long = put-long o o₁ at r _ y ∙ w .long;
-                place = put-place o o₁ at r _ y;
-                is = λ u o′ x. w .is u o′ (rw (told-kept (guessOf names s) f Guesses s l p t i _ here-tells (judged-here _ (kept .1))) (from-next n _ _ o o₁ at r u o′ bytes x));
-              }
-
-pub ruleset writing-laws = (line-laws, writing-start, writing-long, writing-done, writing-count, writing-wrong, writing-passed, writing-other, writing-fault, writing-kept)
+pub ruleset writes = (line-steps, writing-start, writing-long, writing-done, writing-count, writing-wrong, writing-passed, writing-other, writing-fault, writing-kept)
 
 -- ---- what is kept is good in a pack
 
@@ -278,14 +273,6 @@ module _ (names : List ℕ) where
       let l = is-listed names n (i .0) _ refl (i .2) in
       or-by (i .0) (i .1) m (i .4) (rw (l .bit) (pow-pos (l .place)))
 
-kept-inv : (v : Bool) (pattern : List ℕ) (t u : Bool) (x : Listed) (g : Guess) → judgedBy v pattern t u x ≡ keeps g
-    → (m : ℕ) × (u ≡ true) × (x ≡ Bit m) × (guess (acceptOf v) m pattern ≡ g)
-unfolding withMask pick
-kept-inv v pattern true u x g e = clash (cc)
-kept-inv v pattern false true (Bit m) g e = (m, refl, refl, cc)
-kept-inv v pattern false true Unlisted g e = clash (cc)
-kept-inv v pattern false false x g e = clash (cc)
-
 accept-good : (v : Bool) → leb (acceptOf v) 1 ≡ true
 unfolding acceptOf
 accept-good true = refl
@@ -300,10 +287,10 @@ kept-good names s p (told.Include a) n g e k = clash (cc)
 kept-good names s p (told.Name a) n g e k = clash (cc)
 kept-good names s p (told.Guess a b v) n g e k =
     let i = kept-inv v (partOf s a) _ _ _ g k in
-    let some = mask-some names _ (i .0) (cut-some plus (partOf s b)) (i .2) in
+    let some = mask-some names _ (i .0) (cut-some plus (partOf s b)) (i .3) in
     let more = ap not (ne-eqb (i .0) 0 (λ z. omega arith)) in
-    rw (← i .3) (and-yes _ _ (accept-good v) (and-yes _ _ more
-    (and-yes _ _ (lt-ltb _ _ (mask-held names _ (i .0) (i .2))) (and-yes _ _ (guess-pattern s p a b v n e) (i .1)))))
+    rw (← i .4) (and-yes _ _ (accept-good v) (and-yes _ _ more
+    (and-yes _ _ (lt-ltb _ _ (mask-held names _ (i .0) (i .3))) (and-yes _ _ (guess-pattern s p a b v n e) (i .2)))))
 
 counted-inv : (t : Bool) (gs hs : List Guess) → pick t (fine gs) (notLoaded TooMuch 0 0) ≡ fine hs → (t ≡ true) × (gs ≡ hs)
 unfolding pick

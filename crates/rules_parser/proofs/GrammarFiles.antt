@@ -17,7 +17,7 @@ use specs.declared.lines.FileKind.{FileKind}
 use specs.declared.files.Item.{Item}
 use specs.declared.files.Item.the-variants.{Passed, Tells, Wrong}
 use specs.Contracts.{itemsAt}
-use Rattle.rules_parser.proofs.GrammarItems.{More, Item-as, item-complete, Begun, item-sound}
+use own.GrammarItems.{More, Item-as, item-complete, Begun, item-sound}
 
 reads-next : {k : FileKind} {x : FoundItem} {left : List ℕ} {xs : List FoundItem} (r : List ℕ) (b : ℕ) (t : List ℕ) → r ≡ b ∷ t → Begins k r x left → Reads k left xs → Reads k r (x ∷ xs)
 reads-next r b t e w h = rw e (next (rw e at w) h)

@@ -11,9 +11,10 @@ use Rattle.rule.specs.Matching.{ruleText}
 use Rattle.rules_parser.specs as specs
 use specs.Fields.{partOf}
 use specs.Files.{itemAt, onNext, itemsFrom, itemsOf}
-use Rattle.rules_parser.proofs.Ahead.{Ahead, item-ahead}
-use Rattle.rules_parser.proofs.Sound.{Good, told-good}
-use Rattle.rules_parser.specs.Grammar.{saidOf}
+use Rattle.rules_parser.proofs as own
+use own.Ahead.{Ahead, item-ahead}
+use own.Sound.{Good, told-good}
+use specs.Grammar.{saidOf}
 use specs.declared.fields.Text.{Text}
 use specs.declared.lines.FileKind.{FileKind}
 use specs.declared.lines.FileKind.the-variants.{Languages, Guesses, Rules}

@@ -1,7 +1,7 @@
 use Prim.Native.Nat.{_-_}
 use lib.ListN.{length}
 use Rattle.loader.proofs as own
-use own.GuessLaws.{Writing, writing-laws}
+use own.GuessLaws.{Writing, writes}
 use own.guesses.write_guesses.Statement.{statement}
 use own.guesses.write_guesses.Tie as tie
 
@@ -13,9 +13,9 @@ abbrev μ-loop : tie.MeasureT-loop
 
 pub write-guesses-spec : {M : Type 1} → statement M
 write-guesses-spec =
-    tie.close (tie.spec Inv-loop μ-loop (λ c. search writing-laws) (λ c κs. search writing-laws) (λ c. search writing-laws)
-    (λ c. search writing-laws) (λ c. search writing-laws) (λ c. search writing-laws) (λ c. search writing-laws) (λ c. search writing-laws)
-    (λ c κs. search writing-laws) (λ c κs. search writing-laws) (λ c κs. search writing-laws) (λ c. search writing-laws)
-    (λ c κs. search writing-laws) (λ c. search writing-laws) (λ c. search writing-laws) (λ c. search writing-laws) (λ c. search writing-laws)
-    (λ c. search writing-laws) (λ c. search writing-laws) (λ c. search writing-laws) (λ c. search writing-laws) (λ c. search writing-laws)
-    (λ c. search writing-laws) (λ c. search writing-laws) (λ c. search writing-laws) (λ c. search writing-laws) (λ c. search writing-laws))
+    tie.close (tie.spec Inv-loop μ-loop (λ c. search writes) (λ c κs. search writes) (λ c. search writes)
+    (λ c. search writes) (λ c. search writes) (λ c. search writes) (λ c. search writes) (λ c. search writes)
+    (λ c κs. search writes) (λ c κs. search writes) (λ c κs. search writes) (λ c. search writes)
+    (λ c κs. search writes) (λ c. search writes) (λ c. search writes) (λ c. search writes) (λ c. search writes)
+    (λ c. search writes) (λ c. search writes) (λ c. search writes) (λ c. search writes) (λ c. search writes)
+    (λ c. search writes) (λ c. search writes) (λ c. search writes) (λ c. search writes) (λ c. search writes))
