@@ -6,9 +6,8 @@ use mathlib.Core.List.{List, [], _∷_}
 use mathlib.Core.Logic.{⊎-elim}
 use Prim.Native.Nat.{ℕ, zero, suc, _≤_}
 use native.Mathlib.Omega.{arith}
-use lib.Dec.{leb}
 use lib.ListN.{length, take}
-use lib.Seq.{sets-eq, length-sets, take-at}
+use lib.Seq.{sets, sets-eq, length-sets, take-at}
 use borrow.Author.Tests.{leb-true, le-leb}
 use Rattle.refusals.specs.declared.Refusal.{Refusal}
 use Rattle.refusals.specs.Numbers.{numberOf}
@@ -126,12 +125,18 @@ pub record Written (ty : ℕ) (s : List ℕ) (n : ℕ) (out′ : List ℕ) : Typ
   pub front : take n out′ ≡ packBytes it
   pub accepts : packOf (take n out′) ≡ accepted it
 
+done-inv : (b : List ℕ) (n m : ℕ) → doneAt n ≡ answer (outcome.fine b) m → (length b ≡ n) × (length b ≤ m)
+unfolding answer
+done-inv b n m e = ⊎-elim (λ w. (ap (λ (k : LoadNumbers). k .place) (w .1), leb-true _ _ (w .0))) (λ w. not-done _ _ _ n (w .1)) (pick-inv _ _ _ _ (sym e))
+
+filled-is : (b out out′ : List ℕ) → out′ ≡ filled (outcome.fine b) out → length b ≤ length out → out′ ≡ sets out 0 b
+unfolding filled
+filled-is b out out′ e h = e ∙ pick-true _ _ _ (le-leb _ _ h)
+
 fits : (b out out′ : List ℕ) (n : ℕ) → doneAt n ≡ answer (outcome.fine b) (length out) → out′ ≡ filled (outcome.fine b) out → take n out′ ≡ b
-unfolding answer filled
-fits b out out′ n r h = ⊎-elim (λ w. yes-so (w .0) (ap (λ (m : LoadNumbers). m .place) (w .1))) (λ w. not-done _ _ _ n (w .1)) (pick-inv _ _ _ _ (sym r))
-  where
-    yes-so : leb (length b) (length out) ≡ true → length b ≡ n → take n out′ ≡ b
-    yes-so t e = rw (h ∙ pick-true _ _ _ t ∙ sets-eq b out 0 (omega (arith, leb-true (length b) (length out) t))) (take-at b _ n e)
+fits b out out′ n r h =
+    let i = done-inv b n (length out) r in
+    rw (filled-is b out out′ h (i .1), sets-eq b out 0 (omega (arith, i .1))) (take-at b _ n (i .0))
 
 written-by : (ty : ℕ) (s out out′ : List ℕ) (n : ℕ) (x : outcome.Loading Pack) → loadOf ty s ≡ x → AnswerIs (written x) out (Done n) out′ → Written ty s n out′
 unfolding written answer loadedNumbers
@@ -147,14 +152,12 @@ load-accepted ty s out out′ n a = written-by ty s out out′ n (loadOf ty s) r
 
 -- for a program that takes the pack out of its buffer
 within-by : (x : outcome.Loading (List ℕ)) (out out′ : List ℕ) (n : ℕ) → AnswerIs x out (Done n) out′ → n ≤ length out′
-unfolding answer filled loadedNumbers
+unfolding answer loadedNumbers
 within-by (outcome.notLoaded c l f) out out′ n a = not-done c l f n (sym (a .result))
-within-by (outcome.fine b) out out′ n a = ⊎-elim (λ w. yes-so (w .0) (ap (λ (m : LoadNumbers). m .place) (w .1))) (λ w. not-done _ _ _ n (w .1)) (pick-inv _ _ _ _ (sym (a .result)))
-  where
-    yes-so : leb (length b) (length out) ≡ true → length b ≡ n → n ≤ length out′
-    yes-so t e =
-        let size : length out′ ≡ length out = ap length (a .buffer ∙ pick-true _ _ _ t) ∙ length-sets out 0 b in
-        omega (arith, leb-true (length b) (length out) t)
+within-by (outcome.fine b) out out′ n a =
+    let i = done-inv b n (length out) (a .result) in
+    let size : length out′ ≡ length out = ap length (filled-is b out out′ (a .buffer) (i .1)) ∙ length-sets out 0 b in
+    omega (arith, i .0, i .1)
 
 pub load-within : (ty : ℕ) (s out out′ : List ℕ) (n : ℕ) (r : Loaded) → LoadIs ty s out r out′ → r ≡ Done n → n ≤ length out′
 load-within ty s out out′ n r a e = within-by (written (loadOf ty s)) out out′ n (rw (← e) a)

@@ -132,14 +132,6 @@ from-next n g (fine gs) o o₁ at p r o′ y w =
     (w .0, w .1 ∙ ap (λ (k : ℕ). Done k (w .0)) size, put-then y (w .2))
 from-next n g (notLoaded c l f) o o₁ at p r o′ y w = w
 
-from-end : (n : ℕ) (o : List ℕ) (at : ℕ) → length o < cap → at ≤ cap → GuessesWritten n (fine []) o at (Done n at) o
-unfolding GuessesWritten bytesOfAll
-from-end n o at h k = let size : n ≡ n + 0 = omega arith in (at, ap (λ (i : ℕ). Done i at) size, put-none o at h k)
-
-from-refused : (n : ℕ) (c : Refusal) (l f : ℕ) (o : List ℕ) (at : ℕ) → GuessesWritten n (notLoaded c l f) o at (Refused c l f) o
-unfolding GuessesWritten
-from-refused n c l f o at = refl
-
 other : (names s : List ℕ) (t : Clause) → OneOf (0 ∷ 1 ∷ 3 ∷ []) (tagOf the-type t) → guessOf names s t ≡ fault LineUnreadable
 unfolding guessOf
 other names s (told.Rule a b c d) h = refl
@@ -170,13 +162,12 @@ writing-start names s f o at b h k = record {
 module _ {names s : List ℕ} {f : ℕ} {o₀ : List ℕ} {at₀ : ℕ} {o : List ℕ} {at n p l : ℕ} (w : Writing names s f o₀ at₀ o at n p l) where
   -- what is left comes to a refusal
   stops : (c : Refusal) → toldFrom (guessOf names s) f Guesses s l p ≡ notLoaded c l f → GuessesAre names s f o₀ at₀ (Refused c l f) o
-  stops c e = w .is _ o (rw e (from-refused n c l f o at))
-
-  pub writing-long : length o ≡ length o₀
-  writing-long = w .long
+  unfolding GuessesWritten
+  stops c e = w .is _ o (rw e refl)
 
   pub writing-done : length s ≤ p → GuessesAre names s f o₀ at₀ (Done n at) o
-  writing-done h = w .is _ o (rw (told-end (guessOf names s) f Guesses s l p h) (from-end n o at (w .room) (w .place)))
+  unfolding GuessesWritten bytesOfAll
+  writing-done h = w .is _ o (rw (told-end (guessOf names s) f Guesses s l p h) (at, ap (λ (i : ℕ). Done i at) (omega arith), put-none o at (w .room) (w .place)))
 
   pub writing-count : Fits w64 (n + 1)
   writing-count = record { fits = omega (arith, w .rules, w .line-at .within, w .line-at .small) }
@@ -232,7 +223,7 @@ module _ {names s : List ℕ} {f : ℕ} {o₀ : List ℕ} {at₀ : ℕ} {o : Lis
               is = λ u o′ x. w .is u o′ (rw (told-kept (guessOf names s) f Guesses s l p t i _ here-tells (here ∙ judged (Mask m) z)) (from-next n _ _ o o₁ at r u o′ bytes x));
             }
 
-pub ruleset writes = (line-steps, writing-start, writing-long, writing-done, writing-count, writing-wrong, writing-passed, writing-other, writing-fault, writing-kept)
+pub ruleset writes = (line-steps, writing-start, writing-done, writing-count, writing-wrong, writing-passed, writing-other, writing-fault, writing-kept)
 
 -- ---- what is kept is good in a pack
 

@@ -106,28 +106,30 @@ put-over {o} {at = at} {t = t} {u = u} {v = v} x y z h =
     let w = put-then x y in
     record { wrote = z .wrote ∙ rw (w .wrote) (sets-over v t u o at h); ends = omega (arith, w .ends, length-append t u, length-append v u); room = x .room }
 
-counted-done : (x : Loading (List Guess)) (n p : ℕ) (o o₁ o₂ o₃ : List ℕ) (at i r : ℕ) → Put o o₁ at i (countBytes 0) → GuessesWritten 0 x o₁ i (Done n p) o₂ → n ≤ 4096
-    → Put o₂ o₃ at r (countBytes n) → WrittenIs guessesBytes (andLoad x countedGuesses) o o₃ at (wrote.Done p)
-unfolding GuessesWritten andLoad countedGuesses WrittenIs guessesBytes countBytes
-counted-done (fine gs) n p o o₁ o₂ o₃ at i r c (q, e, w) h d =
-    let same : n ≡ 0 + length gs = cc in
-    let size : n ≡ length gs = omega arith in
-    let place : q ≡ p = cc in
-    rw (pick-true _ (fine gs) (notLoaded TooMuch 0 0) (le-leb (length gs) 4096 (omega arith))) (p, refl, put-over c (rw place at w) (rw size at d) refl)
-counted-done (notLoaded c l f) n p o o₁ o₂ o₃ at i r x e h d = clash (cc)
+module _ (o o₁ o₂ : List ℕ) (at i n p : ℕ) where
+  counted-done : (x : Loading (List Guess)) (o₃ : List ℕ) (r : ℕ) → Put o o₁ at i (countBytes 0) → GuessesWritten 0 x o₁ i (Done n p) o₂ → n ≤ 4096
+      → Put o₂ o₃ at r (countBytes n) → WrittenIs guessesBytes (andLoad x countedGuesses) o o₃ at (wrote.Done p)
+  unfolding GuessesWritten andLoad countedGuesses WrittenIs guessesBytes countBytes
+  counted-done (fine gs) o₃ r c (q, e, w) h d =
+      let same : n ≡ 0 + length gs = cc in
+      let size : n ≡ length gs = omega arith in
+      let place : q ≡ p = cc in
+      rw (pick-true _ (fine gs) (notLoaded TooMuch 0 0) (le-leb _ _ (rw size at h))) (p, refl, put-over c (rw place at w) (rw size at d) refl)
+  counted-done (notLoaded c l f) o₃ r x e h d = clash (cc)
 
-counted-many : (x : Loading (List Guess)) (n p : ℕ) (o o₁ o₂ : List ℕ) (at i : ℕ) → GuessesWritten 0 x o₁ i (Done n p) o₂ → 4096 < n → WrittenIs guessesBytes (andLoad x countedGuesses) o o₂ at (wrote.Refused TooMuch 0 0)
-unfolding GuessesWritten andLoad countedGuesses WrittenIs
-counted-many (fine gs) n p o o₁ o₂ at i (q, e, w) h =
-    let same : n ≡ 0 + length gs = cc in
-    let size : n ≡ length gs = omega arith in
-    rw (pick-false _ (fine gs) (notLoaded TooMuch 0 0) (lt-leb (length gs) 4096 (omega arith))) refl
-counted-many (notLoaded c l f) n p o o₁ o₂ at i e h = clash (cc)
+  counted-many : (x : Loading (List Guess)) → GuessesWritten 0 x o₁ i (Done n p) o₂ → 4096 < n
+      → WrittenIs guessesBytes (andLoad x countedGuesses) o o₂ at (wrote.Refused TooMuch 0 0)
+  unfolding GuessesWritten andLoad countedGuesses WrittenIs
+  counted-many (fine gs) (q, e, w) h =
+      let same : n ≡ 0 + length gs = cc in
+      rw (pick-false _ (fine gs) (notLoaded TooMuch 0 0) (lt-leb (length gs) 4096 (omega arith))) refl
+  counted-many (notLoaded c l f) e h = clash (cc)
 
-counted-refused : (x : Loading (List Guess)) (o o₁ o₂ : List ℕ) (at i : ℕ) (c : Refusal) (l f : ℕ) → GuessesWritten 0 x o₁ i (Refused c l f) o₂ → WrittenIs guessesBytes (andLoad x countedGuesses) o o₂ at (wrote.Refused c l f)
-unfolding GuessesWritten andLoad WrittenIs
-counted-refused (fine gs) o o₁ o₂ at i c l f (q, e, w) = clash (cc)
-counted-refused (notLoaded d m g) o o₁ o₂ at i c l f e = cc
+  counted-refused : (x : Loading (List Guess)) (c : Refusal) → GuessesWritten 0 x o₁ i (Refused c n p) o₂
+      → WrittenIs guessesBytes (andLoad x countedGuesses) o o₂ at (wrote.Refused c n p)
+  unfolding GuessesWritten andLoad WrittenIs
+  counted-refused (fine gs) c (q, e, w) = clash (cc)
+  counted-refused (notLoaded d m g) c e = cc
 
 module _ (kind : NameType) (s : List ℕ) (x : FileAt) (e : fileNumbers x ≡ fileAt s (typePrefix kind ++ langPart)) (names o : List ℕ) (at : ℕ) where
   abbrev Wrote : List ℕ → Written → Type 0
@@ -151,14 +153,14 @@ module _ (kind : NameType) (s : List ℕ) (x : FileAt) (e : fileNumbers x ≡ fi
       comes y z = rw z at w
 
       pub load-refused : (c : Refusal) (l f : ℕ) → g ≡ Refused c l f → Wrote o₂ (wrote.Refused c l f)
-      load-refused c l f z = rw (← is-file) (counted-refused inFile o o₁ o₂ at i c l f (comes _ z))
+      load-refused c l f z = rw (← is-file) (counted-refused o o₁ o₂ at i l f inFile c (comes _ z))
 
       module _ (n p : ℕ) (z : g ≡ Done n p) where
         pub load-many : 4096 < n → Wrote o₂ (wrote.Refused TooMuch 0 0)
-        load-many h = rw (← is-file) (counted-many inFile n p o o₁ o₂ at i (comes _ z) h)
+        load-many h = rw (← is-file) (counted-many o o₁ o₂ at i n p inFile (comes _ z) h)
 
         pub load-done : (o₃ : List ℕ) (r : ℕ) → n ≤ 4096 → Put o₂ o₃ at r (countBytes n) → Wrote o₃ (wrote.Done p)
-        load-done o₃ r h d = rw (← is-file) (counted-done inFile n p o o₁ o₂ o₃ at i r c (comes _ z) h d)
+        load-done o₃ r h d = rw (← is-file) (counted-done o o₁ o₂ at i n p inFile o₃ r c (comes _ z) h d)
 
 pub ruleset guessed-laws = (load-missing, found-order, found-within, load-refused, load-done, load-many, put-place, needs)
 
