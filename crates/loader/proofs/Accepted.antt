@@ -79,10 +79,12 @@ pub record LoadedFrom (s : List ℕ) (p : Pack) : Type 0 where
   pub read : readBundle s ≡ got files rest
   pub parts : PartsOf kind files p
 
-good-bundle : (kind : NameType) (s : List ℕ) (p : Pack) (x : Read (List File)) → readBundle s ≡ x → onBundle x (packFrom kind) ≡ outcome.fine p → LoadedFrom s p
+good-bundle : (kind : NameType) (s : List ℕ) (p : Pack) (x : Read (List File)) → readBundle s ≡ x → onBundle x (packFrom kind) ≡ outcome.fine p
+    → LoadedFrom s p
 unfolding onBundle
 good-bundle kind s p cut r e = clash (cc)
-good-bundle kind s p (got fs q) r e = ⊎-elim (λ w. record { kind = kind; files = fs; rest = q; read = r; parts = parts-of kind fs p (w .1) }) (λ w. clash (cc (w .1))) (pick-inv _ _ _ _ e)
+good-bundle kind s p (got fs q) r e =
+    ⊎-elim (λ w. record { kind = kind; files = fs; rest = q; read = r; parts = parts-of kind fs p (w .1) }) (λ w. clash (cc (w .1))) (pick-inv _ _ _ _ e)
 
 loaded-from : (ty : ℕ) (s : List ℕ) (p : Pack) → loadOf ty s ≡ outcome.fine p → LoadedFrom s p
 unfolding loadOf onType
@@ -93,7 +95,8 @@ loaded-from (suc (suc (suc n))) s p e = clash (cc)
 
 -- ---- they are good
 
-lists-good : (names : List ℕ) (fs : List File) (ws : List (List ℕ)) (ls : List (List Rule)) → listsOf names fs ws ≡ outcome.fine ls → Each (λ rs. listGood names rs ≡ true) ls
+lists-good : (names : List ℕ) (fs : List File) (ws : List (List ℕ)) (ls : List (List Rule)) → listsOf names fs ws ≡ outcome.fine ls
+    → Each (λ rs. listGood names rs ≡ true) ls
 unfolding listsOf listGood
 lists-good names fs [] ls e = rw (← fine-is e) none
 lists-good names fs (w ∷ ws) ls e =
@@ -102,7 +105,8 @@ lists-good names fs (w ∷ ws) ls e =
     let g = list-good names fs w (a .0) (a .1) in
     rw (← fine-is (b .2)) (more (and-yes _ _ (le-leb _ _ (g .few)) (and-yes _ _ (each-all (ruleGood names) (g .each)) (g .order))) (lists-good names fs ws (b .0) (b .1)))
 
-found-guesses : (xs : List (List ℕ)) (gs : List Guess) (x : Found) → onListed x (guessesOf (namesBytes xs)) ≡ outcome.fine gs → guessesGood (length xs) gs ≡ true
+found-guesses : (xs : List (List ℕ)) (gs : List Guess) (x : Found) → onListed x (guessesOf (namesBytes xs)) ≡ outcome.fine gs
+    → guessesGood (length xs) gs ≡ true
 unfolding onListed
 found-guesses xs gs missing e = clash (cc)
 found-guesses xs gs (found f s) e = guesses-good (namesBytes xs) xs (strings-names xs) f s gs e
@@ -127,7 +131,8 @@ pub record Written (ty : ℕ) (s : List ℕ) (n : ℕ) (out′ : List ℕ) : Typ
 
 done-inv : (b : List ℕ) (n m : ℕ) → doneAt n ≡ answer (outcome.fine b) m → (length b ≡ n) × (length b ≤ m)
 unfolding answer
-done-inv b n m e = ⊎-elim (λ w. (ap (λ (k : LoadNumbers). k .place) (w .1), leb-true _ _ (w .0))) (λ w. not-done _ _ _ n (w .1)) (pick-inv _ _ _ _ (sym e))
+done-inv b n m e =
+    ⊎-elim (λ w. (ap (λ (k : LoadNumbers). k .place) (w .1), leb-true _ _ (w .0))) (λ w. not-done _ _ _ n (w .1)) (pick-inv _ _ _ _ (sym e))
 
 filled-is : (b out out′ : List ℕ) → out′ ≡ filled (outcome.fine b) out → length b ≤ length out → out′ ≡ sets out 0 b
 unfolding filled
@@ -138,7 +143,8 @@ fits b out out′ n r h =
     let i = done-inv b n (length out) r in
     rw (filled-is b out out′ h (i .1), sets-eq b out 0 (omega (arith, i .1))) (take-at b _ n (i .0))
 
-written-by : (ty : ℕ) (s out out′ : List ℕ) (n : ℕ) (x : outcome.Loading Pack) → loadOf ty s ≡ x → AnswerIs (written x) out (Done n) out′ → Written ty s n out′
+written-by : (ty : ℕ) (s out out′ : List ℕ) (n : ℕ) (x : outcome.Loading Pack) → loadOf ty s ≡ x → AnswerIs (written x) out (Done n) out′
+    → Written ty s n out′
 unfolding written answer loadedNumbers
 written-by ty s out out′ n (outcome.fine p) e a =
     let f : take n out′ ≡ packBytes p = fits (packBytes p) out out′ n (a .result) (a .buffer) in

@@ -58,7 +58,8 @@ module _ (k : FileKind) (s : List ℕ) (p l : ℕ) (w : AtLine s p l) (x : Item)
     here = sym e ∙ q
 
     pub passed-line : AtLine s n (l + a)
-    passed-line = record { within = passed-in k s p a n here; lines = omega (arith, w .lines, passed-goes k s p a n here, passed-lines k s p a n here); small = w .small }
+    passed-line =
+        record { within = passed-in k s p a n here; lines = omega (arith, w .lines, passed-goes k s p a n here, passed-lines k s p a n here); small = w .small }
 
     pub passed-less : length s - n < length s - p
     passed-less = omega (arith, passed-goes k s p a n here, passed-in k s p a n here)
@@ -124,13 +125,15 @@ module _ {A : Type 0} (meaning : Clause → Kept A) (f : ℕ) (k : FileKind) (s 
     abbrev Rest : ℕ → Type 0
     Rest p = (l : ℕ) (xs : List A) → toldFrom l p ≡ fine xs → Each P xs
 
-    kept-by : (l p : ℕ) (xs : List A) (t : Clause) (n : ℕ) → itemAt k s p ≡ Tells t n → (y : Kept A) → meaning t ≡ y → Rest n → toldFrom l p ≡ fine xs → Each P xs
+    kept-by : (l p : ℕ) (xs : List A) (t : Clause) (n : ℕ) → itemAt k s p ≡ Tells t n → (y : Kept A) → meaning t ≡ y → Rest n → toldFrom l p ≡ fine xs
+        → Each P xs
     kept-by l p xs t n e (keeps a) m ih q =
         let w = then-fine _ _ xs (sym (told-kept l p t n a e m) ∙ q) in
         rw (← fine-is (w .2)) (more (good p t n a e m) (ih (l + 1) (w .0) (w .1)))
     kept-by l p xs t n e (fault c) m ih q = let z = sym (told-fault l p t n c e m) ∙ q in clash (cc)
 
-    item-by : (l p : ℕ) (xs : List A) → p < length s → (x : Item) → itemAt k s p ≡ x → ((n : ℕ) → p < n → n ≤ length s → Rest n) → toldFrom l p ≡ fine xs → Each P xs
+    item-by : (l p : ℕ) (xs : List A) → p < length s → (x : Item) → itemAt k s p ≡ x → ((n : ℕ) → p < n → n ≤ length s → Rest n)
+        → toldFrom l p ≡ fine xs → Each P xs
     item-by l p xs h (Passed a n) e ih q = ih n (passed-goes k s p a n e) (passed-in k s p a n e) (l + a) xs (sym (told-passed l p a n e) ∙ q)
     item-by l p xs h (Tells t n) e ih q = kept-by l p xs t n e _ refl (ih n (tells-goes k s p t n e) (tells-in k s p t n e)) q
     item-by l p xs h Wrong e ih q = let z = sym (told-wrong l p h e) ∙ q in clash (cc)

@@ -94,7 +94,8 @@ keptAs : Bool → List ℕ → Judged → Kept Guess
 keptAs v pattern (Mask m) = keeps (guess (acceptOf v) m pattern)
 keptAs v pattern (Fault c) = fault c
 
-judged-is : (v : Bool) (pattern : List ℕ) (t u : Bool) (x : Listed) → judgedBy v pattern t u x ≡ keptAs v pattern (judgment (judgedBy true pattern t u x))
+judged-is : (v : Bool) (pattern : List ℕ) (t u : Bool) (x : Listed)
+    → judgedBy v pattern t u x ≡ keptAs v pattern (judgment (judgedBy true pattern t u x))
 unfolding judgment withMask pick keptAs
 judged-is v pattern true u x = refl
 judged-is v pattern false true (Bit k) = refl
@@ -112,7 +113,8 @@ kept-inv v pattern false false x g e = clash (cc)
 -- ---- a rule written
 
 module _ (o o₁ o₂ o₃ : List ℕ) (at p q r : ℕ) where
-  pub guess-put : (v : Bool) (m : ℕ) (pattern : List ℕ) → Put o o₁ at p (boolByte v ∷ []) → Put o₁ o₂ p q (maskBytes m) → Put o₂ o₃ q r (textPut pattern)
+  pub guess-put : (v : Bool) (m : ℕ) (pattern : List ℕ) → Put o o₁ at p (boolByte v ∷ []) → Put o₁ o₂ p q (maskBytes m)
+      → Put o₂ o₃ q r (textPut pattern)
       → Put o o₃ at r (guessPut v m pattern)
   unfolding guessPut acceptOf
   guess-put true m pattern x y z = put-then x (put-then y z)
@@ -148,7 +150,8 @@ pub record Writing (names s : List ℕ) (f : ℕ) (o₀ : List ℕ) (at₀ : ℕ
   pub place : at ≤ cap
   pub is : (r : Guessed) (o′ : List ℕ) → GuessesWritten n (toldFrom (guessOf names s) f Guesses s l p) o at r o′ → GuessesAre names s f o₀ at₀ r o′
 
-pub writing-start : (names s : List ℕ) (f : ℕ) (o : List ℕ) (at : ℕ) → length s * 1 < cap → length o * 1 < cap → at ≤ cap → Writing names s f o at o at 0 0 1
+pub writing-start : (names s : List ℕ) (f : ℕ) (o : List ℕ) (at : ℕ) → length s * 1 < cap → length o * 1 < cap → at ≤ cap
+    → Writing names s f o at o at 0 0 1
 unfolding GuessesAre guessesIn
 writing-start names s f o at b h k = record {
   line-at = line-start s b;
@@ -167,7 +170,8 @@ module _ {names s : List ℕ} {f : ℕ} {o₀ : List ℕ} {at₀ : ℕ} {o : Lis
 
   pub writing-done : length s ≤ p → GuessesAre names s f o₀ at₀ (Done n at) o
   unfolding GuessesWritten bytesOfAll
-  writing-done h = w .is _ o (rw (told-end (guessOf names s) f Guesses s l p h) (at, ap (λ (i : ℕ). Done i at) (omega arith), put-none o at (w .room) (w .place)))
+  writing-done h =
+      w .is _ o (rw (told-end (guessOf names s) f Guesses s l p h) (at, ap (λ (i : ℕ). Done i at) (omega arith), put-none o at (w .room) (w .place)))
 
   pub writing-count : Fits w64 (n + 1)
   writing-count = record { fits = omega (arith, w .rules, w .line-at .within, w .line-at .small) }
@@ -210,7 +214,8 @@ module _ {names s : List ℕ} {f : ℕ} {o₀ : List ℕ} {at₀ : ℕ} {o : Lis
         unfolding keptAs
         writing-fault c z = faulty c (here ∙ judged (Fault c) z)
 
-        pub writing-kept : (m : ℕ) → j ≡ Mask m → (o₁ : List ℕ) (r : ℕ) → Put o o₁ at r (guessPut v m pattern) → Writing names s f o₀ at₀ o₁ r (n + 1) i (l + 1)
+        pub writing-kept : (m : ℕ) → j ≡ Mask m → (o₁ : List ℕ) (r : ℕ) → Put o o₁ at r (guessPut v m pattern)
+            → Writing names s f o₀ at₀ o₁ r (n + 1) i (l + 1)
         unfolding keptAs judgedGuess
         writing-kept m z o₁ r y =
             let bytes = rw (put-bytes v m pattern (ltb-false _ _ (kept-inv v pattern _ _ _ _ (judged (Mask m) z) .1))) at y in
@@ -223,7 +228,17 @@ module _ {names s : List ℕ} {f : ℕ} {o₀ : List ℕ} {at₀ : ℕ} {o : Lis
               is = λ u o′ x. w .is u o′ (rw (told-kept (guessOf names s) f Guesses s l p t i _ here-tells (here ∙ judged (Mask m) z)) (from-next n _ _ o o₁ at r u o′ bytes x));
             }
 
-pub ruleset writes = (line-steps, writing-start, writing-done, writing-count, writing-wrong, writing-passed, writing-other, writing-fault, writing-kept)
+pub ruleset writes = (
+  line-steps,
+  writing-start,
+  writing-done,
+  writing-count,
+  writing-wrong,
+  writing-passed,
+  writing-other,
+  writing-fault,
+  writing-kept,
+)
 
 -- ---- what is kept is good in a pack
 
@@ -289,7 +304,8 @@ counted-inv true gs hs e = (refl, fine-is e)
 counted-inv false gs hs e = clash (cc)
 
 -- `names` is the bytes of the languages xs, each behind its length byte
-pub guesses-good : (names : List ℕ) (xs : List (List ℕ)) → stringsOf names ≡ xs → (f : ℕ) (s : List ℕ) (gs : List Guess) → guessesOf names f s ≡ fine gs → guessesGood (length xs) gs ≡ true
+pub guesses-good : (names : List ℕ) (xs : List (List ℕ)) → stringsOf names ≡ xs → (f : ℕ) (s : List ℕ) (gs : List Guess)
+    → guessesOf names f s ≡ fine gs → guessesGood (length xs) gs ≡ true
 unfolding guessesOf guessesIn countedGuesses guessesGood
 guesses-good names xs listed f s gs e =
     let w = then-fine _ _ gs e in

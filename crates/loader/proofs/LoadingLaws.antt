@@ -90,7 +90,8 @@ module _ (kind : NameType) (part s : List ℕ) (r : FileAt) where
 
 set-past : (vs l : List ℕ) (i j b : ℕ) → i < j → set (sets l j vs) i b ≡ sets (set l i b) j vs
 set-past [] l i j b h = refl
-set-past (v ∷ vs) l i j b h = set-past vs (set l j v) i (suc j) b (omega arith) ∙ ap (λ (m : List ℕ). sets m (suc j) vs) (set-comm l j i v b (λ e. omega arith))
+set-past (v ∷ vs) l i j b h =
+    set-past vs (set l j v) i (suc j) b (omega arith) ∙ ap (λ (m : List ℕ). sets m (suc j) vs) (set-comm l j i v b (λ e. omega arith))
 
 sets-over : (vs ts us l : List ℕ) (i : ℕ) → length vs ≡ length ts → sets (sets l i (ts ++ us)) i vs ≡ sets l i (vs ++ us)
 sets-over [] [] us l i h = refl
@@ -101,7 +102,8 @@ sets-over (v ∷ vs) (t ∷ ts) us l i h =
     ∙ sets-over vs ts us (set l i v) (suc i) (omega arith)
 
 -- one text and another, and then the first place written over
-put-over : {o o₁ o₂ o₃ : List ℕ} {at p q r : ℕ} {t u v : List ℕ} → Put o o₁ at p t → Put o₁ o₂ p q u → Put o₂ o₃ at r v → length v ≡ length t → Put o o₃ at q (v ++ u)
+put-over : {o o₁ o₂ o₃ : List ℕ} {at p q r : ℕ} {t u v : List ℕ} → Put o o₁ at p t → Put o₁ o₂ p q u → Put o₂ o₃ at r v → length v ≡ length t
+    → Put o o₃ at q (v ++ u)
 put-over {o} {at = at} {t = t} {u = u} {v = v} x y z h =
     let w = put-then x y in
     record { wrote = z .wrote ∙ rw (w .wrote) (sets-over v t u o at h); ends = omega (arith, w .ends, length-append t u, length-append v u); room = x .room }
@@ -167,7 +169,8 @@ pub ruleset guessed-laws = (load-missing, found-order, found-within, load-refuse
 -- ---- the language list
 
 module _ (kind : NameType) (s : List ℕ) (e : FileAt) (w : fileNumbers e ≡ fileAt s (typePrefix kind ++ languagesPart)) where
-  pub names-found : (k a b : ℕ) (out′ : List ℕ) (r : Names) → e ≡ file-at.At k a b → NamesRead (languagesOf k (take (b - a) (drop a s))) r out′ → NamesRead (namesOf kind (filesOf s)) r out′
+  pub names-found : (k a b : ℕ) (out′ : List ℕ) (r : Names) → e ≡ file-at.At k a b → NamesRead (languagesOf k (take (b - a) (drop a s))) r out′
+      → NamesRead (namesOf kind (filesOf s)) r out′
   unfolding namesOf onListed
   names-found k a b out′ r h x = rw (found-is s _ e w k a b h) x
 
@@ -230,7 +233,8 @@ module _ (kind : NameType) (fs : List File) (names : List ℕ) (n : ℕ) where
   abbrev Lists : Loading (List (List Rule))
   Lists = listsOf names fs (listFiles (typePrefix kind) (stringsOf names))
 
-  lists-then : (o o₁ o₂ o₃ : List ℕ) (q at t : ℕ) (gs : List Guess) → Put o o₁ 0 q (n ∷ names) → Put o₁ o₂ q at (guessesBytes gs) → (o₄ : List ℕ) → Put o₂ o₄ at t ((3 * n + 2) ∷ [])
+  lists-then : (o o₁ o₂ o₃ : List ℕ) (q at t : ℕ) (gs : List Guess) → Put o o₁ 0 q (n ∷ names) → Put o₁ o₂ q at (guessesBytes gs) → (o₄ : List ℕ)
+      → Put o₂ o₄ at t ((3 * n + 2) ∷ [])
       → (x : Loading (List (List Rule))) (r : Written) → WrittenIs (bytesOfAll listBytes) x o₄ o₃ t r
       → WrittenIs Same (andLoad x (λ ls. fine ((n ∷ names) ++ (guessesBytes gs ++ ((3 * n + 2) ∷ bytesOfAll listBytes ls))))) o o₃ 0 r
   unfolding WrittenIs andLoad
@@ -238,7 +242,8 @@ module _ (kind : NameType) (fs : List File) (names : List ℕ) (n : ℕ) where
   lists-then o o₁ o₂ o₃ q at t gs a b o₄ c (notLoaded w l f) r e = e
 
   module _ (o o₁ o₂ o₃ : List ℕ) (q : ℕ) (x : Written) (told : WrittenIs guessesBytes (guessFile kind fs names) o₂ o₃ q x) where
-    pub packed-lists : (p at t : ℕ) (o₄ o₅ : List ℕ) (r : Written) → Put o o₁ 0 p (n ∷ []) → Put o₁ o₂ p q names → x ≡ wrote.Done at → Put o₃ o₄ at t ((3 * n + 2) ∷ [])
+    pub packed-lists : (p at t : ℕ) (o₄ o₅ : List ℕ) (r : Written) → Put o o₁ 0 p (n ∷ []) → Put o₁ o₂ p q names → x ≡ wrote.Done at
+        → Put o₃ o₄ at t ((3 * n + 2) ∷ [])
         → WrittenIs (bytesOfAll listBytes) Lists o₄ o₅ t r → WrittenIs Same (packedOf kind fs names n) o o₅ 0 r
     unfolding packedOf andLoad
     packed-lists p at t o₄ o₅ r a b h c lists =
@@ -252,7 +257,8 @@ module _ (kind : NameType) (fs : List File) (names : List ℕ) (n : ℕ) where
 -- ---- measured, and then written
 
 module _ (x : Loading (List ℕ)) (o o′ : List ℕ) (w : Written) (m : WrittenIs Same x o o′ 0 w) where
-  pub answer-long : (n k : ℕ) (out : List ℕ) → w ≡ wrote.Done n → length out < n → k ≡ min 4294967295 n → AnswerIs x out (loaded.Refused NoRoom k 0) out
+  pub answer-long : (n k : ℕ) (out : List ℕ) → w ≡ wrote.Done n → length out < n → k ≡ min 4294967295 n
+      → AnswerIs x out (loaded.Refused NoRoom k 0) out
   unfolding answer filled loadedNumbers
   answer-long n k out h l e =
       let v = was-fine Same o o′ 0 w x n m h in
@@ -267,7 +273,8 @@ module _ (x : Loading (List ℕ)) (o o′ : List ℕ) (w : Written) (m : Written
   unfolding answer filled loadedNumbers
   answer-refused c l f out h = rw (was-refused Same o o′ 0 w x c l f m h) (record { result = refl; buffer = refl })
 
-  pub answer-done : (n : ℕ) (out out′ : List ℕ) (w′ : Written) → w ≡ wrote.Done n → n ≤ length out → WrittenIs Same x out out′ 0 w′ → AnswerIs x out (loaded.Done n) out′
+  pub answer-done : (n : ℕ) (out out′ : List ℕ) (w′ : Written) → w ≡ wrote.Done n → n ≤ length out → WrittenIs Same x out out′ 0 w′
+      → AnswerIs x out (loaded.Done n) out′
   unfolding answer filled loadedNumbers
   answer-done n out out′ w′ h l told =
       let v = was-fine Same o o′ 0 w x n m h in
@@ -286,11 +293,13 @@ unfolding written answer filled loadedNumbers
 refused-is o c l f out e = rw e (record { result = refl; buffer = refl })
 
 -- the bytes are those of the pack, where there are as many lists as there should be
-parts-packed : (xs : List (List ℕ)) (y : Loading (List Guess)) (z : Loading (List (List Rule))) → ((ls : List (List Rule)) → z ≡ fine ls → length ls ≡ 3 * length xs + 2)
+parts-packed : (xs : List (List ℕ)) (y : Loading (List Guess)) (z : Loading (List (List Rule)))
+    → ((ls : List (List Rule)) → z ≡ fine ls → length ls ≡ 3 * length xs + 2)
     → andLoad y (λ gs. andLoad z (λ ls. fine ((length xs ∷ namesBytes xs) ++ (guessesBytes gs ++ ((3 * length xs + 2) ∷ bytesOfAll listBytes ls)))))
     ≡ written (andLoad y (λ gs. andLoad z (λ ls. fine (record { names = xs; guesses = gs; lists = ls }))))
 unfolding andLoad written packBytes guessesBytes
-parts-packed xs (fine gs) (fine ls) n = ap (λ (k : ℕ). fine ((length xs ∷ namesBytes xs) ++ (guessesBytes gs ++ (k ∷ bytesOfAll listBytes ls)))) (sym (n ls refl))
+parts-packed xs (fine gs) (fine ls) n =
+    ap (λ (k : ℕ). fine ((length xs ∷ namesBytes xs) ++ (guessesBytes gs ++ (k ∷ bytesOfAll listBytes ls)))) (sym (n ls refl))
 parts-packed xs (fine gs) (notLoaded c l f) n = refl
 parts-packed xs (notLoaded c l f) z n = refl
 
@@ -313,17 +322,20 @@ unfolding listFiles threeOf twoOf
 files-length pre [] = refl
 files-length pre (x ∷ xs) = omega (arith, files-length pre xs)
 
-pub lists-counted : (kind : NameType) (fs : List File) (xs : List (List ℕ)) (ls : List (List Rule)) → listsOf (namesBytes xs) fs (listFiles (typePrefix kind) xs) ≡ fine ls → length ls ≡ 3 * length xs + 2
+pub lists-counted : (kind : NameType) (fs : List File) (xs : List (List ℕ)) (ls : List (List Rule))
+    → listsOf (namesBytes xs) fs (listFiles (typePrefix kind) xs) ≡ fine ls → length ls ≡ 3 * length xs + 2
 lists-counted kind fs xs ls e = lists-length (namesBytes xs) fs _ ls e ∙ files-length (typePrefix kind) xs
 
-packed-is : (kind : NameType) (fs : List File) (xs : List (List ℕ)) (bytes : List ℕ) (n : ℕ) → namesOf kind fs ≡ fine xs → bytes ≡ namesBytes xs → n ≡ length xs
+packed-is : (kind : NameType) (fs : List File) (xs : List (List ℕ)) (bytes : List ℕ) (n : ℕ) → namesOf kind fs ≡ fine xs → bytes ≡ namesBytes xs
+    → n ≡ length xs
     → packedOf kind fs bytes n ≡ written (packFrom kind fs)
 unfolding packedOf packFrom listsIn andLoad
 packed-is kind fs xs bytes n h e c =
     rw (e, c, h, strings-names xs) (parts-packed xs (guessFile kind fs (namesBytes xs)) (listsOf (namesBytes xs) fs (listFiles (typePrefix kind) xs)) (lists-counted kind fs xs))
 
 module _ (kind : NameType) (fs : List File) (nm : List ℕ) (r : Names) (w : NamesRead (namesOf kind fs) r nm) where
-  pub files-no-names : (c : Refusal) (l f : ℕ) (out : List ℕ) → r ≡ names.Refused c l f → AnswerIs (written (packFrom kind fs)) out (loaded.Refused c l f) out
+  pub files-no-names : (c : Refusal) (l f : ℕ) (out : List ℕ) → r ≡ names.Refused c l f
+      → AnswerIs (written (packFrom kind fs)) out (loaded.Refused c l f) out
   unfolding packFrom andLoad
   files-no-names c l f out h = refused-is (packFrom kind fs) c l f out (rw (not-named nm r _ c l f w h) refl)
 
@@ -334,7 +346,8 @@ module _ (kind : NameType) (fs : List File) (nm : List ℕ) (r : Names) (w : Nam
     pub files-languages : n ≤ 32
     files-languages = let v = was-named nm r _ n len w h in rw (v .count) (names-few kind fs (v .it) (v .is))
 
-    pub files-done : (out out′ : List ℕ) (z : Loaded) → AnswerIs (packedOf kind fs (take (len - 0) (drop 0 nm)) n) out z out′ → AnswerIs (written (packFrom kind fs)) out z out′
+    pub files-done : (out out′ : List ℕ) (z : Loaded) → AnswerIs (packedOf kind fs (take (len - 0) (drop 0 nm)) n) out z out′
+        → AnswerIs (written (packFrom kind fs)) out z out′
     files-done out out′ z a =
         let v = was-named nm r _ n len w h in
         rw (← packed-is kind fs (v .it) _ n (v .is) (ap (λ (k : ℕ). take k nm) (sub-zero len) ∙ v .front) (v .count)) a
@@ -359,7 +372,8 @@ bundle-bad cut k b = refl
 bundle-bad (got fs r) k b = pick-false _ _ _ b
 
 -- the files that the code finds are those of a bundle that is well formed
-bundle-good : {A : Type 0} (s : List ℕ) (x : Read (List File)) (k : List File → Loading A) → readBundle s ≡ x → wellFormed x ≡ true → onBundle x k ≡ k (filesOf s)
+bundle-good : {A : Type 0} (s : List ℕ) (x : Read (List File)) (k : List File → Loading A) → readBundle s ≡ x → wellFormed x ≡ true
+    → onBundle x k ≡ k (filesOf s)
 unfolding onBundle wellFormed
 bundle-good s cut k e b = clash (cc)
 bundle-good s (got fs r) k e b = pick-true _ _ _ b ∙ ap k (sym (files-read s fs r e))
@@ -377,7 +391,8 @@ module _ (ty : ℕ) (s out : List ℕ) (x : Kind) (e : x ≡ typeNumbered ty) wh
     pub load-bad : wellFormed (readBundle s) ≡ false → AnswerIs (written (loadOf ty s)) out (loaded.Refused BundleBroken 0 0) out
     load-bad b = refused-is (loadOf ty s) BundleBroken 0 0 out (known-is ∙ bundle-bad _ _ b)
 
-    pub load-good : (out′ : List ℕ) (z : Loaded) → wellFormed (readBundle s) ≡ true → AnswerIs (written (packFrom kind (filesOf s))) out z out′ → AnswerIs (written (loadOf ty s)) out z out′
+    pub load-good : (out′ : List ℕ) (z : Loaded) → wellFormed (readBundle s) ≡ true → AnswerIs (written (packFrom kind (filesOf s))) out z out′
+        → AnswerIs (written (loadOf ty s)) out z out′
     load-good out′ z b a = rw (known-is ∙ bundle-good s _ _ refl b) a
 
 pub ruleset names-loaded = (needs, names-found, found-order, found-within, names-missing)

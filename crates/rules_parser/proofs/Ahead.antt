@@ -81,7 +81,8 @@ Ahead s p Wrong = Unit {0}
 
 comment-ahead : (s : List ℕ) (p : ℕ) → p < length s → Ahead s p (commentAt s p)
 unfolding commentAt closeAt Ahead Closing onClose
-comment-ahead s p h = pick-where (Ahead s p) _ _ _ (λ e. tt) (λ e. on (closeAt s (spanEnd Blank s p + 2)) (close-in s (drop (spanEnd Blank s p + 2) s) (spanEnd Blank s p + 2) 0))
+comment-ahead s p h =
+    pick-where (Ahead s p) _ _ _ (λ e. tt) (λ e. on (closeAt s (spanEnd Blank s p + 2)) (close-in s (drop (spanEnd Blank s p + 2) s) (spanEnd Blank s p + 2) 0))
   where
     on : (c : Close) → Closing s (spanEnd Blank s p + 2) 0 c → Ahead s p (onClose c s)
     on (At r m) w =

@@ -71,7 +71,8 @@ pub ruleset spans = (span-more, span-stop, span-done)
 
 -- ---- a field, e or q being the end of a run
 module _ (s : List ℕ) (p : ℕ) where
-  pub quoted-is : (e : ℕ) → p < length s → getD s p 0 ≡ 34 → e ≡ spanEnd NotQuote s (p + 1) → e < length s → Is (text (p + 1) (e - (p + 1))) (e + 1) ≡ quotedAt s p
+  pub quoted-is : (e : ℕ) → p < length s → getD s p 0 ≡ 34 → e ≡ spanEnd NotQuote s (p + 1) → e < length s
+      → Is (text (p + 1) (e - (p + 1))) (e + 1) ≡ quotedAt s p
   unfolding quotedAt
   quoted-is e h b q l = sym (pick-true _ _ _ (lt-ltb _ _ h) ∙ pick-true _ _ _ (eq-eqb _ _ b) ∙ rw (← q) (pick-true _ _ _ (lt-ltb _ _ l)))
 
@@ -123,7 +124,21 @@ module _ (s : List ℕ) (p : ℕ) where
   unfolding tailOk
   tail-none q e h = rw (← e) (sym (pick-false _ _ _ (le-ltb q (length s) h)))
 
-pub ruleset fields = (quoted-is, quoted-open, quoted-other, quoted-past, word-is, word-none, field-quoted, field-plain, parted-is, parted-none, ends-is, tail-more, tail-none)
+pub ruleset fields = (
+  quoted-is,
+  quoted-open,
+  quoted-other,
+  quoted-past,
+  word-is,
+  word-none,
+  field-quoted,
+  field-plain,
+  parted-is,
+  parted-none,
+  ends-is,
+  tail-more,
+  tail-none,
+)
 
 -- ---- the part that a text is, as the slice is cut
 module _ (s : List ℕ) (t : Text) where

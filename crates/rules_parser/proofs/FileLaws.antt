@@ -37,7 +37,8 @@ pub close-start : (s : List ℕ) (p : ℕ) → closeAt s p ≡ closeIn s (drop p
 unfolding closeAt
 close-start s p = refl
 
-pub close-found : (s : List ℕ) (i n : ℕ) (x : Close) (t : Bool) → i < length s → t ≡ pairAt s i 42 47 → t ≡ true → x ≡ closeIn s (drop i s) i n → At (i + 2) (n + 1) ≡ x
+pub close-found : (s : List ℕ) (i n : ℕ) (x : Close) (t : Bool) → i < length s → t ≡ pairAt s i 42 47 → t ≡ true → x ≡ closeIn s (drop i s) i n
+    → At (i + 2) (n + 1) ≡ x
 close-found s i n x t h e p inv = sym (inv ∙ close-step s i n h ∙ pick-true _ _ _ (sym e ∙ p))
 
 pub close-more : (s : List ℕ) (i n m : ℕ) (x : Close) (t : Bool) → i < length s → t ≡ pairAt s i 42 47 → t ≡ false → m ≡ countedOf n (getD s i 0)
@@ -100,11 +101,13 @@ module _ (s : List ℕ) (p q : ℕ) (sk : q ≡ spanEnd blanks s p) where
   unfolding onClose
   comment-open r h e f = sym (comment-in r h e ∙ rw f refl)
 
-  pub comment-text : (r : Close) (a n : ℕ) (t : Bool) → q < length s → r ≡ closeAt s (q + 2) → r ≡ At a n → t ≡ restBlank s a → t ≡ false → Wrong ≡ commentAt s p
+  pub comment-text : (r : Close) (a n : ℕ) (t : Bool) → q < length s → r ≡ closeAt s (q + 2) → r ≡ At a n → t ≡ restBlank s a → t ≡ false
+      → Wrong ≡ commentAt s p
   unfolding onClose
   comment-text r a n t h e f g i = sym (comment-in r h e ∙ rw f (pick-false _ _ _ (sym g ∙ i)))
 
-  pub comment-ends : (r : Close) (a n m : ℕ) (t : Bool) → q < length s → r ≡ closeAt s (q + 2) → r ≡ At a n → t ≡ restBlank s a → t ≡ true → m ≡ nextLine s a
+  pub comment-ends : (r : Close) (a n m : ℕ) (t : Bool) → q < length s → r ≡ closeAt s (q + 2) → r ≡ At a n → t ≡ restBlank s a → t ≡ true
+      → m ≡ nextLine s a
       → Passed n m ≡ commentAt s p
   unfolding onClose
   comment-ends r a n m t h e f g i j = sym (comment-in r h e ∙ rw f (pick-true _ _ _ (sym g ∙ i) ∙ rw (← j) refl))

@@ -72,7 +72,8 @@ pub record Cut (s : List ℕ) (p : ℕ) (l left : List ℕ) : Type 0 where
   pub whole : drop p s ≡ l ++ rest
 
 -- at an LF, whichever byte stands before it
-lf-end : (s : List ℕ) (p : ℕ) (l left : List ℕ) → Last l → lastIs 13 l ≡ false → drop p s ≡ l ++ 10 ∷ left → p + length l ≡ spanEnd NotLf s p → p + length l < length s → textEnd s p ≡ p + length l
+lf-end : (s : List ℕ) (p : ℕ) (l left : List ℕ) → Last l → lastIs 13 l ≡ false → drop p s ≡ l ++ 10 ∷ left → p + length l ≡ spanEnd NotLf s p
+    → p + length l < length s → textEnd s p ≡ p + length l
 lf-end s p l left (none z) c e q o = sym (text-empty s p (p + length l) q o (omega (arith, ap length z)))
 lf-end s p l left (some v b z) c e q o =
     let n : length l ≡ length v + 1 = ap length z ∙ length-append v (b ∷ []) in
@@ -136,7 +137,8 @@ lined r = let w = split NotLf r in lined-by r (w .front) (w .rest) (w .whole) (w
 
 -- the line's text, cut off its file
 pub line-text : (s : List ℕ) (p : ℕ) (l r : List ℕ) → p ≤ length s → drop p s ≡ l ++ r → drop p (take (p + length l) s) ≡ l
-line-text s p l r h e = rw (take-add p (length l) s) (drop-at (take p s) (take (length l) (drop p s)) p (length-take-le p s h) ∙ ap (take (length l)) e ∙ take-append-seam l r)
+line-text s p l r h e =
+    rw (take-add p (length l) s) (drop-at (take p s) (take (length l) (drop p s)) p (length-take-le p s h) ∙ ap (take (length l)) e ∙ take-append-seam l r)
 
 -- ---- the end of a comment is the last text of its line
 

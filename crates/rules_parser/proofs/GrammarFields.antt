@@ -101,7 +101,8 @@ pub record Split (k : Kind) (l : List ℕ) : Type 0 where
 
 split-more : (k : Kind) (b : ℕ) (r : List ℕ) (t : Bool) → passesOf k b ≡ t → Split k r → Split k (b ∷ r)
 unfolding Every Stops
-split-more k b r true e w = record { front = b ∷ w .front; rest = w .rest; whole = ap (λ (l : List ℕ). b ∷ l) (w .whole); every = (of-passes k b e, w .every); stops = w .stops }
+split-more k b r true e w =
+    record { front = b ∷ w .front; rest = w .rest; whole = ap (λ (l : List ℕ). b ∷ l) (w .whole); every = (of-passes k b e, w .every); stops = w .stops }
 split-more k b r false e w = record { front = []; rest = b ∷ r; whole = refl; every = tt; stops = e }
 
 pub split : (k : Kind) (l : List ℕ) → Split k l
@@ -210,7 +211,8 @@ Where P (Is t q) = P t q
 Where P No = Unit {0}
 
 -- the text of w bytes from p on
-met : (k : FieldKind) (s : List ℕ) (p q n : ℕ) (w x r : List ℕ) → drop p s ≡ x ++ drop q s → (a : ℕ) → a ≤ length s → drop a s ≡ w ++ r → n ≡ length w → Written k w x → Met k s p (text a n) q
+met : (k : FieldKind) (s : List ℕ) (p q n : ℕ) (w x r : List ℕ) → drop p s ≡ x ++ drop q s → (a : ℕ) → a ≤ length s → drop a s ≡ w ++ r → n ≡ length w
+    → Written k w x → Met k s p (text a n) q
 met k s p q n w x r e a h d m f =
     let here : partOf s (text a n) ≡ w = rw m (part-here s a w r d) in
     record { written = x; place = e; shape = rw here f; same = λ z. rw here (rw m (part-is s a w r z h d)) }
@@ -267,7 +269,8 @@ pub record Parted (k : FieldKind) (s : List ℕ) (p : ℕ) (t : Text) (q : ℕ) 
 
 pub parted-met : (k : FieldKind) (s : List ℕ) (p : ℕ) → Where (Parted k s p) (partedAt k s p)
 unfolding partedAt Where Of
-parted-met k s p = pick-where (Where (Parted k s p)) _ _ _ (λ h. on (ltb-true _ _ h) (fieldAt k s (spanEnd Blank s p)) (field-met k s (spanEnd Blank s p))) (λ h. tt)
+parted-met k s p =
+    pick-where (Where (Parted k s p)) _ _ _ (λ h. on (ltb-true _ _ h) (fieldAt k s (spanEnd Blank s p)) (field-met k s (spanEnd Blank s p))) (λ h. tt)
   where
     on : p < spanEnd Blank s p → (x : Field) → Where (Met k s (spanEnd Blank s p)) x → Where (Parted k s p) x
     on h (Is t q) m =
@@ -302,7 +305,9 @@ quoted-given s p w r e h =
     record {
       part = text (p + 1) (length w);
       next = p + 1 + length w + 1;
-      is = pick-true _ _ _ (lt-ltb _ _ l) ∙ pick-true _ _ _ (eq-eqb _ _ (byte-is s p 34 (w ++ 34 ∷ r) e)) ∙ rw g (pick-true _ _ _ (lt-ltb _ _ (place-in s _ 34 r d)) ∙ rw m refl);
+      is =
+          pick-true _ _ _ (lt-ltb _ _ l) ∙ pick-true _ _ _ (eq-eqb _ _ (byte-is s p 34 (w ++ 34 ∷ r) e))
+          ∙ rw g (pick-true _ _ _ (lt-ltb _ _ (place-in s _ 34 r d)) ∙ rw m refl);
       here = part-here s (p + 1) w (34 ∷ r) f;
       there = λ z. part-is s (p + 1) w (34 ∷ r) z (omega arith) f;
       place = next-is s (p + 1 + length w) 34 r d;
@@ -325,7 +330,8 @@ word-given s p (b ∷ w) r e n h g =
       place = place-more s p (b ∷ w) r e;
     }
 
-pub field-given : (k : FieldKind) (s : List ℕ) (p : ℕ) (w x r : List ℕ) → drop p s ≡ x ++ r → Written k w x → Follows k r → Given s (fieldAt k s p) w r
+pub field-given : (k : FieldKind) (s : List ℕ) (p : ℕ) (w x r : List ℕ) → drop p s ≡ x ++ r → Written k w x → Follows k r
+    → Given s (fieldAt k s p) w r
 unfolding fieldAt Written Follows
 field-given Quoted s p w x r e h g = quoted-given s p w r (e ∙ rw (h .0, append-assoc w (34 ∷ []) r) refl) (h .1)
 field-given Plain s p w x r e h g = word-given s p w r (e ∙ rw (h .0) refl) (h .1) (h .2) g
@@ -337,7 +343,8 @@ written-stops Quoted w x r (e, h) = rw e (text-ends 34 (plain 34 (omega arith)))
 written-stops Plain [] x r (e, n, h) = absurd (n refl)
 written-stops Plain (b ∷ w) x r (e, n, h) = rw e (text-ends b (h .0))
 
-pub parted-given : (k : FieldKind) (s : List ℕ) (p : ℕ) (g y w x r : List ℕ) → drop p s ≡ g ++ y → Gap g → y ≡ x ++ r → Written k w x → Follows k r → Given s (partedAt k s p) w r
+pub parted-given : (k : FieldKind) (s : List ℕ) (p : ℕ) (g y w x r : List ℕ) → drop p s ≡ g ++ y → Gap g → y ≡ x ++ r → Written k w x → Follows k r
+    → Given s (partedAt k s p) w r
 unfolding partedAt Of
 parted-given k s p [] y w x r e h f i j = absurd (h .1 refl)
 parted-given k s p (b ∷ g) y w x r e h f i j =

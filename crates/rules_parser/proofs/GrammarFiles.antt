@@ -19,10 +19,12 @@ use specs.declared.files.Item.the-variants.{Passed, Tells, Wrong}
 use specs.Contracts.{itemsAt}
 use own.GrammarItems.{More, Item-as, item-complete, Begun, item-sound}
 
-reads-next : {k : FileKind} {x : FoundItem} {left : List ℕ} {xs : List FoundItem} (r : List ℕ) (b : ℕ) (t : List ℕ) → r ≡ b ∷ t → Begins k r x left → Reads k left xs → Reads k r (x ∷ xs)
+reads-next : {k : FileKind} {x : FoundItem} {left : List ℕ} {xs : List FoundItem} (r : List ℕ) (b : ℕ) (t : List ℕ) → r ≡ b ∷ t → Begins k r x left
+    → Reads k left xs → Reads k r (x ∷ xs)
 reads-next r b t e w h = rw e (next (rw e at w) h)
 
-reads-stop : (k : FileKind) (r : List ℕ) (b : ℕ) (t : List ℕ) → r ≡ b ∷ t → ((x : FoundItem) (left : List ℕ) → Begins k r x left → ⊥) → Reads k r (wrong ∷ [])
+reads-stop : (k : FileKind) (r : List ℕ) (b : ℕ) (t : List ℕ) → r ≡ b ∷ t → ((x : FoundItem) (left : List ℕ) → Begins k r x left → ⊥)
+    → Reads k r (wrong ∷ [])
 reads-stop k r b t e n = rw e (stop (rw e at n))
 
 from-past : (k : FileKind) (s : List ℕ) (p : ℕ) → length s ≤ p → Reads k (drop p s) (map (foundOf s) (itemsAt k s p))
@@ -32,7 +34,8 @@ from-past k s p h = rw (drop-of-length-le s h, items-end k s p h) over
 from-item : (k : FileKind) (s : List ℕ) (p : ℕ) → p < length s → ((q : ℕ) → p < q → Reads k (drop q s) (map (foundOf s) (itemsAt k s q)))
     → (i : Item) → itemAt k s p ≡ i → Begun k s p i → Reads k (drop p s) (map (foundOf s) (itemsAt k s p))
 unfolding Begun foundOf More
-from-item k s p o ih (Passed m q) e b = rw (items-passed k s p m q e) (reads-next (drop p s) _ _ (place-some s p o) b (ih q (passed-goes k s p m q e)))
+from-item k s p o ih (Passed m q) e b =
+    rw (items-passed k s p m q e) (reads-next (drop p s) _ _ (place-some s p o) b (ih q (passed-goes k s p m q e)))
 from-item k s p o ih (Tells t q) e b = rw (items-tells k s p t q e) (reads-next (drop p s) _ _ (place-some s p o) b (ih q (tells-goes k s p t q e)))
 from-item k s p o ih Wrong e b =
     rw (items-wrong k s p o e) (reads-stop k (drop p s) _ _ (place-some s p o) (λ x left w. rw e at (item-complete k s p o w .more)))
@@ -42,18 +45,22 @@ from-sound : (n : ℕ) (k : FileKind) (s : List ℕ) (p : ℕ) → length s - p 
 from-sound zero k s p h = from-past k s p (omega arith)
 from-sound (suc n) k s p h = go (ltb p (length s)) refl (λ q. from-sound n k s q)
   where
-    go : (t : Bool) → ltb p (length s) ≡ t → ((q : ℕ) → length s - q ≤ n → Reads k (drop q s) (map (foundOf s) (itemsAt k s q))) → Reads k (drop p s) (map (foundOf s) (itemsAt k s p))
+    go : (t : Bool) → ltb p (length s) ≡ t → ((q : ℕ) → length s - q ≤ n → Reads k (drop q s) (map (foundOf s) (itemsAt k s q)))
+        → Reads k (drop p s) (map (foundOf s) (itemsAt k s p))
     go true e ih =
         let o : p < length s = ltb-true _ _ e in
         from-item k s p o (λ q l. ih q (omega arith)) (itemAt k s p) refl (item-sound k s p o)
     go false e ih = from-past k s p (ltb-false _ _ e)
 
-from-complete : {k : FileKind} {r : List ℕ} {xs : List FoundItem} → Reads k r xs → (s : List ℕ) (p : ℕ) → drop p s ≡ r → xs ≡ map (foundOf s) (itemsAt k s p)
+from-complete : {k : FileKind} {r : List ℕ} {xs : List FoundItem} → Reads k r xs → (s : List ℕ) (p : ℕ) → drop p s ≡ r
+    → xs ≡ map (foundOf s) (itemsAt k s p)
 unfolding foundOf More Begun
 from-complete {k} over s p e = sym (ap (map (foundOf s)) (items-end k s p (omega (arith, length-drop p s, ap length e))))
-from-complete {k} (next {b} {t} {left} {x} {xs} w h) s p e = go (itemAt k s p) refl (item-complete k s p (place-in s p b t e) (rw e w)) (from-complete h s)
+from-complete {k} (next {b} {t} {left} {x} {xs} w h) s p e =
+    go (itemAt k s p) refl (item-complete k s p (place-in s p b t e) (rw e w)) (from-complete h s)
   where
-    go : (i : Item) → itemAt k s p ≡ i → Item-as s i x left → ((q : ℕ) → drop q s ≡ left → xs ≡ map (foundOf s) (itemsAt k s q)) → x ∷ xs ≡ map (foundOf s) (itemsAt k s p)
+    go : (i : Item) → itemAt k s p ≡ i → Item-as s i x left → ((q : ℕ) → drop q s ≡ left → xs ≡ map (foundOf s) (itemsAt k s q))
+        → x ∷ xs ≡ map (foundOf s) (itemsAt k s p)
     go (Passed m q) f a ih = let g = a .found in let j = ih q (a .more) in rw (items-passed k s p m q f) (cc)
     go (Tells u q) f a ih = let g = a .found in let j = ih q (a .more) in rw (items-tells k s p u q f) (cc)
     go Wrong f a ih = absurd (a .more)
@@ -71,7 +78,8 @@ left-one s left left′ (Tells t q) v w = sym v ∙ w
 left-one s left left′ Wrong v w = absurd v
 
 -- a text begins in one way
-pub one-beginning : (k : FileKind) (s : List ℕ) (x y : FoundItem) (left left′ : List ℕ) → 0 < length s → Begins k s x left → Begins k s y left′ → (x ≡ y) × (left ≡ left′)
+pub one-beginning : (k : FileKind) (s : List ℕ) (x y : FoundItem) (left left′ : List ℕ) → 0 < length s → Begins k s x left → Begins k s y left′
+    → (x ≡ y) × (left ≡ left′)
 one-beginning k s x y left left′ o v w =
     let a = item-complete k s 0 o v in
     let b = item-complete k s 0 o w in

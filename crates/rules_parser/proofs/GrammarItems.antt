@@ -134,7 +134,8 @@ module _ (k : FileKind) (s : List ℕ) (p : ℕ) (o : p < length s) (n : ℕ) (l
       (record { found = refl; more = cut s m (b .trail) left j .next })
 
 -- what begins at p is given so
-pub item-complete : (k : FileKind) (s : List ℕ) (p : ℕ) → p < length s → {x : FoundItem} {left : List ℕ} → Begins k (drop p s) x left → Item-as s (itemAt k s p) x left
+pub item-complete : (k : FileKind) (s : List ℕ) (p : ℕ) → p < length s → {x : FoundItem} {left : List ℕ} → Begins k (drop p s) x left
+    → Item-as s (itemAt k s p) x left
 item-complete k s p o (blank {l} {left} f h) = blank-item k s p o l left f h
 item-complete k s p o (comment {l} {left} f h) = comment-item k s p o l left f h
 item-complete k s p o (block {n} {left} b) = block-item k s p o n left b

@@ -54,10 +54,12 @@ prefix-told (x ∷ t) (y ∷ l) e =
     rw h (ap (λ (r : List ℕ). x ∷ r) (prefix-told t l (w .1)))
 
 -- a field, or blanks and a field, in front of what follows
-met-then : {k : FieldKind} {s : List ℕ} {p : ℕ} {t : Text} {q : ℕ} {A B : Shape} → (m : Met k s p t q) → A (m .written) → B (drop q s) → (A ⨾ B) (drop p s)
+met-then : {k : FieldKind} {s : List ℕ} {p : ℕ} {t : Text} {q : ℕ} {A B : Shape} → (m : Met k s p t q) → A (m .written) → B (drop q s)
+    → (A ⨾ B) (drop p s)
 met-then {s} {q} m a b = (m .written, drop q s, m .place, a, b)
 
-parted-then : {k : FieldKind} {s : List ℕ} {p : ℕ} {t : Text} {q : ℕ} {A B : Shape} → (m : Parted k s p t q) → A (m .field .written) → B (drop q s) → (Gap ⨾ A ⨾ B) (drop p s)
+parted-then : {k : FieldKind} {s : List ℕ} {p : ℕ} {t : Text} {q : ℕ} {A B : Shape} → (m : Parted k s p t q) → A (m .field .written) → B (drop q s)
+    → (Gap ⨾ A ⨾ B) (drop p s)
 parted-then {s} m a b = (m .gap, drop (m .from) s, m .place, m .blanks, met-then (m .field) a b)
 
 -- the line from p on, whose first text stands at q
@@ -65,7 +67,8 @@ module _ (s z : List ℕ) (p q : ℕ) (x : List ℕ) (e : drop p s ≡ x ++ drop
   abbrev M : FileKind → Line → Type 0
   M k = Means k (s ++ z) (drop p s)
 
-  on-field : (k : FileKind) (P : Text → ℕ → Type 0) (y : Field) (c : Text → ℕ → Line) → Where P y → ((t : Text) (r : ℕ) → P t r → M k (c t r)) → M k (onField y c)
+  on-field : (k : FileKind) (P : Text → ℕ → Type 0) (y : Field) (c : Text → ℕ → Line) → Where P y → ((t : Text) (r : ℕ) → P t r → M k (c t r))
+      → M k (onField y c)
   unfolding onField Where Means
   on-field k P (Is t r) c m h = h t r m
   on-field k P No c m h = tt
@@ -121,7 +124,8 @@ module _ (s z : List ℕ) (p q : ℕ) (x : List ℕ) (e : drop p s ≡ x ++ drop
       (λ g. rw (m .same z) (is-name (x, drop q s, e, b, met-then {A = Word (partOf s t)} {B = Blanks} m (m .shape) (ends-told s r (leb-true _ _ h))) g)) (λ g. tt)) (λ h. tt)
 
   module _ (not-comment : CommentLine (drop p s) → ⊥) (not-opening : OpeningLine (drop p s) → ⊥) where
-    guess-told : (t₁ t₂ t₃ : Text) (q₁ q₂ q₃ : ℕ) (v : Bool) → Met Plain s q t₁ q₁ → Parted Plain s q₁ t₂ q₂ → Parted Plain s q₂ t₃ q₃ → length s ≤ spanEnd blanks s q₃
+    guess-told : (t₁ t₂ t₃ : Text) (q₁ q₂ q₃ : ℕ) (v : Bool) → Met Plain s q t₁ q₁ → Parted Plain s q₁ t₂ q₂ → Parted Plain s q₂ t₃ q₃
+        → length s ≤ spanEnd blanks s q₃
         → sameText (partOf s t₃) (verdict v) ≡ true → M Guesses (guessTold s t₁ t₂ v)
     unfolding guessTold textAt Means saidOf Written
     guess-told t₁ t₂ t₃ q₁ q₂ q₃ v m₁ m₂ m₃ h g =
@@ -208,7 +212,8 @@ pub record Tells-as (f : List ℕ) (l : Line) (x : Said) : Type 0 where
 
 -- a field that stands there, and what is told behind it
 on-given : {f s w r : List ℕ} {x : Field} {y : Said} {c : Text → ℕ → Line} → Given s x w r
-    → ((t : Text) (q : ℕ) → partOf s t ≡ w → ((z : List ℕ) → partOf (s ++ z) t ≡ w) → drop q s ≡ r → Tells-as f (c t q) y) → Tells-as f (onField x c) y
+    → ((t : Text) (q : ℕ) → partOf s t ≡ w → ((z : List ℕ) → partOf (s ++ z) t ≡ w) → drop q s ≡ r → Tells-as f (c t q) y)
+    → Tells-as f (onField x c) y
 unfolding onField
 on-given {c} g h =
     let m = h (g .part) (g .next) (g .here) (g .there) (g .place) in
@@ -247,12 +252,14 @@ module _ (s z : List ℕ) (q : ℕ) (y : List ℕ) (d : drop q s ≡ y) where
       on-given (field-given Plain s q n x₁ y₁ (d ∙ d₁) h₁ (blanks-follow y₁ o)) λ a₁ q₁ i₁ j₁ n₁.
       on-true _ (ends-is s q₁ (rw n₁ o)) (on-true _ (rw i₁ h) (record { told = Name a₁; is = refl; same = rw (j₁ z) refl }))
 
-  accepted : (v : Bool) (f : List ℕ) (a b c : Text) (m : Said) → partOf s c ≡ verdict v → Tells-as f (guessTold s a b v) m → Tells-as f (acceptTold s a b c) m
+  accepted : (v : Bool) (f : List ℕ) (a b c : Text) (m : Said) → partOf s c ≡ verdict v → Tells-as f (guessTold s a b v) m
+      → Tells-as f (acceptTold s a b c) m
   unfolding acceptTold sameText pick and
   accepted true f a b c m e w = rw e w
   accepted false f a b c m e w = rw e w
 
-  guess-complete : (p n : List ℕ) (v : Bool) → (TextWord p ⨾ Gap ⨾ TextWord n ⨾ Gap ⨾ Word (verdict v) ⨾ Blanks) y → Tells-as (s ++ z) (guessAt s q) (guess p n v)
+  guess-complete : (p n : List ℕ) (v : Bool) → (TextWord p ⨾ Gap ⨾ TextWord n ⨾ Gap ⨾ Word (verdict v) ⨾ Blanks) y
+      → Tells-as (s ++ z) (guessAt s q) (guess p n v)
   unfolding guessAt guessEnd guessTold saidOf Written
   guess-complete p n v (x₁, y₁, d₁, (h₁, t₁), (g₂, w₂, f₂, k₂, (x₂, y₂, d₂, (h₂, t₂), (g₃, w₃, f₃, k₃, (x₃, y₃, d₃, h₃, o))))) =
       on-given (field-given Plain s q p x₁ y₁ (d ∙ d₁) h₁ (gap-follows g₂ w₂ y₁ f₂ k₂)) λ a₁ q₁ i₁ j₁ n₁.
@@ -269,7 +276,8 @@ told-at k s p x c y e h n f g =
     let q : spanEnd blanks s p ≡ p + length x = span-is s p blanks x (c ∷ y) e h (text-ends c n) in
     rw q (pick-false _ _ _ (lt-leb _ _ (place-in s (p + length x) c y (place-more s p x (c ∷ y) e))) ∙ pick-false _ _ _ f ∙ pick-false _ _ _ g)
 
-told-other : (k : FileKind) (s : List ℕ) (p : ℕ) (x : List ℕ) (c : ℕ) (y : List ℕ) → drop p s ≡ x ++ c ∷ y → Blanks x → NoBlank c → (c ≡ 47 → ⊥) → lineAt k s p ≡ toldAt k s (p + length x)
+told-other : (k : FileKind) (s : List ℕ) (p : ℕ) (x : List ℕ) (c : ℕ) (y : List ℕ) → drop p s ≡ x ++ c ∷ y → Blanks x → NoBlank c → (c ≡ 47 → ⊥)
+    → lineAt k s p ≡ toldAt k s (p + length x)
 told-other k s p x c y e h n o =
     let d = place-more s p x (c ∷ y) e in
     told-at k s p x c y e h n (pair-not s (p + length x) 47 47 c y d o) (pair-not s (p + length x) 47 42 c y d o)
@@ -318,13 +326,15 @@ module _ (s z : List ℕ) (p : ℕ) where
       (name-complete s z (p + length x) y (place-more s p x y d) (c ∷ n) g (x₁, y₁, d₁, (e, i, j), o))
 
   -- a line that the pair does not begin
-  unpaired : (a b : ℕ) (x : List ℕ) (c : ℕ) (y : List ℕ) → 0 < b → drop p s ≡ x ++ c ∷ y → Blanks x → ((Blanks ⨾ Just (a ∷ b ∷ []) ⨾ Anything) (drop p s) → ⊥)
+  unpaired : (a b : ℕ) (x : List ℕ) (c : ℕ) (y : List ℕ) → 0 < b → drop p s ≡ x ++ c ∷ y → Blanks x
+      → ((Blanks ⨾ Just (a ∷ b ∷ []) ⨾ Anything) (drop p s) → ⊥)
       → (t : Bool) → pairAt s (p + length x) a b ≡ t → t ≡ false
   unpaired a b x c y l d h n false e = refl
   unpaired a b x c y l d h n true e =
       absurd (n (x, c ∷ y, d, h, (a ∷ b ∷ [], drop (p + length x + 2) s, sym (place-more s p x (c ∷ y) d) ∙ pair-told s (p + length x) a b l e, refl, tt)))
 
-  guess-said : (a n : List ℕ) (v : Bool) → GuessLine a n v (drop p s) → (CommentLine (drop p s) → ⊥) → (OpeningLine (drop p s) → ⊥) → Tells-as (s ++ z) (lineAt Guesses s p) (guess a n v)
+  guess-said : (a n : List ℕ) (v : Bool) → GuessLine a n v (drop p s) → (CommentLine (drop p s) → ⊥) → (OpeningLine (drop p s) → ⊥)
+      → Tells-as (s ++ z) (lineAt Guesses s p) (guess a n v)
   unfolding toldAt Every
   guess-said [] n v (x, y, d, h, (x₁, y₁, d₁, ((e, i, j), t₁), o)) f g = absurd (i refl)
   guess-said (c ∷ a) n v (x, y, d, h, (x₁, y₁, d₁, ((e, i, j), t₁), o)) f g =

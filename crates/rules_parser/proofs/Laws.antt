@@ -69,7 +69,8 @@ same-items : (f g : ℕ) (k : FileKind) (s : List ℕ) (p : ℕ) → length s - 
 unfolding itemsFrom Ahead onNext
 same-items zero g k s p h i = sym (past-end g k s p (omega arith))
 same-items (suc f) zero k s p h i = past-end (suc f) k s p (omega arith)
-same-items (suc f) (suc g) k s p h i = pick-cong _ _ _ _ _ (λ e. on (ltb-true _ _ e) (itemAt k s p) (item-ahead k s p) (λ m. same-items f g k s m)) (λ e. refl)
+same-items (suc f) (suc g) k s p h i =
+    pick-cong _ _ _ _ _ (λ e. on (ltb-true _ _ e) (itemAt k s p) (item-ahead k s p) (λ m. same-items f g k s m)) (λ e. refl)
   where
     on : p < length s → (x : Item) → Ahead s p x → ((m : ℕ) → length s - m ≤ f → length s - m ≤ g → itemsFrom f k s m ≡ itemsFrom g k s m)
         → onNext x (itemsFrom f k s) ≡ onNext x (itemsFrom g k s)

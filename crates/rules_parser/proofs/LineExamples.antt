@@ -29,4 +29,5 @@ comments-found = (refl, (refl, (refl, (refl, (refl, (refl, (refl, (refl, tt)))))
 
 pub lines-found : AllFound lines
 unfolding computing lines
-lines-found = (refl, (refl, (refl, (refl, (refl, (refl, (refl, (refl, (refl, (refl, (refl, (refl, (refl, (refl, (refl, (refl, (refl, tt)))))))))))))))))
+lines-found =
+    (refl, (refl, (refl, (refl, (refl, (refl, (refl, (refl, (refl, (refl, (refl, (refl, (refl, (refl, (refl, (refl, (refl, tt)))))))))))))))))

@@ -116,7 +116,8 @@ module _ (k : FileKind) (s : List ℕ) (p q : ℕ) (e : q ≡ spanEnd blanks s p
   unfolding lineAt
   line-opens t u h f g i j = rw (← e) (sym (pick-false _ _ _ (lt-leb _ _ h) ∙ pick-false _ _ _ (sym f ∙ g) ∙ pick-true _ _ _ (sym i ∙ j)))
 
-  pub line-told : (t u : Bool) (x : Line) → q < length s → t ≡ pairAt s q 47 47 → t ≡ false → u ≡ pairAt s q 47 42 → u ≡ false → x ≡ toldAt k s q → x ≡ lineAt k s p
+  pub line-told : (t u : Bool) (x : Line) → q < length s → t ≡ pairAt s q 47 47 → t ≡ false → u ≡ pairAt s q 47 42 → u ≡ false → x ≡ toldAt k s q
+      → x ≡ lineAt k s p
   unfolding lineAt
   line-told t u x h f g i j z = z ∙ rw (← e) (sym (pick-false _ _ _ (lt-leb _ _ h) ∙ pick-false _ _ _ (sym f ∙ g) ∙ pick-false _ _ _ (sym i ∙ j)))
 
