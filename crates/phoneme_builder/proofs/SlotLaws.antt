@@ -6,14 +6,14 @@ use Rattle.languages.specs.Contracts.{coded, codesMerged, IsCode, BitsBelow}
 use Rattle.languages.proofs.CodedLaws.{merge-code, merge-none}
 use Rattle.languages.specs.declared.sets.LanguageSet.{LanguageSet}
 use Rattle.languages.specs.declared.sets.LanguageSet.the-variants.{Any, NoLanguages, SomeLanguages}
-use Rattle.phoneme_builder.specs.BufferContracts.{slotOf, langsOf, rowOf, lengthOf, slotMerged}
+use Rattle.phoneme_builder.specs.BufferContracts.{slotOf, langsOf, firstOf, secondOf, Merges, slotMerged}
 
 module _ (g first second : ℕ) (hf : first < 256) (hs : second < 256) where
-  pub row-packed : rowOf (slotOf g first second) ≡ first
-  row-packed = omega arith
+  pub first-packed : firstOf (slotOf g first second) ≡ first
+  first-packed = omega arith
 
-  pub length-packed : lengthOf (slotOf g first second) ≡ second
-  length-packed = omega arith
+  pub second-packed : secondOf (slotOf g first second) ≡ second
+  second-packed = omega arith
 
   pub langs-packed : langsOf (slotOf g first second) ≡ g
   langs-packed = omega arith
@@ -31,10 +31,10 @@ code-small c = rw (c .is) (coded-small (c .set) (c .below))
 -- ---- merging
 
 module _ (x g l m : ℕ) (el : l ≡ langsOf x) (em : m ≡ codesMerged l g) where
-  pub merged-small : IsCode (langsOf x) → IsCode g → m < 17179869184
-  merged-small c d = rw (em, el) (code-small (merge-code c d))
+  pub merged-small : Merges x g → m < 17179869184
+  merged-small c = rw (em, el) (code-small (merge-code (c .own) (c .other)))
 
-  pub merged-is : (y row long : ℕ) → row ≡ rowOf x → long ≡ lengthOf x → y ≡ slotOf m row long → y ≡ slotMerged x g
+  pub merged-is : (y row long : ℕ) → row ≡ firstOf x → long ≡ secondOf x → y ≡ slotOf m row long → y ≡ slotMerged x g
   merged-is y row long er ew e = rw (er, ew, em, el) at e
 
 pub ruleset merged-laws = (merged-small, merged-is)
@@ -42,5 +42,5 @@ pub ruleset merged-laws = (merged-small, merged-is)
 -- no languages added to those of a slot: it stays as it was
 pub kept-slot : (x : ℕ) → slotMerged x 0 ≡ x
 kept-slot x =
-    let parts : slotOf (langsOf x) (rowOf x) (lengthOf x) ≡ x = omega arith in
+    let parts : slotOf (langsOf x) (firstOf x) (secondOf x) ≡ x = omega arith in
     rw (merge-none (langsOf x)) parts

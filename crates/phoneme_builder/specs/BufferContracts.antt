@@ -22,6 +22,20 @@ use Rattle.phoneme_builder.specs.declared.apply.Applied.the-variants.{No
 use Rattle.phoneme_builder.specs.declared.unite.United.{United}
 use Rattle.phoneme_builder.specs.declared.unite.United.the-variants.{Into, TooMany}
 
+-- the bytes of a row, which no text exceeds, and the texts that a set may have
+abbrev pub ROW : ℕ
+ROW = 128
+
+abbrev pub MOST : ℕ
+MOST = 256
+
+-- the bytes of a set's rows, and the sets
+abbrev pub STORE : ℕ
+STORE = 32768
+
+abbrev pub SETS : ℕ
+SETS = 4
+
 -- ---- lists
 
 unfoldable pub further : Found → Found
@@ -63,26 +77,31 @@ slotOf g first second = g * 65536 + first * 256 + second
 abbrev pub langsOf : ℕ → ℕ
 langsOf x = x / 65536
 
-abbrev pub rowOf : ℕ → ℕ
-rowOf x = x / 256 % 256
+-- the row of a text, or where an alternative starts
+abbrev pub firstOf : ℕ → ℕ
+firstOf x = x / 256 % 256
 
-abbrev pub lengthOf : ℕ → ℕ
-lengthOf x = x % 256
+-- the length of a text, or where an alternative ends
+abbrev pub secondOf : ℕ → ℕ
+secondOf x = x % 256
 
-abbrev pub startOf : ℕ → ℕ
-startOf x = rowOf x
+pub record Packs (g first second : ℕ) : Type 0 where
+  pub small : g < 17179869184
+  pub first-in : first < 256
+  pub second-in : second < 256
 
-abbrev pub endOf : ℕ → ℕ
-endOf x = lengthOf x
+pub record Merges (x g : ℕ) : Type 0 where
+  pub own : IsCode (langsOf x)
+  pub other : IsCode g
 
 abbrev pub slotMerged : ℕ → ℕ → ℕ
-slotMerged x g = slotOf (codesMerged (langsOf x) g) (rowOf x) (lengthOf x)
+slotMerged x g = slotOf (codesMerged (langsOf x) g) (firstOf x) (secondOf x)
 
 -- ---- one set
 
 -- the text and the entry that a slot names
 unfoldable pub slotText : List ℕ → ℕ → Text
-slotText store x = take (lengthOf x) (drop (rowOf x * 128) store)
+slotText store x = take (secondOf x) (drop (firstOf x * ROW) store)
 
 unfoldable pub entryOf : List ℕ → ℕ → Entry
 entryOf store x = record { text = slotText store x; langs = decoded (langsOf x) }
@@ -96,8 +115,8 @@ slotEntries store slots n = map (entryOf store) (take n slots)
 
 -- x is the slot of a text in one of the first n rows
 pub record SlotIn (n x : ℕ) : Type 0 where
-  pub row : rowOf x < n
-  pub short : lengthOf x ≤ 128
+  pub row : firstOf x < n
+  pub short : secondOf x ≤ ROW
   pub code : IsCode (langsOf x)
 
 unfoldable pub SlotsIn : ℕ → List ℕ → Type 0
@@ -106,15 +125,15 @@ SlotsIn n (x ∷ xs) = SlotIn n x × SlotsIn n xs
 
 -- the buffers hold a set of n texts, in order
 pub record IsSet (store slots : List ℕ) (n : ℕ) : Type 0 where
-  pub few : n ≤ 256
-  pub long-store : length store ≡ 32768
-  pub long-slots : length slots ≡ 256
+  pub few : n ≤ MOST
+  pub long-store : length store ≡ STORE
+  pub long-slots : length slots ≡ MOST
   pub each : SlotsIn n (take n slots)
   pub increasing : Increasing (slotTexts store slots n)
 
 -- the same of one of four sets, whose lengths its type says
 pub record Holds (store slots : List ℕ) (n : ℕ) : Type 0 where
-  pub few : n ≤ 256
+  pub few : n ≤ MOST
   pub full : length (take n slots) ≡ n
   pub each : SlotsIn n (take n slots)
   pub increasing : Increasing (slotTexts store slots n)
@@ -124,19 +143,24 @@ pub record SetIs (store slots : List ℕ) (n : ℕ) (l : List Entry) : Type 0 wh
   pub set : IsSet store slots n
   pub is : slotEntries store slots n ≡ l
 
+-- what opening index p of the first n asks
+pub record Opens (slots : List ℕ) (p n : ℕ) : Type 0 where
+  pub index : p ≤ n
+  pub within : n < length slots
+
 -- what a slot for row n asks
 pub record InsertsText (slots : List ℕ) (p n g long : ℕ) : Type 0 where
   pub index : p ≤ n
   pub within : n < length slots
-  pub row : n < 256
-  pub fits : long ≤ 128
+  pub row : n < MOST
+  pub fits : long ≤ ROW
   pub code : IsCode g
 
 -- what entering a text of so many bytes asks, and the entries then
 pub record Enters (store slots : List ℕ) (n long g : ℕ) : Type 0 where
   pub set : IsSet store slots n
-  pub room : n < 256
-  pub fits : long ≤ 128
+  pub room : n < MOST
+  pub fits : long ≤ ROW
   pub code : IsCode g
 
 abbrev pub added : List ℕ → List ℕ → ℕ → Text → ℕ → List Entry
@@ -159,7 +183,7 @@ entriesAt a k n = slotEntries (part k (a .store)) (part k (a .slots)) n
 
 -- set k has n texts
 pub record SetAt (a : Arena) (k n : ℕ) : Type 0 where
-  pub known : k < 4
+  pub known : k < SETS
   pub set : Holds (part k (a .store)) (part k (a .slots)) n
 
 -- its i-th entry
@@ -173,7 +197,7 @@ pub record Stayed (a b : Arena) (k : ℕ) : Type 0 where
 
 -- no set but x and y changed
 unfoldable pub Only : ℕ → ℕ → Arena → Arena → Type 0
-Only x y a b = (k : ℕ) → k < 4 → (k ≡ x → ⊥) → (k ≡ y → ⊥) → Stayed a b k
+Only x y a b = (k : ℕ) → k < SETS → (k ≡ x → ⊥) → (k ≡ y → ⊥) → Stayed a b k
 
 -- set k has the r entries l, and no other set changed
 pub record GrownAt (a b : Arena) (k r : ℕ) (l : List Entry) : Type 0 where
@@ -183,12 +207,16 @@ pub record GrownAt (a b : Arena) (k r : ℕ) (l : List Entry) : Type 0 where
 
 pub record AddsTo (a : Arena) (to : Target) (long g : ℕ) : Type 0 where
   pub set : SetAt a (to .set) (to .count)
-  pub room : to .count < 256
-  pub fits : long ≤ 128
+  pub room : to .count < MOST
+  pub fits : long ≤ ROW
   pub code : IsCode g
 
 abbrev pub AddedTo : Arena → Arena → Target → Text → ℕ → ℕ → Type 0
 AddedTo a b to t g r = GrownAt a b (to .set) r (insert (entry t (decoded g)) (entriesAt a (to .set) (to .count)))
+
+pub record Begins (k g : ℕ) : Type 0 where
+  pub known : k < SETS
+  pub code : IsCode g
 
 abbrev pub BegunAs : Arena → Arena → ℕ → ℕ → ℕ → Type 0
 BegunAs a b k g r = GrownAt a b k r (start (decoded g))
@@ -197,9 +225,9 @@ BegunAs a b k g r = GrownAt a b k r (start (decoded g))
 
 -- text i of set k lies within the buffers
 pub record TextIn (slots : List (List ℕ)) (k i : ℕ) : Type 0 where
-  pub known : k < 4
-  pub index : i < 256
-  pub slot : SlotIn 256 (getD (part k slots) i 0)
+  pub known : k < SETS
+  pub index : i < MOST
+  pub slot : SlotIn MOST (getD (part k slots) i 0)
 
 abbrev pub textIn : List (List ℕ) → List (List ℕ) → ℕ → ℕ → Text
 textIn store slots k i = slotText (part k store) (getD (part k slots) i 0)
@@ -210,7 +238,7 @@ langsIn slots k i = langsOf (getD (part k slots) i 0)
 
 -- the first r bytes of d are the text t
 pub record CopiedIs (t : Text) (d : List ℕ) (r : ℕ) : Type 0 where
-  pub short : r ≤ 128
+  pub short : r ≤ ROW
   pub within : r ≤ length d
   pub text : take r d ≡ t
 
@@ -220,7 +248,7 @@ pub record CopiedIs (t : Text) (d : List ℕ) (r : ℕ) : Type 0 where
 unfoldable pub altAt : List ℕ → List ℕ → ℕ → Alternative
 altAt expr alts j =
     let x = getD alts j 0 in
-    record { text = take (endOf x - startOf x) (drop (startOf x) expr); langs = decoded (langsOf x) }
+    record { text = take (secondOf x - firstOf x) (drop (firstOf x) expr); langs = decoded (langsOf x) }
 
 unfoldable pub altsFrom : List ℕ → List ℕ → ℕ → ℕ → List Alternative
 altsFrom expr alts j zero = []
@@ -231,8 +259,8 @@ alternatives expr alts m = altsFrom expr alts 0 m
 
 -- a number that is an alternative of the expression
 pub record AltIn (expr : List ℕ) (x : ℕ) : Type 0 where
-  pub start-in : startOf x ≤ endOf x
-  pub end-in : endOf x ≤ length expr
+  pub start-in : firstOf x ≤ secondOf x
+  pub end-in : secondOf x ≤ length expr
   pub code : IsCode (langsOf x)
 
 -- the table holds m alternatives, each a part of the expression
@@ -264,7 +292,7 @@ pub record OfferedAt (limit : ℕ) (cs l : List Entry) (a b : Arena) (to : ℕ) 
 pub record Offers (a : Arena) (to : Target) (g h limit : ℕ) : Type 0 where
   pub set : SetAt a (to .set) (to .count)
   pub room : to .count < limit
-  pub few : limit ≤ 256
+  pub few : limit ≤ MOST
   pub code : IsCode g
   pub other : IsCode h
 
@@ -278,7 +306,7 @@ OfferedTo a b to t g u h limit r = OfferedUnder (entry t (decoded g)) (alternati
 pub record RowOffers (a : Arena) (to : Target) (g : ℕ) (expr alts : List ℕ) (most : Most) : Type 0 where
   pub set : SetAt a (to .set) (to .count)
   pub table : AltsIn expr alts (most .alternatives)
-  pub few : most .limit ≤ 256
+  pub few : most .limit ≤ MOST
   pub code : IsCode g
 
 abbrev pub RowOffered : Arena → Arena → Target → Text → ℕ → List ℕ → List ℕ → Most → Applied → Type 0
@@ -288,7 +316,7 @@ pub record TextOffers (a : Arena) (from i : ℕ) (to : Target) (expr alts : List
   pub text : TextIn (a .slots) from i
   pub set : SetAt a (to .set) (to .count)
   pub table : AltsIn expr alts (most .alternatives)
-  pub few : most .limit ≤ 256
+  pub few : most .limit ≤ MOST
 
 abbrev pub TextOffered : Arena → Arena → ℕ → ℕ → Target → List ℕ → List ℕ → Most → Applied → Type 0
 TextOffered a b from i to expr alts most r = OfferedUnder (entryIn a from i) (alternatives expr alts (most .alternatives)) (most .limit) a b to r
@@ -296,7 +324,7 @@ TextOffered a b from i to expr alts most r = OfferedUnder (entryIn a from i) (al
 -- the set to read has its texts, and the set to write is another
 pub record BetweenIn (a : Arena) (sets : Between) : Type 0 where
   pub source : SetAt a (sets .from) (sets .count)
-  pub known : sets .to < 4
+  pub known : sets .to < SETS
   pub apart : sets .from ≡ sets .to → ⊥
 
 -- its entries
@@ -306,7 +334,7 @@ sourceOf a sets = entriesAt a (sets .from) (sets .count)
 pub record Applies (a : Arena) (sets : Between) (expr alts : List ℕ) (most : Most) : Type 0 where
   pub sides : BetweenIn a sets
   pub table : AltsIn expr alts (most .alternatives)
-  pub few : most .limit ≤ 256
+  pub few : most .limit ≤ MOST
 
 abbrev pub AppliedTo : Arena → Arena → Between → List ℕ → List ℕ → Most → Applied → Type 0
 AppliedTo a b sets expr alts most r = AppliedAt a b (sets .to) r (apply (most .limit) (alternatives expr alts (most .alternatives)) (sourceOf a sets))
@@ -315,8 +343,8 @@ AppliedTo a b sets expr alts most r = AppliedAt a b (sets .to) r (apply (most .l
 
 -- the entry e inserted into l, where it is short
 unfoldable pub InsertedBy : Applied → Arena → ℕ → Entry → List Entry → Type 0
-InsertedBy (Now k) b to e l = SetAt b to k × (entriesAt b to k ≡ insert e l) × (length (e .text) ≤ 128)
-InsertedBy TooLong b to e l = 128 < length (e .text)
+InsertedBy (Now k) b to e l = SetAt b to k × (entriesAt b to k ≡ insert e l) × (length (e .text) ≤ ROW)
+InsertedBy TooLong b to e l = ROW < length (e .text)
 
 pub record LengthenedAt (a b : Arena) (to : ℕ) (e : Entry) (l : List Entry) (r : Applied) : Type 0 where
   pub is : InsertedBy r b to e l
@@ -325,7 +353,7 @@ pub record LengthenedAt (a b : Arena) (to : ℕ) (e : Entry) (l : List Entry) (r
 pub record Lengthens (a : Arena) (from i : ℕ) (to : Target) : Type 0 where
   pub text : TextIn (a .slots) from i
   pub set : SetAt a (to .set) (to .count)
-  pub room : to .count < 256
+  pub room : to .count < MOST
 
 abbrev pub LengthenedTo : Arena → Arena → ℕ → ℕ → Target → Text → Applied → Type 0
 LengthenedTo a b from i to c r = LengthenedAt a b (to .set) (lengthened c (entryIn a from i)) (entriesAt a (to .set) (to .count)) r
@@ -349,21 +377,21 @@ pub record UnitedIs (g : LanguageSet) (xs l : List Entry) (r : United) (store sl
   pub is : (rest : List Entry → Spelling) → spellingBy r store slots rest ≡ united g xs l rest
 
 pub record InsertsRow (store slots : List ℕ) (p n : ℕ) (t : Text) (g : ℕ) : Type 0 where
-  pub long-store : length store ≡ 32768
-  pub long-slots : length slots ≡ 256
+  pub long-store : length store ≡ STORE
+  pub long-slots : length slots ≡ MOST
   pub index : p ≤ n
-  pub row : n < 256
-  pub fits : length t ≤ 128
+  pub row : n < MOST
+  pub fits : length t ≤ ROW
   pub code : IsCode g
 
 pub record RowInserted (store slots : List ℕ) (p n : ℕ) (t : Text) (g : ℕ) (store′ slots′ : List ℕ) : Type 0 where
-  pub wrote : store′ ≡ put store (n * 128) t
+  pub wrote : store′ ≡ put store (n * ROW) t
   pub same : length slots′ ≡ length slots
   pub opened : take (n + 1) slots′ ≡ insAt p (slotOf g n (length t)) (take n slots)
 
 pub record Unites (store slots : List ℕ) (n : ℕ) (t : Text) (h g : ℕ) : Type 0 where
   pub set : IsSet store slots n
-  pub fits : length t ≤ 128
+  pub fits : length t ≤ ROW
   pub code : IsCode h
   pub worked : IsCode g
 
@@ -386,7 +414,7 @@ pub record UnitedAt (a b : Arena) (to : ℕ) (g : LanguageSet) (xs l : List Entr
 
 pub record UnitesTo (a : Arena) (to : Target) (t : Text) (h g : ℕ) : Type 0 where
   pub set : SetAt a (to .set) (to .count)
-  pub fits : length t ≤ 128
+  pub fits : length t ≤ ROW
   pub code : IsCode h
   pub worked : IsCode g
 

@@ -12,11 +12,12 @@ use Rattle.choices.specs.Texts.{Text}
 use Rattle.languages.specs.Contracts.{decoded, IsCode}
 use Rattle.languages.specs.declared.sets.LanguageSet.{LanguageSet}
 use Rattle.choices.specs.Apply.{Entry, apply, start}
+use Rattle.phonemes.specs.Expressions.{bar}
 use Rattle.refusals.specs.Numbers.{numberOf}
 use Rattle.refusals.specs.declared.Refusal.the-variants.{TextTooLong, TooManyTexts}
 use Rattle.phoneme_builder.specs.Sets.{Spelling, refusal, texts}
 use Rattle.phoneme_builder.specs.Passes.{offered, Turn, turnOn, turnsOf, Ran, tooLong, ran, flagged, run, raised, finalText, finalPass, then, wordOf, joined}
-use Rattle.phoneme_builder.specs.BufferContracts.{AltsIn, alternatives, Holds, slotTexts, part, Arena, SetAt, TextIn, entryIn, entriesAt, Stayed, Only, AppliedAt, BetweenIn, sourceOf}
+use Rattle.phoneme_builder.specs.BufferContracts.{MOST, SETS, AltsIn, alternatives, Holds, slotTexts, part, Arena, SetAt, TextIn, entryIn, entriesAt, Stayed, Only, AppliedAt, BetweenIn, sourceOf}
 use Rattle.phoneme_builder.specs.declared.pass.Turned.{Turned}
 use Rattle.phoneme_builder.specs.declared.pass.Turned.the-variants as turned
 use Rattle.phoneme_builder.specs.declared.pass.Passed.{Passed}
@@ -40,6 +41,11 @@ use Rattle.phoneme_builder.specs.declared.words.Worded.the-variants as w
 unfoldable pub namesIn : List ℕ → ℕ → List ℕ
 namesIn s guesses = take (guesses - 1) (drop 1 s)
 
+-- an expression has fewer than 256 bytes, and a table has 256 places
+pub record Fills (e alts : List ℕ) : Type 0 where
+  pub short : length e < 256
+  pub room : length alts ≡ MOST
+
 -- the table holds the alternatives of e
 pub record AltsAre (names e alts : List ℕ) (m : ℕ) : Type 0 where
   pub parts : AltsIn e alts m
@@ -49,7 +55,7 @@ pub record AltsAre (names e alts : List ℕ) (m : ℕ) : Type 0 where
 pub record RuleApplies (a : Arena) (sets : Between) (expr : List ℕ) (limit : ℕ) : Type 0 where
   pub sides : BetweenIn a sets
   pub short : length expr < 256
-  pub few : limit ≤ 256
+  pub few : limit ≤ MOST
 
 abbrev pub RuleApplied : Arena → Arena → Between → List ℕ → List ℕ → ℕ → Applied → Type 0
 RuleApplied a b sets expr names limit r = AppliedAt a b (sets .to) r (apply limit (offered names expr) (sourceOf a sets))
@@ -90,7 +96,7 @@ pub record TurnedAt (a b : Arena) (by : Pass) (word : Text) (at : Stage) (turns 
 -- a pass stands at a place of the word, with two sets
 pub record StageIn (a : Arena) (word : Text) (at : Stage) : Type 0 where
   pub source : SetAt a (at .from) (at .count)
-  pub known : at .to < 4
+  pub known : at .to < SETS
   pub apart : at .from ≡ at .to → ⊥
   pub here : at .place < length word
 
@@ -99,7 +105,7 @@ UnmatchedTurned a b by word at r = TurnedAt a b by word at (turnOn [] none word 
 
 pub record Turns (a : Arena) (by : Pass) (word : Text) (at : Stage) : Type 0 where
   pub stage : StageIn a word at
-  pub few : by .limit ≤ 256
+  pub few : by .limit ≤ MOST
 
 abbrev pub TurnedBy : Arena → Arena → List ℕ → List (List ℕ) → Pass → Text → Stage → Turned → Type 0
 TurnedBy a b s table by word at r = TurnedAt a b by word at (turnOn (namesOf s by) (rulesOf s table by word (at .place)) word (at .place)) r
@@ -121,7 +127,7 @@ pub record PassedAt (a b : Arena) (x y : ℕ) (o : Ran) (r : Passed) : Type 0 wh
 
 pub record Runs (a : Arena) (by : Pass) (sets : Between) : Type 0 where
   pub sides : BetweenIn a sets
-  pub few : by .limit ≤ 256
+  pub few : by .limit ≤ MOST
 
 -- a word run from a set
 abbrev pub runOf : List ℕ → List (List ℕ) → Pass → Text → List Entry → Ran
@@ -134,10 +140,10 @@ RunTo a b s table by word sets r = PassedAt a b (sets .from) (sets .to) (runOf s
 
 -- four sets, all different
 pub record Apart (sets : FinalSets) : Type 0 where
-  pub old-known : sets .old < 4
-  pub result-known : sets .result < 4
-  pub x-known : sets .x < 4
-  pub y-known : sets .y < 4
+  pub old-known : sets .old < SETS
+  pub result-known : sets .result < SETS
+  pub x-known : sets .x < SETS
+  pub y-known : sets .y < SETS
   pub old-result : sets .old ≡ sets .result → ⊥
   pub old-x : sets .old ≡ sets .x → ⊥
   pub old-y : sets .old ≡ sets .y → ⊥
@@ -173,7 +179,7 @@ pub record FinishedAt (b : Arena) (to : ℕ) (s : Spelling) (r : Finished) : Typ
 
 -- what each function of a final pass asks of the pass: its limit, and that it appends
 pub record FinalBy (by : Pass) : Type 0 where
-  pub few : by .limit ≤ 256
+  pub few : by .limit ≤ MOST
   pub final : by .appends ≡ true
 
 pub record TextRuns (a : Arena) (by : Pass) (sets : FinalSets) (i : ℕ) : Type 0 where
@@ -219,7 +225,7 @@ raisedBy up finished.TooMany = finished.TooMany
 pub record FinishesAll (a : Arena) (by : Plan) (from : Target) : Type 0 where
   pub source : SetAt a (from .set) (from .count)
   pub side : from .set < 2
-  pub few : by .limit ≤ 256
+  pub few : by .limit ≤ MOST
 
 -- the final pass of a plan by a list
 abbrev pub finalBy : List ℕ → List (List ℕ) → Plan → ℕ → List Entry → Spelling
@@ -235,7 +241,7 @@ pub record CodeOf (set : LanguageSet) (g : ℕ) : Type 0 where
   pub is : set ≡ decoded g
 
 pub record Spells (by : Plan) (g : ℕ) : Type 0 where
-  pub few : by .limit ≤ 256
+  pub few : by .limit ≤ MOST
   pub code : CodeOf (by .set) g
 
 -- a word by a plan with this limit
@@ -259,6 +265,17 @@ textsIn store slots n = slotTexts (part 0 store) (part 0 slots) n
 unfoldable pub barred : List Text → ℕ
 barred [] = 0
 barred (t ∷ ts) = suc (length t) + barred ts
+
+-- a bar and t stand in out from a place on, and r is the place behind them
+pub record PutBarred (out out′ : List ℕ) (at : ℕ) (t : Text) (r : ℕ) : Type 0 where
+  pub buffer : out′ ≡ sets out at (bar ∷ t)
+  pub place : r ≡ at + 1 + length t
+
+-- set 0 has n texts, one at least, and joined they fit into out from a place on
+pub record Joins (store slots : List (List ℕ)) (n : ℕ) (out : List ℕ) (at : ℕ) : Type 0 where
+  pub texts : TextsIn store slots n
+  pub some : 0 < n
+  pub room : at + length (joined (textsIn store slots n)) ≤ length out
 
 -- t in out from a place on, where it fits there
 unfoldable pub placed : List ℕ → ℕ → Text → List ℕ
@@ -292,7 +309,7 @@ placedAs (texts l flag) out at = placed out at (joined (spellingsIn l))
 
 -- the word that `word` spells: a limit over 256 counts as 256
 abbrev pub wordBy : List ℕ → List (List ℕ) → Plan → Text → Spelling
-wordBy s table by word = wordWithin (min (by .limit) 256) s table by word
+wordBy s table by word = wordWithin (min (by .limit) MOST) s table by word
 
 -- the promise of `word`: the answer and the content of `out`
 pub record WordIs (s : Spelling) (out out′ : List ℕ) (at : ℕ) (r : Worded) : Type 0 where

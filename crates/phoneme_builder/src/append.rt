@@ -23,7 +23,7 @@ fn lengthen(
     ensures { λ r. ⌜ LengthenedTo (arena (now (store .entry)) (now (slots .entry))) (arena (now (store .exit)) (now (slots .exit)))
         from i to (now (c .entry)) r ⌝ }
 {
-    let mut row = [0u8; 128];
+    let mut row = [0u8; ROW];
     let e = copy_text(store, slots, from, i, &mut row);
     if ROW < e + c.len() {
         return Applied::TooLong;

@@ -8,9 +8,9 @@ use crate::set::Target;
 use crate::set::add_to;
 use crate::set::copy_text;
 use crate::set::langs_at;
-use crate::slots::end_of;
+use crate::slots::first_of;
 use crate::slots::langs_of;
-use crate::slots::start_of;
+use crate::slots::second_of;
 
 // How many alternatives a table has, and how many texts a set may have.
 pub(crate) struct Most {
@@ -71,8 +71,8 @@ fn apply_row(
             return Applied::Now(count);
         }
         let x = alts[j];
-        let start = start_of(x);
-        let end = end_of(x);
+        let start = first_of(x);
+        let end = second_of(x);
         j += 1;
         match offer(
             store,
@@ -110,7 +110,7 @@ fn apply_text(
     ensures { λ r. ⌜ TextOffered (arena (now (store .entry)) (now (slots .entry))) (arena (now (store .exit)) (now (slots .exit)))
         from i to (now (expr .entry)) (now (alts .entry)) most r ⌝ }
 {
-    let mut row = [0u8; 128];
+    let mut row = [0u8; ROW];
     let e = copy_text(store, slots, from, i, &mut row);
     let langs = langs_at(slots, from, i);
     apply_row(store, slots, to, &row[0..e], langs, expr, alts, most)

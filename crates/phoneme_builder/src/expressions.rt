@@ -1,19 +1,15 @@
 // The alternatives of an expression, read once for each apply.
-ghost use mathlib.Core.Path.{_≡_};
-ghost use Prim.Native.Nat.{_<_};
-ghost use lib.ListN.{length};
-ghost use Rattle.phoneme_builder.specs.Contracts.{AltsAre};
+ghost use Rattle.phoneme_builder.specs.Contracts.{Fills, AltsAre};
 use crate::set::MOST;
 use crate::slots::packed;
 use phonemes::Alternative;
 
 // A table of alternatives: an expression has no more than 256.
-pub(crate) type Alternatives = [u64; 256];
+pub(crate) type Alternatives = [u64; MOST];
 
 // The alternatives of e, in the table. Returns how many there are.
 pub(crate) fn alternatives(e: &[u8], names: &[u8], alts: &mut [u64]) -> usize
-    requires { ⌜ length (now e) < 256 ⌝ }
-    requires { ⌜ length (now alts) ≡ 256 ⌝ }
+    requires { ⌜ Fills (now e) (now alts) ⌝ }
     ensures { λ r. ⌜ AltsAre (now (names .entry)) (now (e .entry)) (now (alts .exit)) r ⌝ }
 {
     let mut i = 0;

@@ -7,6 +7,7 @@ use crate::pass::Passed;
 use crate::pass::either;
 use crate::pass::run;
 use crate::set::Between;
+use crate::set::ROW;
 use crate::set::Slots;
 use crate::set::Store;
 use crate::set::begin;
@@ -52,7 +53,7 @@ fn run_text(
     ensures { λ r. ⌜ TextRan (arena (now (store .entry)) (now (slots .entry))) (arena (now (store .exit)) (now (slots .exit)))
         (now (pack .entry)) (now (table .entry)) by sets i r ⌝ }
 {
-    let mut word = [0u8; 128];
+    let mut word = [0u8; ROW];
     let e = copy_text(store, slots, sets.old, i, &mut word);
     let langs = langs_at(slots, sets.old, i);
     let count = begin(store, slots, sets.x, langs);

@@ -1,7 +1,7 @@
 // A pass over a word (01, Spelling a name, steps 6 and 8): at each place the first rule that matches is applied.
 ghost use mathlib.Core.Path.{_≡_};
 ghost use mathlib.Core.Bool.{true};
-ghost use Prim.Native.Nat.{_+_, _≤_, _<_, min};
+ghost use Prim.Native.Nat.{_+_, _<_, min};
 ghost use lib.ListN.{length};
 ghost use Rattle.base.specs.Pick.{pick};
 ghost use Rattle.letters.specs.Utf8.{decodeAt};
@@ -100,7 +100,7 @@ fn char_bytes(word: &[u8], place: usize) -> usize
 
 // The place a step further in a word.
 fn past(word: &[u8], place: usize, step: usize) -> usize
-    requires { ⌜ place + step ≤ length (now word) ⌝ }
+    requires { ⌜ StepIn (now word) place step ⌝ }
     ensures { λ r. ⌜ r ≡ place + step ⌝ }
 {
     place + step

@@ -3,26 +3,30 @@
 // Four sets stand side by side, by number: 256 rows of 128 bytes and 256 slots each.
 ghost use mathlib.Core.Path.{_≡_};
 ghost use mathlib.Core.List.{_++_};
-ghost use Prim.Native.Nat.{_+_, _*_, _≤_, _<_};
+ghost use Prim.Native.Nat.{_+_, _*_, _≤_};
 ghost use lib.ListN.{length, take, drop};
-ghost use Rattle.languages.specs.Contracts.{IsCode};
-ghost use Rattle.phoneme_builder.specs.BufferContracts.{findL, insAt, put, slotOf, InsertsText, rowOf, lengthOf, slotText, slotTexts, added, IsSet, SetIs, Enters, arena, AddsTo, AddedTo, BegunAs, TextIn, textIn, langsIn, CopiedIs};
+ghost use Rattle.phoneme_builder.specs.BufferContracts.{ROW, findL, insAt, put, slotOf, InsertsText, firstOf, secondOf, slotText, slotTexts, added, IsSet, SetIs, Enters, arena, Opens, AddsTo, AddedTo, Begins, BegunAs, TextIn, textIn, langsIn, CopiedIs};
 use crate::slots::NO_LANGUAGES;
+use crate::slots::first_of;
 use crate::slots::langs_of;
-use crate::slots::length_of;
 use crate::slots::merged;
 use crate::slots::packed;
-use crate::slots::row_of;
+use crate::slots::second_of;
 
 // The rows and the slots of four sets.
-pub type Store = [[u8; 32768]; 4];
+pub type Store = [[u8; STORE]; SETS];
 
-pub type Slots = [[u64; 256]; 4];
+pub type Slots = [[u64; MOST]; SETS];
 
 // The bytes of a row, which no text exceeds, and the texts that a set may have.
 pub(crate) const ROW: usize = 128;
 
 pub(crate) const MOST: usize = 256;
+
+// The bytes of a set's rows, and the sets.
+const STORE: usize = 32768;
+
+const SETS: usize = 4;
 
 // A set by its number, and how many texts it has.
 pub(crate) struct Target {
@@ -45,11 +49,11 @@ pub(crate) enum Found {
 
 // The text that a slot names.
 fn row<'a>(store: &'a [u8], slot: u64) -> &'a [u8]
-    requires { ⌜ rowOf slot * 128 + lengthOf slot ≤ length (now store) ⌝ }
+    requires { ⌜ firstOf slot * ROW + secondOf slot ≤ length (now store) ⌝ }
     ensures { λ r. ⌜ now r ≡ slotText (now (store .entry)) slot ⌝ }
 {
-    let a = row_of(slot) * ROW;
-    let e = a + length_of(slot);
+    let a = first_of(slot) * ROW;
+    let e = a + second_of(slot);
     &store[a..e]
 }
 
@@ -77,7 +81,7 @@ pub(crate) fn find(store: &[u8], slots: &[u64], count: usize, t: &[u8]) -> Found
 
 // Puts v at index p of the first n, and moves the others up by one.
 fn insert_at(slots: &mut [u64], p: usize, n: usize, v: u64)
-    requires { ⌜ (p ≤ n) × (n < length (now slots)) ⌝ }
+    requires { ⌜ Opens (now slots) p n ⌝ }
     ensures { λ _. ⌜ take (n + 1) (now (slots .exit)) ≡ insAt p v (take n (now (slots .entry))) ⌝ }
 {
     let mut x = v;
@@ -104,7 +108,7 @@ pub(crate) fn insert_text(slots: &mut [u64], p: usize, n: usize, langs: u64, lon
 fn enter(store: &[u8], slots: &mut [u64], count: usize, long: usize, langs: u64) -> usize
     requires { ⌜ Enters (now store) (now slots) count long langs ⌝ }
     ensures { λ r. ⌜ SetIs (now (store .entry)) (now (slots .exit)) r
-        (added (now (store .entry)) (now (slots .entry)) count (take long (drop (count * 128) (now (store .entry)))) langs) ⌝ }
+        (added (now (store .entry)) (now (slots .entry)) count (take long (drop (count * ROW) (now (store .entry)))) langs) ⌝ }
 {
     let a = count * ROW;
     match find(store, slots, count, &store[a..a + long]) {
@@ -133,8 +137,8 @@ pub(crate) fn put(d: &mut [u8], at: usize, t: &[u8])
 
 // Writes the text of a and then b into row n.
 pub(crate) fn write(store: &mut [u8], n: usize, a: &[u8], b: &[u8])
-    requires { ⌜ n * 128 + (length (now a) + length (now b)) ≤ length (now store) ⌝ }
-    ensures { λ _. ⌜ now (store .exit) ≡ put (now (store .entry)) (n * 128) (now (a .entry) ++ now (b .entry)) ⌝ }
+    requires { ⌜ n * ROW + (length (now a) + length (now b)) ≤ length (now store) ⌝ }
+    ensures { λ _. ⌜ now (store .exit) ≡ put (now (store .entry)) (n * ROW) (now (a .entry) ++ now (b .entry)) ⌝ }
 {
     let at = n * ROW;
     put(store, at, a);
@@ -182,7 +186,7 @@ pub(crate) fn copy_text(
     slots: &Slots,
     set: usize,
     i: usize,
-    d: &mut [u8; 128],
+    d: &mut [u8; ROW],
 ) -> usize
     requires { ⌜ TextIn (now slots) set i ⌝ }
     ensures { λ r. ⌜ CopiedIs (textIn (now (store .entry)) (now (slots .entry)) set i) (now (d .exit)) r ⌝ }
@@ -202,8 +206,7 @@ pub(crate) fn langs_at(slots: &Slots, set: usize, i: usize) -> u64
 
 // A set begun with one empty text. Returns how many texts there are.
 pub(crate) fn begin(store: &mut Store, slots: &mut Slots, set: usize, langs: u64) -> usize
-    requires { ⌜ set < 4 ⌝ }
-    requires { ⌜ IsCode langs ⌝ }
+    requires { ⌜ Begins set langs ⌝ }
     ensures { λ r. ⌜ BegunAs (arena (now (store .entry)) (now (slots .entry))) (arena (now (store .exit)) (now (slots .exit))) set langs r ⌝ }
 {
     add_to(store, slots, Target { set, count: 0 }, b"", b"", langs)

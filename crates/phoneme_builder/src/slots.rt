@@ -1,61 +1,53 @@
 // What a slot of a set holds: the languages of a text, the row where it stands and its length. What an alternative of a table holds:
 // its languages, where it starts in its expression and where it ends. Nothing else takes these numbers apart.
 ghost use mathlib.Core.Path.{_≡_};
-ghost use Prim.Native.Nat.{_<_};
-ghost use Rattle.languages.specs.Contracts.{IsCode};
-ghost use Rattle.phoneme_builder.specs.BufferContracts.{slotOf, langsOf, rowOf, lengthOf, startOf, endOf, slotMerged};
+ghost use Rattle.phoneme_builder.specs.BufferContracts.{slotOf, langsOf, firstOf, secondOf, slotMerged, Packs, Merges};
 
 // The code of no languages: merged into a set, it adds nothing.
 pub(crate) const NO_LANGUAGES: u64 = 0;
 
+// What a byte and two bytes can count.
+const BYTE: u64 = 256;
+
+const TWO_BYTES: u64 = 65536;
+
 // Languages and two bytes: row and length, or start and end.
 pub(crate) fn packed(langs: u64, first: usize, second: usize) -> u64
-    requires { ⌜ (langs < 17179869184) × (first < 256) × (second < 256) ⌝ }
+    requires { ⌜ Packs langs first second ⌝ }
     ensures { λ r. ⌜ r ≡ slotOf langs first second ⌝ }
 {
-    langs * 65536 + (first as u64) * 256 + second as u64
+    langs * TWO_BYTES + (first as u64) * BYTE + second as u64
 }
 
 // The languages of a slot or of an alternative.
 pub(crate) fn langs_of(x: u64) -> u64
     ensures { λ r. ⌜ r ≡ langsOf x ⌝ }
 {
-    x / 65536
+    x / TWO_BYTES
 }
 
-pub(crate) fn row_of(slot: u64) -> usize
-    ensures { λ r. ⌜ r ≡ rowOf slot ⌝ }
+// The row of a slot, or where an alternative starts.
+pub(crate) fn first_of(x: u64) -> usize
+    ensures { λ r. ⌜ r ≡ firstOf x ⌝ }
 {
-    (slot / 256 % 256) as usize
+    (x / BYTE % BYTE) as usize
 }
 
-pub(crate) fn length_of(slot: u64) -> usize
-    ensures { λ r. ⌜ r ≡ lengthOf slot ⌝ }
+// The length of a slot's text, or where an alternative ends.
+pub(crate) fn second_of(x: u64) -> usize
+    ensures { λ r. ⌜ r ≡ secondOf x ⌝ }
 {
-    (slot % 256) as usize
-}
-
-pub(crate) fn start_of(alternative: u64) -> usize
-    ensures { λ r. ⌜ r ≡ startOf alternative ⌝ }
-{
-    (alternative / 256 % 256) as usize
-}
-
-pub(crate) fn end_of(alternative: u64) -> usize
-    ensures { λ r. ⌜ r ≡ endOf alternative ⌝ }
-{
-    (alternative % 256) as usize
+    (x % BYTE) as usize
 }
 
 // A slot with more languages merged into its own.
 pub(crate) fn merged(slot: u64, langs: u64) -> u64
-    requires { ⌜ IsCode (langsOf slot) ⌝ }
-    requires { ⌜ IsCode langs ⌝ }
+    requires { ⌜ Merges slot langs ⌝ }
     ensures { λ r. ⌜ r ≡ slotMerged slot langs ⌝ }
 {
     packed(
         languages::merge_codes(langs_of(slot), langs),
-        row_of(slot),
-        length_of(slot),
+        first_of(slot),
+        second_of(slot),
     )
 }

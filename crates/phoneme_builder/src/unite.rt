@@ -3,6 +3,7 @@ ghost use Rattle.phoneme_builder.specs.BufferContracts.{InsertsRow, RowI
 use crate::set::Between;
 use crate::set::Found;
 use crate::set::MOST;
+use crate::set::ROW;
 use crate::set::Slots;
 use crate::set::Store;
 use crate::set::Target;
@@ -94,7 +95,7 @@ fn unite_text(
     ensures { λ r. ⌜ UnitedText (arena (now (store .entry)) (now (slots .entry))) (arena (now (store .exit)) (now (slots .exit)))
         from i to worked r ⌝ }
 {
-    let mut row = [0u8; 128];
+    let mut row = [0u8; ROW];
     let e = copy_text(store, slots, from, i, &mut row);
     let langs = langs_at(slots, from, i);
     unite_to(store, slots, to, &row[0..e], langs, worked)

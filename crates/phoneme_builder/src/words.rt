@@ -1,13 +1,11 @@
 // A word spelled (01, Spelling a name, steps 6 to 9): the main pass, the final passes, common and then language, and the texts joined.
 ghost use mathlib.Core.Path.{_≡_};
-ghost use mathlib.Core.List.{_∷_};
-ghost use Prim.Native.Nat.{_+_, _≤_, _<_};
+ghost use Prim.Native.Nat.{_+_, _≤_};
 ghost use lib.ListN.{length};
 ghost use lib.Seq.{sets};
-ghost use Rattle.phonemes.specs.Expressions.{bar};
 ghost use Rattle.phoneme_builder.specs.BufferContracts.{arena};
 ghost use Rattle.phoneme_builder.specs.Passes.{joined};
-ghost use Rattle.phoneme_builder.specs.Contracts.{CodeOf, raisedBy, FinishesAll, FinishedAll, Spells, SpelledAs, TextsIn, textsIn, barred, GivenIs, wordBy, WordIs};
+ghost use Rattle.phoneme_builder.specs.Contracts.{CodeOf, raisedBy, FinishesAll, FinishedAll, Spells, SpelledAs, TextsIn, textsIn, barred, PutBarred, Joins, GivenIs, wordBy, WordIs};
 use crate::expressions::Alternatives;
 use crate::finals::FinalSets;
 use crate::finals::Finished;
@@ -168,7 +166,7 @@ fn bytes_barred(store: &Store, slots: &Slots, n: usize) -> usize
 // A bar and t, into out from a place on. Returns the place behind them.
 fn put_barred(out: &mut [u8], at: usize, t: &[u8]) -> usize
     requires { ⌜ at + 1 + length (now t) ≤ length (now out) ⌝ }
-    ensures { λ r. ⌜ (now (out .exit) ≡ sets (now (out .entry)) at (bar ∷ now (t .entry))) × (r ≡ at + 1 + length (now (t .entry))) ⌝ }
+    ensures { λ r. ⌜ PutBarred (now (out .entry)) (now (out .exit)) at (now (t .entry)) r ⌝ }
 {
     out[at] = b'|';
     put(out, at + 1, t);
@@ -177,9 +175,7 @@ fn put_barred(out: &mut [u8], at: usize, t: &[u8]) -> usize
 
 // The n texts of set 0, joined by bars, into out from a place on.
 fn put_joined(store: &Store, slots: &Slots, n: usize, out: &mut [u8], at: usize)
-    requires { ⌜ TextsIn (now store) (now slots) n ⌝ }
-    requires { ⌜ 0 < n ⌝ }
-    requires { ⌜ at + length (joined (textsIn (now store) (now slots) n)) ≤ length (now out) ⌝ }
+    requires { ⌜ Joins (now store) (now slots) n (now out) at ⌝ }
     ensures { λ r. ⌜ now (out .exit) ≡ sets (now (out .entry)) at (joined (textsIn (now (store .entry)) (now (slots .entry)) n)) ⌝ }
 {
     let t = text_of(store, slots, 0, 0);
@@ -236,7 +232,7 @@ pub fn word(
         guesses: by.guesses,
         set,
     };
-    let mut alts = [0u64; 256];
+    let mut alts = [0u64; MOST];
     match spell_word(store, slots, &mut alts, pack, table, within, langs, word) {
         Finished::Into { texts, flag } => Worded::Done {
             length: give(store, slots, texts, out, at),

@@ -19,7 +19,7 @@ use Rattle.bundles.specs.PlaceContracts.{fileNumbers, fileAt}
 use Rattle.bundles.specs.declared.FileAt.{FileAt}
 use Rattle.bundles.specs.declared.FileAt.the-variants.{At, Missing}
 use Rattle.bundles.proofs.Laws.{missing-is, found-is}
-use Rattle.held.specs.Met.{Met, finished, bytesOfAll}
+use Rattle.held.specs.Met.{Met, entries, finished, bytesOfAll}
 use Rattle.held.specs.Files.{FileRead, wasRead, readListed}
 use Rattle.held.specs.Files as files
 use Rattle.held.specs.Contracts.{keyBytes}
@@ -28,15 +28,17 @@ use Rattle.held.proofs.Keys.{finished-keys}
 use Rattle.held.proofs.Reading.{listed-entries}
 use Rattle.rule_lists.specs.Outcomes.{Loading, fine, notLoaded, andLoad}
 use Rattle.rule_lists.specs.Lines.{linesOf}
-use Rattle.rule_lists.specs.TableContracts.{KeptIs, keysOf, Low}
-use Rattle.rule_lists.specs.Contracts.{keptAs, CollectIs, WrittenIs}
+use Rattle.rule_lists.specs.TableContracts.{KeptIs, keysOf}
+use Rattle.rule_lists.specs.Contracts as collects
+use Rattle.rule_lists.specs.Contracts.{readFrom, keptAs, CollectIs, WrittenIs}
 use Rattle.rule_lists.specs.WritingContracts.{rulePut, SomeKept, RowsPut}
 use Rattle.rule_lists.specs.Lists.{listIn, listNamed, firstCodeOf, filesFor, countedRules}
 use Rattle.rule_lists.specs.declared.walk.Collected.{Collected}
 use Rattle.rule_lists.specs.declared.walk.Collected.the-variants as collected
 use Rattle.rule_lists.specs.declared.list_writing.Written.the-variants.{Done, Refused}
-use Rattle.rule_lists.proofs.TableLaws.{kept-rows, kept-low, keys-rows}
+use Rattle.rule_lists.proofs.TableLaws.{kept-rows, keys-rows}
 use Rattle.rule_lines.proofs.Laws.{good-short}
+use Rattle.rule_lists.proofs.FollowLaws.{found-stands}
 use Rattle.rule_lists.proofs.WalkLaws.{GoodRead, each-read, each-finished, within-all}
 use Rattle.base.proofs.PickLaws.{pick-inv, and-yes}
 use Rattle.bundles.specs.Contracts.{filesOf}
@@ -66,15 +68,21 @@ unfolding countedRules
 counted-fine (wasRead u) t e = ⊎-elim (λ w. let q : u ≡ t = cc (w .1) in (ap wasRead q, rw q at (leb-true (length (finished firstCodeOf u)) 4096 (w .0)))) (λ w. clash (cc (w .1))) (pick-inv _ (fine u) (notLoaded TooMuch 0 0) (fine t) e)
 counted-fine (files.notRead c l f) t e = clash (cc)
 
-collect-done : (bundle : List ℕ) (x : Loading (Met Rule)) (g : Collected) (rows : List ℕ) (n : ℕ) → CollectIs bundle x g rows → g ≡ collected.Rules n → (t : Met Rule) × (x ≡ fine t) × KeptIs bundle rows n (keptAs t)
-unfolding CollectIs
-collect-done bundle (fine t) g rows n w e = let q : w .0 ≡ n = cc (w .1) in (t, refl, rw q at (w .2))
-collect-done bundle (notLoaded c l f) g rows n w e = clash (cc)
+module _ {bundle : List ℕ} where
+  collect-done : {x : Loading (Met Rule)} {g : Collected} {rows : List ℕ} {n : ℕ} → CollectIs bundle x g rows → g ≡ collected.Rules n → (t : Met Rule) × (x ≡ fine t) × (n ≤ 4096) × KeptIs bundle rows n (keptAs t)
+  collect-done {n = n} (collects.all {t} {n = m} few h) e = let q : m ≡ n = cc in (t, refl, rw q at few, rw q at h)
+  collect-done collects.refused e = clash (cc)
 
-collect-stop : (bundle : List ℕ) (x : Loading (Met Rule)) (g : Collected) (rows : List ℕ) (c : Refusal) (l f : ℕ) → CollectIs bundle x g rows → g ≡ collected.Refused c l f → x ≡ notLoaded c l f
-unfolding CollectIs
-collect-stop bundle (fine t) g rows c l f w e = clash (cc (w .1))
-collect-stop bundle (notLoaded d m k) g rows c l f w e = cc
+  collect-stop : {x : Loading (Met Rule)} {g : Collected} {rows : List ℕ} {c : Refusal} {l f : ℕ} → CollectIs bundle x g rows → g ≡ collected.Refused c l f → x ≡ notLoaded c l f
+  collect-stop (collects.all few h) e = clash (cc)
+  collect-stop collects.refused e = cc
+
+  module _ {x : Loading (Met Rule)} {g : Collected} {rows : List ℕ} {n : ℕ} (v : CollectIs bundle x g rows) (e : g ≡ collected.Rules n) where
+    pub list-few : n ≤ 4096
+    list-few = collect-done v e .2
+
+    pub list-kept : SomeKept bundle rows n
+    list-kept = let w = collect-done v e in record { some = (keptAs (w .0), w .3) }
 
 -- the list that was read
 module _ (names : List ℕ) (fs : List File) (k : ℕ) (s : List ℕ) (t : Met Rule) (e : countedRules (readListed (filesFor names fs) k (linesOf names s)) ≡ fine t) where
@@ -87,12 +95,17 @@ module _ (names : List ℕ) (fs : List File) (k : ℕ) (s : List ℕ) (t : Met R
   good-finished : bytes.Each (GoodRead names) (finished firstCodeOf t)
   good-finished = each-finished (GoodRead names) firstCodeOf t (each-read names fs k s t read)
 
+  short : entries t ≤ 256
+  short = listed-entries _ k _ t read
+
+  all : length (keptAs t) ≡ length (finished firstCodeOf t)
+  unfolding keptAs
+  all = length-kept firstCodeOf t short (within-all t)
+
   -- rows that are kept, written by their keys, are the finished list
   list-bytes : (bundle rows : List ℕ) (n : ℕ) → KeptIs bundle rows n (keptAs t) → countBytes n ++ keyBytes rulePut (keptAs t) (keysOf rows n 0 []) ≡ listBytes (finished firstCodeOf t)
   unfolding listBytes keptAs
   list-bytes bundle rows n h =
-      let short = listed-entries _ k _ t read in
-      let all = length-kept firstCodeOf t short (within-all t) in
       let size : n ≡ length (finished firstCodeOf t) = omega (arith, h .count, all, few-finished) in
       let kept : length (keptAs t) ≡ n = all ∙ sym size in
       let few : n ≤ 4096 = omega (arith, few-finished) in
@@ -110,35 +123,21 @@ module _ (bundle names wanted : List ℕ) (f : FileAt) (w : fileNumbers f ≡ fi
     unfolding listNamed listIn
     list-found = ap (listIn names (filesOf bundle)) (found-is bundle wanted f w k a b q)
 
-    module _ (g : Collected) (rows : List ℕ) (v : CollectIs bundle (countedRules (readListed (filesFor names (filesOf bundle)) k (linesOf names (take (b - a) (drop a bundle))))) g rows) where
+    module _ (g : Collected) (rows : List ℕ) (v : CollectIs bundle (countedRules (readFrom bundle names (record { file = k; start = a; end = b; left = 8 }) 0)) g rows) where
       pub list-refused : (c : Refusal) (l i : ℕ) → g ≡ collected.Refused c l i → (o o′ : List ℕ) (at : ℕ) → WrittenIs listBytes (listNamed names (filesOf bundle) wanted) o o′ at (Refused c l i)
-      unfolding WrittenIs andLoad
-      list-refused c l i e o o′ at = rw (list-found, collect-stop bundle _ g rows c l i v e) refl
+      unfolding WrittenIs andLoad readFrom readListed
+      list-refused c l i e o o′ at = rw (list-found, collect-stop {c = c} v e) refl
 
       module _ (n : ℕ) (e : g ≡ collected.Rules n) where
-        told : (t : Met Rule) × (countedRules (readListed (filesFor names (filesOf bundle)) k (linesOf names (take (b - a) (drop a bundle)))) ≡ fine t) × KeptIs bundle rows n (keptAs t)
-        told = collect-done bundle _ g rows n v e
-
-        pub list-kept : SomeKept bundle rows n
-        list-kept = record { some = (keptAs (told .0), told .2) }
-
-        pub list-size : length rows ≡ 16384
-        list-size = told .2 .size
-
-        pub list-few : n ≤ 4096
-        unfolding keptAs
-        list-few =
-            let short = listed-entries _ k _ (told .0) (read _ _ k _ (told .0) (told .1)) in
-            omega (arith, told .2 .count, length-kept firstCodeOf (told .0) short (within-all (told .0)), few-finished _ _ k _ (told .0) (told .1))
-
-        pub list-low : Low rows n
-        list-low = kept-low bundle rows n (keptAs (told .0)) (told .2) list-few
+        told : (t : Met Rule) × (countedRules (readListed (filesFor names (filesOf bundle)) k (linesOf names (take (b - a) (drop a bundle)))) ≡ fine t) × (n ≤ 4096) × KeptIs bundle rows n (keptAs t)
+        unfolding readFrom readListed
+        told = collect-done v e
 
         pub list-told : (o o′ : List ℕ) (at p : ℕ) → RowsPut bundle rows n o at p o′ → WrittenIs listBytes (listNamed names (filesOf bundle) wanted) o o′ at (Done p)
         unfolding WrittenIs andLoad
-        list-told o o′ at p u = rw (list-found, told .1) (p, refl, rw (list-bytes _ _ k _ (told .0) (told .1) bundle rows n (told .2)) at (u .is (keptAs (told .0)) (told .2)))
+        list-told o o′ at p u = rw (list-found, told .1) (p, refl, rw (list-bytes _ _ k _ (told .0) (told .1) bundle rows n (told .3)) at (u .is (keptAs (told .0)) (told .3)))
 
-pub ruleset file-laws = (list-missing, list-refused, list-kept, list-size, list-few, list-low, list-told)
+pub ruleset file-laws = (list-missing, found-stands, list-refused, list-kept, list-few, list-told)
 
 -- ---- what every list has
 

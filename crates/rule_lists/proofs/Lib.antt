@@ -1,4 +1,4 @@
-pub mod EnterLaws
+pub mod FollowLaws
 pub mod FileLaws
 pub mod GoingLaws
 pub mod LineLaws

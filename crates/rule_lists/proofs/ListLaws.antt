@@ -4,6 +4,8 @@ use mathlib.Core.List.{List, [], _∷_, _++_, append-nil}
 use Prim.Native.Nat.{ℕ, suc, _+_, _-_, _≤_, _<_}
 use native.Mathlib.Omega.{arith}
 use lib.ListN.{length, getD, take, drop, length-take, length-append}
+use mir.Syntax.{w8}
+use mir.Val.{Fits}
 use Rattle.refusals.specs.declared.Refusal.{Refusal}
 use Rattle.writing.specs.Contracts.{Put}
 use Rattle.base.proofs.Arms.{clash}
@@ -20,6 +22,10 @@ use Rattle.pack_bytes.proofs.Laws.{bytes-append}
 use Rattle.bundles.specs.Bundles.{File}
 use Rattle.rule_lists.specs.Outcomes.{Loading, fine, notLoaded, andLoad}
 use Rattle.rule_lists.specs.Lists.{listNamed, listsOf, typePrefix, rulesPart, approxPart, exactPart, commonPart, twoOf, threeOf, listFiles}
+use Rattle.rule_lists.specs.WritingContracts.{listPart, listName}
+use Rattle.rule_lists.specs.declared.lists.ListKind.{ListKind}
+use Rattle.rule_lists.specs.declared.lists.ListKind.the-variants as list
+use Rattle.rule_lists.specs.declared.lists.ListName.{ListName}
 use Rattle.rule_lists.specs.declared.list_writing.Written.{Written}
 use Rattle.rule_lists.specs.declared.list_writing.Written.the-variants.{Done, Refused}
 use Rattle.held.specs.Met.{bytesOfAll}
@@ -67,20 +73,60 @@ told-stop f h x m o o₁ at r c l i v q = rw (told-refused f x o o₁ at c l i r
 
 -- ---- a name of three parts
 
-module _ (pre kind lang : List ℕ) where
-  pub name-put : (w w₁ w₂ w₃ : List ℕ) (a b n : ℕ) → Put w w₁ 0 a pre → Put w₁ w₂ a b kind → Put w₂ w₃ b n lang → Put w w₃ 0 n (pre ++ (kind ++ lang))
-  name-put w w₁ w₂ w₃ a b n x y z = put-then x (put-then y z)
+module _ (o o′ : List ℕ) (at r : ℕ) where
+  module _ (kind : NameType) where
+    pub put-ash : kind ≡ Ashkenazi → Put o o′ at r (97 ∷ 115 ∷ 104 ∷ []) → Put o o′ at r (typePrefix kind)
+    unfolding typePrefix
+    put-ash e v = rw e v
 
-  module _ (w w₁ : List ℕ) (n : ℕ) (x : Put w w₁ 0 n (pre ++ (kind ++ lang))) (size : length w ≡ 320) (h : length pre + (length kind + length lang) ≤ 320) where
-    name-is : (n ≡ length (pre ++ (kind ++ lang))) × (take n w₁ ≡ pre ++ (kind ++ lang))
-    name-is = put-fits x (omega (arith, length-append pre (kind ++ lang), length-append kind lang))
+    pub put-gen : kind ≡ Generic → Put o o′ at r (103 ∷ 101 ∷ 110 ∷ []) → Put o o′ at r (typePrefix kind)
+    unfolding typePrefix
+    put-gen e v = rw e v
 
-    pub name-fits : n ≤ length w₁
-    name-fits = omega (arith, name-is .0, length-append pre (kind ++ lang), length-append kind lang, put-long w w₁ 0 n _ x)
+    pub put-sep : kind ≡ Sephardic → Put o o′ at r (115 ∷ 101 ∷ 112 ∷ []) → Put o o′ at r (typePrefix kind)
+    unfolding typePrefix
+    put-sep e v = rw e v
 
-    pub name-told : (names : List ℕ) (fs : List File) (o o′ : List ℕ) (at : ℕ) (r : Written) → WrittenIs listBytes (listNamed names fs (take (n - 0) w₁)) o o′ at r
-        → WrittenIs listBytes (listNamed names fs (pre ++ (kind ++ lang))) o o′ at r
-    name-told names fs o o′ at r v = let all : n - 0 ≡ n = omega arith in rw (name-is .1) at (rw all at v)
+  module _ (l : ListKind) where
+    pub put-rules : l ≡ list.Rules → Put o o′ at r rulesPart → Put o o′ at r (listPart l)
+    unfolding listPart
+    put-rules e v = rw e v
+
+    pub put-approx : l ≡ list.Approx → Put o o′ at r approxPart → Put o o′ at r (listPart l)
+    unfolding listPart
+    put-approx e v = rw e v
+
+    pub put-exact : l ≡ list.Exact → Put o o′ at r exactPart → Put o o′ at r (listPart l)
+    unfolding listPart
+    put-exact e v = rw e v
+
+type-three : (k : NameType) → length (typePrefix k) ≡ 3
+unfolding typePrefix
+type-three Ashkenazi = refl
+type-three Generic = refl
+type-three Sephardic = refl
+
+list-eight : (l : ListKind) → length (listPart l) ≤ 8
+unfolding listPart
+list-eight list.Rules = omega arith
+list-eight list.Approx = omega arith
+list-eight list.Exact = omega arith
+
+module _ (name : ListName) (lang w w₁ w₂ w₃ : List ℕ) (p q n : ℕ) (size : length w ≡ 320) (h : length lang ≤ 255)
+    (x : Put w w₁ 0 p (typePrefix (name .kind))) (y : Put w₁ w₂ p q (listPart (name .list))) (z : Put w₂ w₃ q n lang) where
+  long : length (listName name lang) ≤ 320
+  unfolding listName
+  long = omega (arith, length-append (typePrefix (name .kind)) (listPart (name .list) ++ lang), length-append (listPart (name .list)) lang, type-three (name .kind), list-eight (name .list))
+
+  whole : Put w w₃ 0 n (listName name lang)
+  unfolding listName
+  whole = put-then x (put-then y z)
+
+  pub name-fits : n ≤ length w₃
+  name-fits = omega (arith, put-fits whole (omega (arith, long)) .0, long, put-long w w₃ 0 n _ whole)
+
+  pub name-told : (names : List ℕ) (fs : List File) (o o′ : List ℕ) (at : ℕ) (r : Written) → WrittenIs listBytes (listNamed names fs (take (n - 0) w₃)) o o′ at r → WrittenIs listBytes (listNamed names fs (listName name lang)) o o′ at r
+  name-told names fs o o′ at r v = let all : n - 0 ≡ n = omega arith in rw (put-fits whole (omega (arith, long)) .1) at (rw all at v)
 
 module _ (names : List ℕ) (fs : List File) where
   lists-append : (ws us : List (List ℕ)) → listsOf names fs (ws ++ us) ≡ andLoad (listsOf names fs ws) (λ a. andLoad (listsOf names fs us) (λ b. fine (a ++ b)))
@@ -143,21 +189,24 @@ module _ (names : List ℕ) (fs : List File) where
 
   -- ---- the lists of a language
 
-  module _ (pre lang : List ℕ) (o o₁ o₂ : List ℕ) (at p : ℕ) (r s : Written) where
-    pub two-all : One (pre ++ (approxPart ++ lang)) o o₁ at r → r ≡ Done p → One (pre ++ (exactPart ++ lang)) o₁ o₂ p s → Lists (twoOf pre lang) o o₂ at s
-    unfolding twoOf
+  module _ (kind : NameType) (lang o o₁ o₂ : List ℕ) (at p : ℕ) (r s : Written) where
+    abbrev Named : ListKind → List ℕ
+    Named l = listName (record { kind = kind; list = l }) lang
+
+    pub two-all : One (Named list.Approx) o o₁ at r → r ≡ Done p → One (Named list.Exact) o₁ o₂ p s → Lists (twoOf (typePrefix kind) lang) o o₂ at s
+    unfolding twoOf listName listPart
     two-all v q u = list-then _ _ o o₁ o₂ at p r s v q (list-last _ o₁ o₂ p s u)
 
-    pub two-stop : (c : Refusal) (l i : ℕ) → One (pre ++ (approxPart ++ lang)) o o₁ at r → r ≡ Refused c l i → Lists (twoOf pre lang) o o₁ at (Refused c l i)
-    unfolding twoOf
+    pub two-stop : (c : Refusal) (l i : ℕ) → One (Named list.Approx) o o₁ at r → r ≡ Refused c l i → Lists (twoOf (typePrefix kind) lang) o o₁ at (Refused c l i)
+    unfolding twoOf listName listPart
     two-stop c l i v q = list-stop _ _ o o₁ at r c l i v q
 
-    pub three-all : One (pre ++ (rulesPart ++ lang)) o o₁ at r → r ≡ Done p → Lists (twoOf pre lang) o₁ o₂ p s → Lists (threeOf pre lang) o o₂ at s
-    unfolding threeOf
+    pub three-all : One (Named list.Rules) o o₁ at r → r ≡ Done p → Lists (twoOf (typePrefix kind) lang) o₁ o₂ p s → Lists (threeOf (typePrefix kind) lang) o o₂ at s
+    unfolding threeOf listName listPart
     three-all v q u = list-then _ _ o o₁ o₂ at p r s v q u
 
-    pub three-stop : (c : Refusal) (l i : ℕ) → One (pre ++ (rulesPart ++ lang)) o o₁ at r → r ≡ Refused c l i → Lists (threeOf pre lang) o o₁ at (Refused c l i)
-    unfolding threeOf
+    pub three-stop : (c : Refusal) (l i : ℕ) → One (Named list.Rules) o o₁ at r → r ≡ Refused c l i → Lists (threeOf (typePrefix kind) lang) o o₁ at (Refused c l i)
+    unfolding threeOf listName listPart
     three-stop c l i v q = list-stop _ _ o o₁ at r c l i v q
 
   -- ---- string by string: what is left of the names, from a place on, is written behind what was
@@ -193,29 +242,12 @@ module _ (names : List ℕ) (fs : List File) where
     unfolding listFiles
     listing-done q o₁ s v = w .is o₁ s (rw (none-left names from r p q (w .fuel)) v)
 
-  -- ---- the prefix of a type
+-- a string's length is a byte
+pub string-short : (names : List ℕ) (from a e : ℕ) (r : Next) → r ≡ stringAt names from → r ≡ next.Whole a e → ((i : ℕ) → Fits w8 (getD names i 0)) → length (take (e - a) (drop a names)) ≤ 255
+string-short names from a e r p q b = omega (arith, b from .fits, string-whole names from a e r p q, length-take (e - a) (drop a names))
 
-  pub lists-ash : (kind : NameType) (o o′ : List ℕ) (at : ℕ) (r : Written) → kind ≡ Ashkenazi → Lists (listFiles (97 ∷ 115 ∷ 104 ∷ []) (stringsOf names)) o o′ at r → Lists (listFiles (typePrefix kind) (stringsOf names)) o o′ at r
-  unfolding typePrefix
-  lists-ash kind o o′ at r e v = rw e v
-
-  pub lists-gen : (kind : NameType) (o o′ : List ℕ) (at : ℕ) (r : Written) → kind ≡ Generic → Lists (listFiles (103 ∷ 101 ∷ 110 ∷ []) (stringsOf names)) o o′ at r → Lists (listFiles (typePrefix kind) (stringsOf names)) o o′ at r
-  unfolding typePrefix
-  lists-gen kind o o′ at r e v = rw e v
-
-  pub lists-sep : (kind : NameType) (o o′ : List ℕ) (at : ℕ) (r : Written) → kind ≡ Sephardic → Lists (listFiles (115 ∷ 101 ∷ 112 ∷ []) (stringsOf names)) o o′ at r → Lists (listFiles (typePrefix kind) (stringsOf names)) o o′ at r
-  unfolding typePrefix
-  lists-sep kind o o′ at r e v = rw e v
-
--- a string's length is a byte, so a name with it is short; m is the length of the prefix
-pub string-short : (m : ℕ) (names : List ℕ) (from a e : ℕ) (r : Next) → r ≡ stringAt names from → r ≡ next.Whole a e → getD names from 0 < 256 → m ≤ 40
-    → m + length (take (e - a) (drop a names)) ≤ 300
-string-short m names from a e r p q b h = omega (arith, string-whole names from a e r p q, length-take (e - a) (drop a names))
-
-pub ruleset name-laws = (name-put, name-fits, name-told)
+pub ruleset name-laws = (put-ash, put-gen, put-sep, put-rules, put-approx, put-exact, name-fits, name-told)
 
 pub ruleset list-laws = (two-all, two-stop, three-all, three-stop)
 
-pub ruleset all-laws = (part-order, part-fits, walk-less, listing-start, listing-next, listing-stop, listing-done)
-
-pub ruleset prefix-laws = (lists-ash, lists-gen, lists-sep)
+pub ruleset all-laws = (part-order, part-fits, walk-less, string-short, listing-start, listing-next, listing-stop, listing-done)

@@ -25,18 +25,16 @@ use Rattle.held.specs.Met.{Met, end, rule, file, entries, codes, Map, noRules, 
 use Rattle.held.specs.Files.{Line, passed, is-rule, include, badLine, FileRead, wasRead, notRead, before, onRead, onContent, readLines, follow, readListed}
 use Rattle.held.specs.Contracts.{noted, kept, Each, Within}
 use Rattle.held.proofs.Finished.{length-kept, length-noted}
-use Rattle.held.proofs.Reading.{listed-entries}
 use Rattle.rule_lists.specs.Outcomes as outcome
 use Rattle.rule_lines.specs.declared.Fault.the-variants.{Without}
 use Rattle.rule_lists.specs.Lines.{linesOf}
 use Rattle.rule_lists.specs.TableContracts.{RowReads, KeptIs}
-use Rattle.rule_lists.specs.Contracts.{Known, known, ruled, tally, stateOf, Room, StateHolds, Ready, Told, readFrom, WalkIs, keptAs, CollectIs, rowAt}
+use Rattle.rule_lists.specs.Contracts.{Known, known, ruled, tally, stateOf, Room, StateHolds, Ready, Told, Walks, keptAs, CollectIs, all, refused, rowAt}
 use Rattle.rule_lists.proofs.TableLaws.{noted-none, kept-none}
-use Rattle.rule_lists.proofs.GoingLaws.{linesAt, Here, here}
+use Rattle.rule_lists.proofs.GoingLaws.{linesAt, Here, here, WasRead, told-done, told-refused}
 use Rattle.base.proofs.Arms.{clash}
 use Rattle.rule_lists.specs.declared.lines.Row.{Row}
 use Rattle.rule_lists.specs.declared.lines.Row.the-variants as row
-use Rattle.rule_lists.specs.declared.walk.Task.{Task}
 use Rattle.rule_lists.specs.declared.walk.Task.the-variants.{Survey, Collect}
 use Rattle.rule_lists.specs.declared.walk.State.{State}
 use Rattle.rule_lists.specs.declared.walk.Walked.{Walked}
@@ -215,27 +213,12 @@ within-all end = tt
 within-all (rule r t) = (first-under r, within-all t)
 within-all (file i t) = (within-all i, within-all t)
 
--- an answer tells what was read
-told-done : (bundle : List ℕ) (task : Task) (own : ℕ) (st : State) (a : Known) (x : FileRead Rule) (w : Walked) (st′ : State) (lasts rows : List ℕ) → Told bundle task own st a x w lasts rows → w ≡ Done st′
-    → (t : Met Rule) × (x ≡ wasRead t) × StateHolds bundle lasts rows st′ (tally task own (st .followed) a t)
-unfolding Told
-told-done bundle task own st a (wasRead t) w st′ lasts rows v e = let q : v .0 ≡ st′ = cc (v .1) in (t, refl, rw q at (v .3))
-told-done bundle task own st a (notRead c l f) w st′ lasts rows v e = clash (cc)
-
-told-refused : (bundle : List ℕ) (task : Task) (own : ℕ) (st : State) (a : Known) (x : FileRead Rule) (w : Walked) (c : Refusal) (l f : ℕ) (lasts rows : List ℕ) → Told bundle task own st a x w lasts rows → w ≡ Refused c l f → x ≡ notRead c l f
-unfolding Told
-told-refused bundle task own st a (wasRead t) w c l f lasts rows v e = clash (cc (v .1))
-told-refused bundle task own st a (notRead k m g) w c l f lasts rows v e = cc
-
 -- where more than 4,096 are kept or noted, the list is refused
 counts : (t : Met Rule) → entries t ≤ 256 → (length (noted firstCodeOf 0 0 [] t) ≤ length (finished firstCodeOf t)) × (length (keptAs t) ≡ length (finished firstCodeOf t))
 unfolding keptAs
 counts t h = (length-noted firstCodeOf t h (within-all t), length-kept firstCodeOf t h (within-all t))
 
-module _ (bundle names : List ℕ) (f start end : ℕ) where
-  abbrev Listed : FileRead Rule
-  Listed = readListed (filesFor names (filesOf bundle)) f (linesOf names (take (end - start) (drop start bundle)))
-
+module _ {bundle : List ℕ} where
   pub ready-survey : {lasts rows : List ℕ} → Room lasts rows → Ready bundle Survey (stateOf 0 0 0) lasts rows
   ready-survey {lasts} {rows} r = record {
     some = (known [] [], record { noted = noted-none lasts (r .first); kept = kept-none bundle rows (r .second) });
@@ -244,67 +227,62 @@ module _ (bundle names : List ℕ) (f start end : ℕ) where
   }
 
   -- a refusal says nothing of the rows
-  refuses : (c : Refusal) (l g : ℕ) (rows′ : List ℕ) → Listed ≡ notRead c l g → CollectIs bundle (countedRules Listed) (collected.Refused c l g) rows′
-  unfolding countedRules CollectIs
-  refuses c l g rows′ e = rw e refl
+  refuses : {x : FileRead Rule} (c : Refusal) (l g : ℕ) (rows′ : List ℕ) → x ≡ notRead c l g → CollectIs bundle (countedRules x) (collected.Refused c l g) rows′
+  unfolding countedRules
+  refuses c l g rows′ e = rw e refused
 
-  too-many : (t : Met Rule) (rows′ : List ℕ) → Listed ≡ wasRead t → 4096 < length (finished firstCodeOf t) → CollectIs bundle (countedRules Listed) (collected.Refused TooMuch 0 0) rows′
-  unfolding countedRules CollectIs
-  too-many t rows′ e h = rw (e, pick-false (leb (length (finished firstCodeOf t)) 4096) (outcome.fine t) (outcome.notLoaded TooMuch 0 0) (lt-leb _ 4096 h)) refl
+  too-many : {x : FileRead Rule} (t : Met Rule) (rows′ : List ℕ) → x ≡ wasRead t → 4096 < length (finished firstCodeOf t) → CollectIs bundle (countedRules x) (collected.Refused TooMuch 0 0) rows′
+  unfolding countedRules
+  too-many t rows′ e h = rw (e, pick-false (leb (length (finished firstCodeOf t)) 4096) (outcome.fine t) (outcome.notLoaded TooMuch 0 0) (lt-leb _ 4096 h)) refused
 
-  all-kept : (t : Met Rule) (n : ℕ) (rows′ : List ℕ) → Listed ≡ wasRead t → length (finished firstCodeOf t) ≤ 4096 → KeptIs bundle rows′ n (keptAs t) → CollectIs bundle (countedRules Listed) (collected.Rules n) rows′
-  unfolding countedRules CollectIs
-  all-kept t n rows′ e h k = rw (e, pick-true (leb (length (finished firstCodeOf t)) 4096) (outcome.fine t) (outcome.notLoaded TooMuch 0 0) (le-leb _ 4096 h)) (n, refl, k)
+  all-kept : {x : FileRead Rule} (t : Met Rule) (n : ℕ) (rows′ : List ℕ) → x ≡ wasRead t → length (finished firstCodeOf t) ≤ 4096 → n ≤ 4096 → KeptIs bundle rows′ n (keptAs t) → CollectIs bundle (countedRules x) (collected.Rules n) rows′
+  unfolding countedRules
+  all-kept t n rows′ e h few k = rw (e, pick-true (leb (length (finished firstCodeOf t)) 4096) (outcome.fine t) (outcome.notLoaded TooMuch 0 0) (le-leb _ 4096 h)) (all few k)
 
-  module _ {lasts rows lasts₁ rows₁ : List ℕ} {w : Walked} (room : Room lasts rows) (one : WalkIs bundle names f start end 8 Survey (stateOf 0 0 0) lasts rows w lasts₁ rows₁) where
-    told-one : Told bundle Survey 0 (stateOf 0 0 0) (known [] []) Listed w lasts₁ rows₁
-    unfolding readListed readFrom ready-survey
+  module _ {x : FileRead Rule} {lasts rows lasts₁ rows₁ : List ℕ} {w : Walked} (room : Room lasts rows) (one : Walks bundle Survey (stateOf 0 0 0) x lasts rows w lasts₁ rows₁) where
+    told-one : Told bundle Survey 0 (stateOf 0 0 0) (known [] []) x w lasts₁ rows₁
+    unfolding ready-survey
     told-one = one .told (known [] []) (ready-survey room .some .1)
 
-    pub stop-first : {c : Refusal} {l g : ℕ} (rows′ : List ℕ) → w ≡ Refused c l g → CollectIs bundle (countedRules Listed) (collected.Refused c l g) rows′
-    stop-first {c} {l} {g} rows′ e = refuses c l g rows′ (told-refused bundle Survey 0 _ _ Listed w c l g lasts₁ rows₁ told-one e)
+    pub stop-first : {c : Refusal} {l g : ℕ} {rows′ : List ℕ} → w ≡ Refused c l g → CollectIs bundle (countedRules x) (collected.Refused c l g) rows′
+    stop-first {c} {l} {g} {rows′} e = refuses c l g rows′ (told-refused told-one e)
 
     module _ {st : State} (e : w ≡ Done st) where
-      met : (t : Met Rule) × (Listed ≡ wasRead t) × StateHolds bundle lasts₁ rows₁ st (tally Survey 0 0 (known [] []) t)
-      met = told-done bundle Survey 0 _ _ Listed w st lasts₁ rows₁ told-one e
+      met : WasRead bundle Survey 0 (stateOf 0 0 0) (known [] []) lasts₁ rows₁ x st
+      met = told-done told-one e
 
-      holds : StateHolds bundle lasts₁ rows₁ st (known (noted firstCodeOf 0 0 [] (met .0)) [])
-      holds = rw (tally-survey (met .0) 0 0 [] []) at (met .2)
+      holds : StateHolds bundle lasts₁ rows₁ st (known (noted firstCodeOf 0 0 [] (met .all)) [])
+      holds = rw (tally-survey (met .all) 0 0 [] []) at (met .holds)
 
-      sizes : (length (noted firstCodeOf 0 0 [] (met .0)) ≤ length (finished firstCodeOf (met .0))) × (length (keptAs (met .0)) ≡ length (finished firstCodeOf (met .0)))
-      sizes = counts (met .0) (listed-entries _ f _ (met .0) (met .1))
+      sizes : (length (noted firstCodeOf 0 0 [] (met .all)) ≤ length (finished firstCodeOf (met .all))) × (length (keptAs (met .all)) ≡ length (finished firstCodeOf (met .all)))
+      sizes = counts (met .all) (omega (arith, met .followed, one .followed st e))
 
-      pub stop-noted : (rows′ : List ℕ) → 4096 < st .noted → CollectIs bundle (countedRules Listed) (collected.Refused TooMuch 0 0) rows′
-      stop-noted rows′ h = too-many (met .0) rows′ (met .1) (omega (arith, holds .noted .count, sizes .0))
+      pub stop-noted : {rows′ : List ℕ} → 4096 < st .noted → CollectIs bundle (countedRules x) (collected.Refused TooMuch 0 0) rows′
+      stop-noted {rows′} h = too-many (met .all) rows′ (met .is) (omega (arith, holds .noted .count, sizes .0))
 
       module _ (few : st .noted ≤ 4096) where
-        start-two : StateHolds bundle lasts₁ rows₁ (stateOf 0 (st .noted) 0) (known (noted firstCodeOf 0 0 [] (met .0)) [])
+        start-two : StateHolds bundle lasts₁ rows₁ (stateOf 0 (st .noted) 0) (known (noted firstCodeOf 0 0 [] (met .all)) [])
         start-two = record { noted = holds .noted; kept = kept-none bundle rows₁ (holds .kept .size) }
 
         pub ready-collect : Ready bundle Collect (stateOf 0 (st .noted) 0) lasts₁ rows₁
         ready-collect = record { some = (_, start-two); followed = omega arith; whole = λ c. few }
 
-        module _ {lasts₂ rows₂ : List ℕ} {w₂ : Walked} (two : WalkIs bundle names f start end 8 Collect (stateOf 0 (st .noted) 0) lasts₁ rows₁ w₂ lasts₂ rows₂) where
-          told-two : Told bundle Collect 0 (stateOf 0 (st .noted) 0) (known (noted firstCodeOf 0 0 [] (met .0)) []) Listed w₂ lasts₂ rows₂
-          unfolding readListed readFrom
-          told-two = two .told _ start-two
-
-          pub stop-second : {c : Refusal} {l g : ℕ} (rows′ : List ℕ) → w₂ ≡ Refused c l g → CollectIs bundle (countedRules Listed) (collected.Refused c l g) rows′
-          stop-second {c} {l} {g} rows′ i = refuses c l g rows′ (told-refused bundle Collect 0 _ _ Listed w₂ c l g lasts₂ rows₂ told-two i)
+        module _ {lasts₂ rows₂ : List ℕ} {w₂ : Walked} (two : Walks bundle Collect (stateOf 0 (st .noted) 0) x lasts₁ rows₁ w₂ lasts₂ rows₂) where
+          pub stop-second : {c : Refusal} {l g : ℕ} {rows′ : List ℕ} → w₂ ≡ Refused c l g → CollectIs bundle (countedRules x) (collected.Refused c l g) rows′
+          stop-second {c} {l} {g} {rows′} i = refuses c l g rows′ (told-refused (two .told _ start-two) i)
 
           module _ {st₂ : State} (i : w₂ ≡ Done st₂) where
-            kept-is : KeptIs bundle rows₂ (st₂ .kept) (keptAs (met .0))
+            kept-is : KeptIs bundle rows₂ (st₂ .kept) (keptAs (met .all))
             unfolding keptAs
             kept-is =
-                let u = told-done bundle Collect 0 _ _ Listed w₂ st₂ lasts₂ rows₂ told-two i in
-                let q : u .0 ≡ met .0 = cc (u .1, met .1) in
-                let k : StateHolds bundle lasts₂ rows₂ st₂ (known (noted firstCodeOf 0 0 [] (met .0)) (kept firstCodeOf (noted firstCodeOf 0 0 [] (met .0)) 0 [] (u .0))) = rw (tally-collect (u .0) 0 0 (noted firstCodeOf 0 0 [] (met .0)) []) at (u .2) in
-                subst (λ (t : Met Rule). KeptIs bundle rows₂ (st₂ .kept) (kept firstCodeOf (noted firstCodeOf 0 0 [] (met .0)) 0 [] t)) q (k .kept)
+                let u = told-done (two .told _ start-two) i in
+                let q : u .all ≡ met .all = cc (u .is, met .is) in
+                rw q at (rw (tally-collect (u .all) 0 0 (noted firstCodeOf 0 0 [] (met .all)) []) at (u .holds)) .kept
 
-            pub stop-kept : (rows′ : List ℕ) → 4096 < st₂ .kept → CollectIs bundle (countedRules Listed) (collected.Refused TooMuch 0 0) rows′
-            stop-kept rows′ h = too-many (met .0) rows′ (met .1) (omega (arith, kept-is .count, sizes .1))
+            pub stop-kept : {rows′ : List ℕ} → 4096 < st₂ .kept → CollectIs bundle (countedRules x) (collected.Refused TooMuch 0 0) rows′
+            stop-kept {rows′} h = too-many (met .all) rows′ (met .is) (omega (arith, kept-is .count, sizes .1))
 
-            pub collects : st₂ .kept ≤ 4096 → CollectIs bundle (countedRules Listed) (collected.Rules (st₂ .kept)) rows₂
-            collects h = all-kept (met .0) _ rows₂ (met .1) (omega (arith, kept-is .count, sizes .1)) kept-is
+            pub collects : st₂ .kept ≤ 4096 → CollectIs bundle (countedRules x) (collected.Rules (st₂ .kept)) rows₂
+            collects h = all-kept (met .all) _ rows₂ (met .is) (omega (arith, kept-is .count, sizes .1)) h kept-is
 
 pub ruleset collect-laws = (ready-survey, stop-first, stop-noted, ready-collect, stop-second, stop-kept, collects)

@@ -22,9 +22,9 @@ use Rattle.rules_parser.specs.declared.lines.Clause.the-variants as told
 use Rattle.rules_parser.specs.declared.files.Item.{Item}
 use Rattle.rules_parser.specs.declared.files.Item.the-variants as item
 use Rattle.rule_lists.specs.Lines.{ruleIn}
-use Rattle.rule_lists.specs.TableContracts.{RowReads, KeptIs, keysOf}
+use Rattle.rule_lists.specs.TableContracts.{RowReads, KeptIs, keysOf, Low}
 use Rattle.rule_lists.specs.WritingContracts.{rulePut, itemPut, rowPut, SomeKept, RowFits, rowAtPut, RowsPut}
-use Rattle.rule_lists.proofs.TableLaws.{rows-at, key-at}
+use Rattle.rule_lists.proofs.TableLaws.{rows-at, key-at, kept-low}
 use Rattle.pack_bytes.specs.Contracts.{textPut}
 
 -- ---- a rule: its four strings one after the other
@@ -135,5 +135,15 @@ pub putting-small : (bundle rows keys : List ℕ) (n i : ℕ) (o₀ : List ℕ) 
 putting-small bundle rows keys n i o₀ at₀ o at w = w .small
 
 pub ruleset writing-laws = (item-one, rule-put, row-passed, row-wrong, row-rule, row-include, row-guess, row-name)
+
+-- rows of some rules can be sorted
+module _ (bundle rows : List ℕ) (n : ℕ) (w : SomeKept bundle rows n) where
+  pub some-size : length rows ≡ 16384
+  some-size = w .some .1 .size
+
+  pub some-low : n ≤ 4096 → Low rows n
+  some-low few = kept-low bundle rows n _ (w .some .1) few
+
+pub ruleset sorted-laws = (some-size, some-low)
 
 pub ruleset rows-laws = (key-fits, putting-start, putting-small, putting-next, putting-done)

@@ -1,15 +1,13 @@
 -- What a walk over a rule file and its includes answers.
 use mathlib.Core.Path.{_≡_}
-use Prim.Native.Nat.{ℕ, zero, suc, _+_, _-_, _≤_}
+use Prim.Native.Nat.{ℕ, _+_, _-_, _≤_}
 use mathlib.Core.List.{List, [], _∷_, _++_}
-use lib.Dec.{leb}
 use lib.ListN.{length, take, drop}
 use Rattle.base.specs.Pick.{pick}
 use Rattle.refusals.specs.declared.Refusal.{Refusal}
-use Rattle.refusals.specs.declared.Refusal.the-variants.{FileMissing, IncludeTooDeep, LineUnreadable}
+use Rattle.refusals.specs.declared.Refusal.the-variants.{LineUnreadable}
 use Rattle.rule_lines.specs.Rules.{Rule, ruleFault}
-use Rattle.bundles.specs.Bundles.{Found, missing, found, fileNamed}
-use Rattle.bundles.specs.Contracts.{Stands, filesOf}
+use Rattle.bundles.specs.Contracts.{filesOf}
 use Rattle.held.specs.Met as met
 use Rattle.held.specs.Files as files
 use Rattle.held.specs.Contracts.{noteIn, staysIn, noted, kept}
@@ -22,8 +20,8 @@ use Rattle.rule_lists.specs.declared.walk.Task.the-variants.{Survey, Col
 use Rattle.rule_lists.specs.declared.walk.State.{State}
 use Rattle.rule_lists.specs.declared.walk.Walked.{Walked}
 use Rattle.rule_lists.specs.declared.walk.Walked.the-variants as walked
-use Rattle.rule_lists.specs.declared.walk.Entered.{Entered}
-use Rattle.rule_lists.specs.declared.walk.Entered.the-variants as entered
+use Rattle.rule_lists.specs.declared.walk.Source.{Source}
+use Rattle.rule_lists.specs.declared.walk.IncludeAt.{IncludeAt}
 use Rattle.rule_lists.specs.declared.walk.Collected.{Collected}
 use Rattle.rule_lists.specs.declared.walk.Collected.the-variants as collected
 use Rattle.rule_lists.specs.Lists.{filesFor, firstCodeOf}
@@ -115,41 +113,37 @@ pub record RuledIs (bundle : List ℕ) (task : Task) (own : ℕ) (st : State) (s
   pub noted : task ≡ Collect → st′ .noted ≡ st .noted
   pub holds : (a : Known) (r : Rule) → StateHolds bundle lasts rows st a → SpotIs bundle (spot .code) (spot .start) (spot .end) (spot .place) r → StateHolds bundle lasts′ rows′ st′ (ruled task own (st .followed) a r)
 
--- ---- an include
-
--- the number and the content of the file to read, or the refusal
-pub data Opening : Type 0 where
-  not : Refusal → Opening
-  into : ℕ → List ℕ → Opening
-
-unfoldable pub openingIn : Found → Opening
-openingIn missing = not FileMissing
-openingIn (found f c) = into f c
-
--- 17 where it is too deep or one too many, 11 where the file isn't in the bundle
-unfoldable pub openingOf : List ℕ → ℕ → List ℕ → ℕ → Opening
-openingOf s zero name n = not IncludeTooDeep
-openingOf s (suc left) name n = pick (leb 256 n) (not IncludeTooDeep) (openingIn (fileNamed name 0 (filesOf s)))
-
--- a file to read is told by its number and where its content stands
-unfoldable pub EntersIs : List ℕ → Opening → Entered → Type 0
-EntersIs s (not k) r = r ≡ entered.Not k
-EntersIs s (into f c) r = (a : ℕ) × (b : ℕ) × (r ≡ entered.Go f a b) × Stands s a b c
-
 -- ---- a walk
 
--- what a file comes to that is read from st on, in which a is known
-unfoldable pub Told : List ℕ → Task → ℕ → State → Known → files.FileRead Rule → Walked → List ℕ → List ℕ → Type 0
-Told bundle task own st a (files.wasRead t) r lasts′ rows′ =
-    (st′ : State) × (r ≡ walked.Done st′) × (st′ .followed ≡ st .followed + met.entries t) × StateHolds bundle lasts′ rows′ st′ (tally task own (st .followed) a t)
-Told bundle task own st a (files.notRead c l f) r lasts′ rows′ = r ≡ walked.Refused c l f
+-- a file's content
+abbrev pub contentOf : List ℕ → Source → List ℕ
+contentOf bundle source = take (source .end - source .start) (drop (source .start) bundle)
 
--- reading a file's content, below which `left` more may be nested, as the lines of file f
-unfoldable pub readFrom : List ℕ → List ℕ → ℕ → ℕ → ℕ → List ℕ → files.FileRead Rule
-readFrom bundle names left f n s = files.readLines (files.follow (filesFor names (filesOf bundle)) left) f 1 n (linesOf names s)
+-- it lies within the bundle
+pub record InBundle (bundle : List ℕ) (source : Source) : Type 0 where
+  pub order : source .start ≤ source .end
+  pub within : source .end ≤ length bundle
 
-pub record WalkIs (bundle names : List ℕ) (f start end left : ℕ) (task : Task) (st : State) (lasts rows : List ℕ) (r : Walked) (lasts′ rows′ : List ℕ) : Type 0 where
-  pub told : (a : Known) → StateHolds bundle lasts rows st a → Told bundle task (st .followed) st a (readFrom bundle names left f (st .followed) (take (end - start) (drop start bundle))) r lasts′ rows′
+-- reading it, n includes having been followed
+unfoldable pub readFrom : List ℕ → List ℕ → Source → ℕ → files.FileRead Rule
+readFrom bundle names source n = files.readLines (files.follow (filesFor names (filesOf bundle)) (source .left)) (source .file) 1 n (linesOf names (contentOf bundle source))
+
+-- reading the file of an include
+abbrev pub readIncluded : List ℕ → List ℕ → IncludeAt → List ℕ → ℕ → files.FileRead Rule
+readIncluded bundle names at name n = files.follow (filesFor names (filesOf bundle)) (at .left) name (at .file) (at .line) n
+
+-- one more include is followed
+abbrev pub oneMore : State → State
+oneMore st = stateOf (st .followed + 1) (st .noted) (st .kept)
+
+-- what a reading comes to from st on, in which a is known; a refusal says nothing of the buffers
+pub data Told (bundle : List ℕ) (task : Task) (own : ℕ) (st : State) (a : Known) : files.FileRead Rule → Walked → List ℕ → List ℕ → Type 0 where
+  done : {t : met.Met Rule} {st′ : State} {lasts rows : List ℕ} → st′ .followed ≡ st .followed + met.entries t → StateHolds bundle lasts rows st′ (tally task own (st .followed) a t)
+      → Told bundle task own st a (files.wasRead t) (walked.Done st′) lasts rows
+  stopped : {c : Refusal} {l f : ℕ} {lasts rows : List ℕ} → Told bundle task own st a (files.notRead c l f) (walked.Refused c l f) lasts rows
+
+pub record Walks (bundle : List ℕ) (task : Task) (st : State) (x : files.FileRead Rule) (lasts rows : List ℕ) (r : Walked) (lasts′ rows′ : List ℕ) : Type 0 where
+  pub told : (a : Known) → StateHolds bundle lasts rows st a → Told bundle task (st .followed) st a x r lasts′ rows′
   pub followed : (st′ : State) → r ≡ walked.Done st′ → st′ .followed ≤ 256
   pub noted : (st′ : State) → r ≡ walked.Done st′ → task ≡ Collect → st′ .noted ≡ st .noted
 
@@ -159,6 +153,6 @@ pub record WalkIs (bundle names : List ℕ) (f start end left : ℕ) (task : Tas
 unfoldable pub keptAs : met.Met Rule → List Rule
 keptAs t = kept firstCodeOf (noted firstCodeOf 0 0 [] t) 0 [] t
 
-unfoldable pub CollectIs : List ℕ → Loading (met.Met Rule) → Collected → List ℕ → Type 0
-CollectIs bundle (fine t) r rows′ = (n : ℕ) × (r ≡ collected.Rules n) × KeptIs bundle rows′ n (keptAs t)
-CollectIs bundle (notLoaded c l f) r rows′ = r ≡ collected.Refused c l f
+pub data CollectIs (bundle : List ℕ) : Loading (met.Met Rule) → Collected → List ℕ → Type 0 where
+  all : {t : met.Met Rule} {n : ℕ} {rows : List ℕ} → n ≤ 4096 → KeptIs bundle rows n (keptAs t) → CollectIs bundle (fine t) (collected.Rules n) rows
+  refused : {c : Refusal} {l f : ℕ} {rows : List ℕ} → CollectIs bundle (notLoaded c l f) (collected.Refused c l f) rows

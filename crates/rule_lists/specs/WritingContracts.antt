@@ -15,6 +15,10 @@ use Rattle.rules_parser.specs.declared.files.Item.the-variants as item
 use Rattle.rule_lists.specs.Lines.{ruleIn}
 use Rattle.rule_lists.specs.TableContracts.{KeptIs, keysOf}
 use Rattle.pack_bytes.specs.Contracts.{textPut}
+use Rattle.rule_lists.specs.Lists.{typePrefix, rulesPart, approxPart, exactPart}
+use Rattle.rule_lists.specs.declared.lists.ListKind.{ListKind}
+use Rattle.rule_lists.specs.declared.lists.ListKind.the-variants as list
+use Rattle.rule_lists.specs.declared.lists.ListName.{ListName}
 
 unfoldable pub rulePut : Rule → List ℕ
 rulePut r = textPut (r .pattern) ++ (textPut (r .left) ++ (textPut (r .right) ++ textPut (r .expression)))
@@ -48,3 +52,13 @@ rowAtPut bundle rows j = rowPut (take (getD rows (4 * j + 2) 0 - getD rows (4 * 
 -- the rules of n rows in order, behind their count
 pub record RowsPut (bundle rows : List ℕ) (n : ℕ) (out : List ℕ) (at r : ℕ) (out′ : List ℕ) : Type 0 where
   pub is : (rs : List Rule) → KeptIs bundle rows n rs → Put out out′ at r (countBytes n ++ keyBytes rulePut rs (keysOf rows n 0 []))
+
+-- ---- the name of a list's file
+
+unfoldable pub listPart : ListKind → List ℕ
+listPart list.Rules = rulesPart
+listPart list.Approx = approxPart
+listPart list.Exact = exactPart
+
+unfoldable pub listName : ListName → List ℕ → List ℕ
+listName n lang = typePrefix (n .kind) ++ (listPart (n .list) ++ lang)

@@ -80,8 +80,8 @@ fn put_at(bundle: &[u8], rows: &[usize], j: usize, out: &mut [u8], at: usize) ->
     put_row(&bundle[start..end], rows[row + 3], out, at)
 }
 
-// Writes a list: the count, and the rules of the first n keys.
-pub(crate) fn put_rows(
+// Writes the count, and the rules of the first n keys.
+fn put_rows(
     bundle: &[u8],
     rows: &[usize],
     keys: &[u64],
@@ -100,4 +100,20 @@ pub(crate) fn put_rows(
         i += 1;
     }
     place
+}
+
+// Writes a list: the rules of n rows by first character, and by place under each.
+pub(crate) fn put_sorted(
+    bundle: &[u8],
+    rows: &[usize],
+    n: usize,
+    keys: &mut [u64],
+    out: &mut [u8],
+    at: usize,
+) -> usize
+    requires { ⌜ (n ≤ 4096) × (length (now keys) ≡ 4096) × SomeKept (now bundle) (now rows) n ⌝ }
+    ensures { λ r. ⌜ RowsPut (now (bundle .entry)) (now (rows .entry)) n (now (out .entry)) at r (now (out .exit)) ⌝ }
+{
+    crate::tables::sort(rows, n, keys);
+    put_rows(bundle, rows, keys, n, out, at)
 }

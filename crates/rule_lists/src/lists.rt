@@ -1,20 +1,37 @@
 // The lists in pack order: "for each language rules, approx, exact, then common approx, common exact".
-ghost use mathlib.Core.List.{_++_};
-ghost use Prim.Native.Nat.{_+_, _≤_};
+ghost use Prim.Native.Nat.{_≤_};
 ghost use lib.ListN.{length};
 ghost use Rattle.writing.specs.Contracts.{Put};
 ghost use Rattle.strings.specs.Reading.{stringsOf};
 ghost use Rattle.pack_bytes.specs.Bytes.{listBytes};
-ghost use Rattle.rule_lists.specs.Lists.{listNamed, listsOf, twoOf, threeOf, listFiles, commonPart};
+ghost use Rattle.rule_lists.specs.Lists.{listNamed, listsOf, twoOf, threeOf, listFiles, typePrefix, commonPart};
 ghost use Rattle.rule_lists.specs.Contracts.{Room, WrittenIs};
+ghost use Rattle.rule_lists.specs.WritingContracts.{listPart, listName};
 ghost use Rattle.held.specs.Met.{bytesOfAll};
 ghost use Rattle.bundles.specs.Contracts.{filesOf};
 use crate::list_writing::Written;
 use crate::walk::Collected;
+use crate::walk::Source;
 use bundles::FileAt;
 use prefixes::NameType;
 use refusals::Refusal;
 use strings::Next;
+
+// The lists of a language.
+pub(crate) enum ListKind {
+    Rules,
+    Approx,
+    Exact,
+}
+
+// What a list's file is named by, but for the language.
+pub(crate) struct ListName {
+    pub(crate) kind: NameType,
+    pub(crate) list: ListKind,
+}
+
+// The most bytes of a name: those of a language's string, and 11.
+const NAME: usize = 320;
 
 // Writes the list of a listed file.
 fn write_list(
@@ -32,13 +49,16 @@ fn write_list(
 {
     match bundles::find_file(bundle, wanted) {
         FileAt::At { number, start, end } => {
-            match crate::walk::collect(bundle, names, number, start, end, lasts, rows) {
-                Collected::Rules { n } => {
-                    crate::tables::sort(rows, n, lasts);
-                    Written::Done {
-                        at: crate::list_writing::put_rows(bundle, rows, lasts, n, out, at),
-                    }
-                }
+            let source = Source {
+                file: number,
+                start,
+                end,
+                left: crate::walk::MOST_NESTED,
+            };
+            match crate::walk::collect(source, bundle, names, lasts, rows) {
+                Collected::Rules { n } => Written::Done {
+                    at: crate::list_writing::put_sorted(bundle, rows, n, lasts, out, at),
+                },
                 Collected::Refused { why, line, file } => Written::Refused { why, line, file },
             }
         }
@@ -50,21 +70,33 @@ fn write_list(
     }
 }
 
-// Writes a name of three parts.
-fn put_name(prefix: &[u8], kind: &[u8], language: &[u8], out: &mut [u8]) -> usize
-    ensures { λ r. ⌜ Put (now (out .entry)) (now (out .exit)) 0 r (now (prefix .entry) ++ (now (kind .entry) ++ now (language .entry))) ⌝ }
+// Writes the name of a type.
+fn put_type(kind: NameType, out: &mut [u8], at: usize) -> usize
+    ensures { λ r. ⌜ Put (now (out .entry)) (now (out .exit)) at r (typePrefix kind) ⌝ }
 {
-    let a = writing::copy(prefix, out, 0);
-    let b = writing::copy(kind, out, a);
-    writing::copy(language, out, b)
+    match kind {
+        NameType::Ashkenazi => writing::copy(b"ash", out, at),
+        NameType::Generic => writing::copy(b"gen", out, at),
+        NameType::Sephardic => writing::copy(b"sep", out, at),
+    }
 }
 
-// Writes the list of the file whose name is of these three parts.
+// Writes the name of a list.
+fn put_list(list: ListKind, out: &mut [u8], at: usize) -> usize
+    ensures { λ r. ⌜ Put (now (out .entry)) (now (out .exit)) at r (listPart list) ⌝ }
+{
+    match list {
+        ListKind::Rules => writing::copy(b"_rules_", out, at),
+        ListKind::Approx => writing::copy(b"_approx_", out, at),
+        ListKind::Exact => writing::copy(b"_exact_", out, at),
+    }
+}
+
+// Writes the list of a language, or of `common`.
 fn write_named(
+    name: ListName,
     bundle: &[u8],
     names: &[u8],
-    prefix: &[u8],
-    kind: &[u8],
     language: &[u8],
     lasts: &mut [u64],
     rows: &mut [usize],
@@ -72,21 +104,24 @@ fn write_named(
     at: usize,
 ) -> Written
     requires { ⌜ Room (now lasts) (now rows) ⌝ }
-    requires { ⌜ length (now prefix) + (length (now kind) + length (now language)) ≤ 320 ⌝ }
-    ensures { λ r. ⌜ WrittenIs listBytes
-        (listNamed (now (names .entry)) (filesOf (now (bundle .entry))) (now (prefix .entry) ++ (now (kind .entry) ++ now (language .entry))))
+    requires { ⌜ length (now language) ≤ 255 ⌝ }
+    ensures { λ r. ⌜ WrittenIs listBytes (listNamed (now (names .entry)) (filesOf (now (bundle .entry))) (listName name (now (language .entry))))
         (now (out .entry)) (now (out .exit)) at r ⌝ }
 {
-    let mut wanted = [0u8; 320];
-    let n = put_name(prefix, kind, language, &mut wanted);
+    let kind = name.kind;
+    let list = name.list;
+    let mut wanted = [0u8; NAME];
+    let p = put_type(kind, &mut wanted, 0);
+    let q = put_list(list, &mut wanted, p);
+    let n = writing::copy(language, &mut wanted, q);
     write_list(bundle, names, &wanted[0..n], lasts, rows, out, at)
 }
 
 // The approximate and the exact list of a language, or of `common`.
 fn write_two(
+    kind: NameType,
     bundle: &[u8],
     names: &[u8],
-    prefix: &[u8],
     language: &[u8],
     lasts: &mut [u64],
     rows: &mut [usize],
@@ -94,34 +129,22 @@ fn write_two(
     at: usize,
 ) -> Written
     requires { ⌜ Room (now lasts) (now rows) ⌝ }
-    requires { ⌜ length (now prefix) + length (now language) ≤ 300 ⌝ }
+    requires { ⌜ length (now language) ≤ 255 ⌝ }
     ensures { λ r. ⌜ WrittenIs (bytesOfAll listBytes)
-        (listsOf (now (names .entry)) (filesOf (now (bundle .entry))) (twoOf (now (prefix .entry)) (now (language .entry)))) (now (out .entry))
+        (listsOf (now (names .entry)) (filesOf (now (bundle .entry))) (twoOf (typePrefix kind) (now (language .entry)))) (now (out .entry))
         (now (out .exit)) at r ⌝ }
 {
-    match write_named(
-        bundle,
-        names,
-        prefix,
-        b"_approx_",
-        language,
-        lasts,
-        rows,
-        out,
-        at,
-    ) {
+    let approx = ListName {
+        kind,
+        list: ListKind::Approx,
+    };
+    match write_named(approx, bundle, names, language, lasts, rows, out, at) {
         Written::Done { at: p } => {
-            write_named(
-                bundle,
-                names,
-                prefix,
-                b"_exact_",
-                language,
-                lasts,
-                rows,
-                out,
-                p,
-            )
+            let exact = ListName {
+                kind,
+                list: ListKind::Exact,
+            };
+            write_named(exact, bundle, names, language, lasts, rows, out, p)
         }
         Written::Refused { why, line, file } => Written::Refused { why, line, file },
     }
@@ -129,9 +152,9 @@ fn write_two(
 
 // The three lists of a language.
 fn write_three(
+    kind: NameType,
     bundle: &[u8],
     names: &[u8],
-    prefix: &[u8],
     language: &[u8],
     lasts: &mut [u64],
     rows: &mut [usize],
@@ -139,61 +162,51 @@ fn write_three(
     at: usize,
 ) -> Written
     requires { ⌜ Room (now lasts) (now rows) ⌝ }
-    requires { ⌜ length (now prefix) + length (now language) ≤ 300 ⌝ }
+    requires { ⌜ length (now language) ≤ 255 ⌝ }
     ensures { λ r. ⌜ WrittenIs (bytesOfAll listBytes)
-        (listsOf (now (names .entry)) (filesOf (now (bundle .entry))) (threeOf (now (prefix .entry)) (now (language .entry)))) (now (out .entry))
+        (listsOf (now (names .entry)) (filesOf (now (bundle .entry))) (threeOf (typePrefix kind) (now (language .entry)))) (now (out .entry))
         (now (out .exit)) at r ⌝ }
 {
-    match write_named(
-        bundle,
-        names,
-        prefix,
-        b"_rules_",
-        language,
-        lasts,
-        rows,
-        out,
-        at,
-    ) {
-        Written::Done { at: p } => {
-            write_two(bundle, names, prefix, language, lasts, rows, out, p)
-        }
+    let rules = ListName {
+        kind,
+        list: ListKind::Rules,
+    };
+    match write_named(rules, bundle, names, language, lasts, rows, out, at) {
+        Written::Done { at: p } => write_two(kind, bundle, names, language, lasts, rows, out, p),
         Written::Refused { why, line, file } => Written::Refused { why, line, file },
     }
 }
 
 // The two common lists.
 fn write_common(
+    kind: NameType,
     bundle: &[u8],
     names: &[u8],
-    prefix: &[u8],
     lasts: &mut [u64],
     rows: &mut [usize],
     out: &mut [u8],
     at: usize,
 ) -> Written
     requires { ⌜ Room (now lasts) (now rows) ⌝ }
-    requires { ⌜ length (now prefix) ≤ 40 ⌝ }
-    ensures { λ r. ⌜ WrittenIs (bytesOfAll listBytes) (listsOf (now (names .entry)) (filesOf (now (bundle .entry))) (twoOf (now (prefix .entry)) commonPart))
-        (now (out .entry)) (now (out .exit)) at r ⌝ }
+    ensures { λ r. ⌜ WrittenIs (bytesOfAll listBytes)
+        (listsOf (now (names .entry)) (filesOf (now (bundle .entry))) (twoOf (typePrefix kind) commonPart)) (now (out .entry)) (now (out .exit)) at r ⌝ }
 {
-    write_two(bundle, names, prefix, b"common", lasts, rows, out, at)
+    write_two(kind, bundle, names, b"common", lasts, rows, out, at)
 }
 
 // The lists of each language, and the common ones.
 fn write_all(
+    kind: NameType,
     bundle: &[u8],
     names: &[u8],
-    prefix: &[u8],
     lasts: &mut [u64],
     rows: &mut [usize],
     out: &mut [u8],
     at: usize,
 ) -> Written
     requires { ⌜ Room (now lasts) (now rows) ⌝ }
-    requires { ⌜ length (now prefix) ≤ 40 ⌝ }
     ensures { λ r. ⌜ WrittenIs (bytesOfAll listBytes)
-        (listsOf (now (names .entry)) (filesOf (now (bundle .entry))) (listFiles (now (prefix .entry)) (stringsOf (now (names .entry))))) (now (out .entry))
+        (listsOf (now (names .entry)) (filesOf (now (bundle .entry))) (listFiles (typePrefix kind) (stringsOf (now (names .entry))))) (now (out .entry))
         (now (out .exit)) at r ⌝ }
 {
     let mut from: usize = 0;
@@ -201,16 +214,8 @@ fn write_all(
     loop {
         match strings::string_at(names, from) {
             Next::Whole { start, end } => {
-                match write_three(
-                    bundle,
-                    names,
-                    prefix,
-                    &names[start..end],
-                    lasts,
-                    rows,
-                    out,
-                    place,
-                ) {
+                let language = &names[start..end];
+                match write_three(kind, bundle, names, language, lasts, rows, out, place) {
                     Written::Done { at: q } => {
                         place = q;
                         from = end;
@@ -221,7 +226,7 @@ fn write_all(
                 }
             }
             Next::Cut => {
-                return write_common(bundle, names, prefix, lasts, rows, out, place);
+                return write_common(kind, bundle, names, lasts, rows, out, place);
             }
         }
     }
@@ -243,9 +248,5 @@ pub fn write_lists(
 {
     let mut lasts = [0u64; 4096];
     let mut rows = [0usize; 16384];
-    match kind {
-        NameType::Ashkenazi => write_all(bundle, names, b"ash", &mut lasts, &mut rows, out, at),
-        NameType::Generic => write_all(bundle, names, b"gen", &mut lasts, &mut rows, out, at),
-        NameType::Sephardic => write_all(bundle, names, b"sep", &mut lasts, &mut rows, out, at),
-    }
+    write_all(kind, bundle, names, &mut lasts, &mut rows, out, at)
 }

@@ -1,17 +1,20 @@
 // The walk over a rule file and its includes. It keeps no rules: one walk notes the last entry for each first character, and a second
 // keeps where the rules stand that stay.
-ghost use mathlib.Core.Path.{_≡_};
-ghost use Prim.Native.Nat.{_+_, _-_, _≤_, _<_};
-ghost use lib.ListN.{length, take, drop};
-ghost use Rattle.held.specs.Files.{readListed};
-ghost use Rattle.rule_lists.specs.Lines.{linesOf};
-ghost use Rattle.rule_lists.specs.Contracts.{Room, Ready, RuledIs, openingOf, EntersIs, WalkIs, CollectIs, stateOf};
-ghost use Rattle.rule_lists.specs.Lists.{filesFor, countedRules};
-ghost use Rattle.bundles.specs.Contracts.{filesOf};
+ghost use Prim.Native.Nat.{_≤_};
+ghost use Rattle.rule_lists.specs.Contracts.{Room, InBundle, Ready, RuledIs, readFrom, readIncluded, oneMore, Walks, CollectIs};
+ghost use Rattle.rule_lists.specs.Lists.{countedRules};
 use crate::lines::Row;
 use crate::tables::Spot;
 use bundles::FileAt;
 use refusals::Refusal;
+
+// "include deeper than 8, or a 257th include followed in one list"
+pub(crate) const MOST_NESTED: usize = 8;
+
+const MOST_FOLLOWED: usize = 256;
+
+// "list over 4,096 rules"
+const MOST_RULES: usize = 4096;
 
 // What a walk is for.
 pub(crate) enum Task {
@@ -26,6 +29,21 @@ pub(crate) struct State {
     pub(crate) kept: usize,
 }
 
+// A file to read: its number, where its content stands in the bundle, and how many more may be nested below it.
+pub(crate) struct Source {
+    pub(crate) file: usize,
+    pub(crate) start: usize,
+    pub(crate) end: usize,
+    pub(crate) left: usize,
+}
+
+// Where an include stands: its file and line, and how many files may be nested there.
+pub(crate) struct IncludeAt {
+    pub(crate) file: usize,
+    pub(crate) line: usize,
+    pub(crate) left: usize,
+}
+
 pub(crate) enum Walked {
     Done {
         state: State,
@@ -34,18 +52,6 @@ pub(crate) enum Walked {
         why: Refusal,
         line: usize,
         file: usize,
-    },
-}
-
-// A file that may be entered, or the refusal.
-pub(crate) enum Entered {
-    Go {
-        file: usize,
-        start: usize,
-        end: usize,
-    },
-    Not {
-        why: Refusal,
     },
 }
 
@@ -91,64 +97,79 @@ fn on_rule(
     }
 }
 
-// Whether the file of a name may be entered, where `left` more may be nested and `followed` includes were followed.
-fn enter(bundle: &[u8], left: usize, name: &[u8], followed: usize) -> Entered
-    ensures { λ r. ⌜ EntersIs (now (bundle .entry)) (openingOf (now (bundle .entry)) left (now (name .entry)) followed) r ⌝ }
+// Reads the file of an include's name, where it may be nested and is one of the list's first 256, and is in the bundle.
+fn follow(
+    at: IncludeAt,
+    task: Task,
+    bundle: &[u8],
+    names: &[u8],
+    name: &[u8],
+    st: State,
+    lasts: &mut [u64],
+    rows: &mut [usize],
+) -> Walked
+    requires { ⌜ Ready (now bundle) task st (now lasts) (now rows) ⌝ }
+    ensures { λ r. ⌜ Walks (now (bundle .entry)) task (oneMore st)
+        (readIncluded (now (bundle .entry)) (now (names .entry)) at (now (name .entry)) (st .followed))
+        (now (lasts .entry)) (now (rows .entry)) r (now (lasts .exit)) (now (rows .exit)) ⌝ }
 {
+    let left = at.left;
+    let followed = st.followed;
     if left == 0 {
-        return Entered::Not {
+        return Walked::Refused {
             why: Refusal::IncludeTooDeep,
+            line: at.line,
+            file: at.file,
         };
     }
-    if 256 <= followed {
-        return Entered::Not {
+    if MOST_FOLLOWED <= followed {
+        return Walked::Refused {
             why: Refusal::IncludeTooDeep,
+            line: at.line,
+            file: at.file,
         };
     }
     match bundles::find_file(bundle, name) {
-        FileAt::At { number, start, end } => Entered::Go {
-            file: number,
-            start,
-            end,
-        },
-        FileAt::Missing => Entered::Not {
+        FileAt::At { number, start, end } => {
+            let source = Source {
+                file: number,
+                start,
+                end,
+                left: left - 1,
+            };
+            let more = State {
+                followed: followed + 1,
+                noted: st.noted,
+                kept: st.kept,
+            };
+            walk(source, task, bundle, names, more, lasts, rows)
+        }
+        FileAt::Missing => Walked::Refused {
             why: Refusal::FileMissing,
+            line: at.line,
+            file: at.file,
         },
     }
 }
 
-// One more include is followed.
-fn one_more(st: State) -> State
-    requires { ⌜ st .followed ≤ 256 ⌝ }
-    ensures { λ r. ⌜ r ≡ stateOf (st .followed + 1) (st .noted) (st .kept) ⌝ }
-{
-    State {
-        followed: st.followed + 1,
-        noted: st.noted,
-        kept: st.kept,
-    }
-}
-
-// The file whose content stands from start to end, below which `left` more may be nested; its own entry is the last that was followed.
+// Reads a file line by line; its own entry is the last that was followed.
 fn walk(
+    source: Source,
+    task: Task,
     bundle: &[u8],
     names: &[u8],
-    file: usize,
-    start: usize,
-    end: usize,
-    left: usize,
-    task: Task,
     st0: State,
     lasts: &mut [u64],
     rows: &mut [usize],
 ) -> Walked
-    requires { ⌜ (start ≤ end) × (end ≤ length (now bundle)) ⌝ }
+    requires { ⌜ InBundle (now bundle) source ⌝ }
     requires { ⌜ Ready (now bundle) task st0 (now lasts) (now rows) ⌝ }
-    ensures { λ r. ⌜ WalkIs (now (bundle .entry)) (now (names .entry)) file start end left task st0 (now (lasts .entry)) (now (rows .entry)) r
-        (now (lasts .exit)) (now (rows .exit)) ⌝ }
+    ensures { λ r. ⌜ Walks (now (bundle .entry)) task st0 (readFrom (now (bundle .entry)) (now (names .entry)) source (st0 .followed))
+        (now (lasts .entry)) (now (rows .entry)) r (now (lasts .exit)) (now (rows .exit)) ⌝ }
 {
+    let start = source.start;
+    let end = source.end;
     let s = &bundle[start..end];
-    let own = st0.followed;
     let mut st = st0;
     let mut p: usize = 0;
     let mut line: usize = 1;
@@ -161,58 +182,34 @@ fn walk(
             Row::Rule { code, next } => {
                 let spot = Spot {
                     code,
-                    start,
-                    end,
+                    start: source.start,
+                    end: source.end,
                     place: p,
                 };
-                st = on_rule(bundle, task, own, st, spot, lasts, rows);
+                st = on_rule(bundle, task, st0.followed, st, spot, lasts, rows);
                 line += 1;
                 p = next;
             }
             Row::Include { name, next } => {
-                let followed = st.followed;
-                match enter(bundle, left, rules_parser::part(s, name), followed) {
-                    Entered::Go {
-                        file: g,
-                        start: a,
-                        end: b,
-                    } => {
-                        match walk(
-                            bundle,
-                            names,
-                            g,
-                            a,
-                            b,
-                            left - 1,
-                            task,
-                            one_more(st),
-                            lasts,
-                            rows,
-                        ) {
-                            Walked::Done { state } => {
-                                st = state;
-                                line += 1;
-                                p = next;
-                            }
-                            Walked::Refused {
-                                why,
-                                line: l,
-                                file: f,
-                            } => {
-                                return Walked::Refused {
-                                    why,
-                                    line: l,
-                                    file: f,
-                                };
-                            }
-                        }
+                let at = IncludeAt {
+                    file: source.file,
+                    line,
+                    left: source.left,
+                };
+                let wanted = rules_parser::part(s, name);
+                match follow(at, task, bundle, names, wanted, st, lasts, rows) {
+                    Walked::Done { state } => {
+                        st = state;
+                        line += 1;
+                        p = next;
                     }
-                    Entered::Not { why } => {
+                    Walked::Refused { why, line, file } => {
                         return Walked::Refused { why, line, file };
                     }
                 }
             }
             Row::Bad { why } => {
+                let file = source.file;
                 return Walked::Refused { why, line, file };
             }
         }
@@ -234,40 +231,25 @@ pub(crate) enum Collected {
 
 // Keeps where the rules of a listed file stand, in the order in which they are met: one walk to note, and one to keep.
 pub(crate) fn collect(
+    source: Source,
     bundle: &[u8],
     names: &[u8],
-    file: usize,
-    start: usize,
-    end: usize,
     lasts: &mut [u64],
     rows: &mut [usize],
 ) -> Collected
-    requires { ⌜ (start ≤ end) × (end ≤ length (now bundle)) ⌝ }
+    requires { ⌜ InBundle (now bundle) source ⌝ }
     requires { ⌜ Room (now lasts) (now rows) ⌝ }
-    ensures { λ r. ⌜ CollectIs (now (bundle .entry))
-        (countedRules (readListed (filesFor (now (names .entry)) (filesOf (now (bundle .entry)))) file (linesOf (now (names .entry)) (take (end - start) (drop start (now (bundle .entry)))))))
-        r (now (rows .exit)) ⌝ }
+    ensures { λ r. ⌜ CollectIs (now (bundle .entry)) (countedRules (readFrom (now (bundle .entry)) (now (names .entry)) source 0)) r (now (rows .exit)) ⌝ }
 {
     let fresh = State {
         followed: 0,
         noted: 0,
         kept: 0,
     };
-    match walk(
-        bundle,
-        names,
-        file,
-        start,
-        end,
-        8,
-        Task::Survey,
-        fresh,
-        lasts,
-        rows,
-    ) {
+    match walk(source, Task::Survey, bundle, names, fresh, lasts, rows) {
         Walked::Done { state } => {
             let noted = state.noted;
-            if 4096 < noted {
+            if MOST_RULES < noted {
                 return Collected::Refused {
                     why: Refusal::TooMuch,
                     line: 0,
@@ -279,21 +261,10 @@ pub(crate) fn collect(
                 noted,
                 kept: 0,
             };
-            match walk(
-                bundle,
-                names,
-                file,
-                start,
-                end,
-                8,
-                Task::Collect,
-                again,
-                lasts,
-                rows,
-            ) {
+            match walk(source, Task::Collect, bundle, names, again, lasts, rows) {
                 Walked::Done { state: last } => {
                     let n = last.kept;
-                    if 4096 < n {
+                    if MOST_RULES < n {
                         Collected::Refused {
                             why: Refusal::TooMuch,
                             line: 0,
@@ -303,9 +274,9 @@ pub(crate) fn collect(
                         Collected::Rules { n }
                     }
                 }
-                Walked::Refused { why, line, file: f } => Collected::Refused { why, line, file: f },
+                Walked::Refused { why, line, file } => Collected::Refused { why, line, file },
             }
         }
-        Walked::Refused { why, line, file: f } => Collected::Refused { why, line, file: f },
+        Walked::Refused { why, line, file } => Collected::Refused { why, line, file },
     }
 }

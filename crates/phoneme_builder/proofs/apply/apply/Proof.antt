@@ -1,7 +1,7 @@
 use borrow.Author.Needs.{needs}
 use Prim.Native.Nat.{_-_}
 use Rattle.phoneme_builder.specs.BufferContracts.{arena, alternatives}
-use Rattle.phoneme_builder.proofs.ApplyLaws.{Applying, applying-laws, applying-in}
+use Rattle.phoneme_builder.proofs.ApplyLaws.{Applying, applying-laws}
 use Rattle.phoneme_builder.proofs.apply.apply.Statement.{statement}
 use Rattle.phoneme_builder.proofs.apply.apply.Tie as tie
 
@@ -11,11 +11,8 @@ Inv-loop store₀ slots₀ sets expr alts most i₀ count₀ store slots i count
 abbrev μ-loop : tie.MeasureT-loop
 μ-loop store₀ slots₀ sets expr alts most i₀ count₀ store slots i count = sets .count - i
 
-apply-text-requires : tie.Need-apply-text-requires Inv-loop μ-loop
-apply-text-requires c κs = record { text = applying-in (c .before .before .before .before .before .before .loop .inv) (search needs); set = search needs; table = search needs; few = search needs }
-
 pub apply-spec : {M : Type 1} → statement M
 apply-spec =
     tie.close (tie.spec Inv-loop μ-loop (λ c. search (applying-laws, needs)) (λ c. search (applying-laws, needs)) (λ c. search needs)
-    apply-text-requires (λ c. search needs) (λ c. search needs) (λ c. search (applying-laws, needs)) (λ c. search needs)
+    (λ c κs. search (applying-laws, needs)) (λ c. search needs) (λ c. search needs) (λ c. search (applying-laws, needs)) (λ c. search needs)
     (λ c. search (applying-laws, needs)) (λ c. search (applying-laws, needs)))

@@ -3,7 +3,7 @@ use Prim.Native.Nat.{_-_}
 use lib.ListN.{length}
 use Rattle.phoneme_builder.specs.BufferContracts.{arena, entriesAt}
 use Rattle.phoneme_builder.specs.Contracts.{namesOf, rulesOf, runOf}
-use Rattle.phoneme_builder.proofs.PassLaws.{Running, running-laws, running-into, step-within, skip-within}
+use Rattle.phoneme_builder.proofs.PassLaws.{Running, running-laws, running-into, step-in, skip-in}
 use Rattle.phoneme_builder.proofs.pass.run.Statement.{statement}
 use Rattle.phoneme_builder.proofs.pass.run.Tie as tie
 
@@ -15,17 +15,17 @@ Inv-loop store₀ slots₀ alts₀ pack table by word from₀ to₀ count₀ pla
 abbrev μ-loop : tie.MeasureT-loop
 μ-loop store₀ slots₀ alts₀ pack table by word from₀ to₀ count₀ place₀ flag₀ store slots alts from to count place flag = length word - place
 
-past-requires : tie.Need-past-requires Inv-loop μ-loop
-past-requires c κs = step-within (c .before .before .before .before .before .before .before .before .loop .inv) (c .before .before .before .before .before .before .before .loop-test .taken) _ _ (c .before .before .before .turn .ensures) _ _ _ (c .before .texts .given .1)
-
 loop-again : tie.Need-loop-again Inv-loop μ-loop
-loop-again c = running-into (c .before .before .before .before .before .before .before .before .before .before .loop .inv) (c .before .before .before .before .before .before .before .before .before .loop-test .taken) _ _ (c .before .before .before .before .before .turn .ensures) _ _ _ _ (c .before .before .before .texts .given .1) (c .either .ensures) _ (c .before .past .ensures)
-
-past-requires-2 : tie.Need-past-requires-2 Inv-loop μ-loop
-past-requires-2 c κs = skip-within (c .before .before .before .before .before .before .before .before .loop .inv) (c .before .before .before .before .before .before .before .loop-test .taken) _ _ (c .before .before .before .turn .ensures) _ (c .before .step .given .1)
+loop-again c =
+    let arm = c .before .before .before in
+    let turned = arm .before .before in
+    let test = turned .before .before .before .before in
+    running-into (turned .turn .ensures) (arm .texts .given .1) (test .before .loop .inv) (test .loop-test .taken) (c .either .ensures) (c .before .past .ensures)
 
 pub run-spec : {M : Type 1} → statement M
 run-spec =
-    tie.close (tie.spec Inv-loop μ-loop (λ c. search (running-laws, needs)) (λ c κs. search (running-laws, needs)) (λ c. search needs) past-requires
-    (λ c κs. search needs) (λ c. search (running-laws, needs)) loop-again (λ c. search needs) past-requires-2 (λ c. search (running-laws, needs))
+    tie.close (tie.spec Inv-loop μ-loop (λ c. search (running-laws, needs)) (λ c κs. search (running-laws, needs)) (λ c. search needs)
+    (λ c κs. step-in (c .before .before .before .turn .ensures) (c .before .texts .given .1)) (λ c κs. search needs)
+    (λ c. search (running-laws, needs)) loop-again (λ c. search needs)
+    (λ c κs. skip-in (c .before .before .before .turn .ensures) (c .before .step .given .1)) (λ c. search (running-laws, needs))
     (λ c. search (running-laws, needs)) (λ c. search needs) (λ c. search (running-laws, needs)) (λ c. search (running-laws, needs)))

@@ -3,8 +3,5 @@ use Rattle.phoneme_builder.proofs.EnterLaws.{slot-small, inserted}
 use Rattle.phoneme_builder.proofs.set.insert_text.Statement.{statement}
 use Rattle.phoneme_builder.proofs.set.insert_text.Tie as tie
 
-packed-requires : tie.Need-packed-requires
-packed-requires c κs = (search (slot-small, needs), search needs, search needs)
-
 pub insert-text-spec : {M : Type 1} → statement M
-insert-text-spec = tie.close (tie.spec packed-requires (λ c κs. search needs) (λ c. search needs) (λ c. search (inserted, needs)))
+insert-text-spec = tie.close (tie.spec (λ c κs. search (slot-small, needs)) (λ c κs. search needs) (λ c. search needs) (λ c. search (inserted, needs)))
