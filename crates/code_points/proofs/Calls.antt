@@ -20,7 +20,7 @@ use Rattle.phoneme_builder.specs.Sets.{Spelling, refusal}
 use Rattle.phoneme_builder.specs.Sets as sets
 use Rattle.phoneme_builder.specs.Passes.{ran, run, joined}
 use Rattle.engine.specs.Spelling.{Spelt, unspelt, speltAs, spelledName}
-use Rattle.engine.specs.Calls.{speltBy, wordBy, stepsBy, stepsOf, startSet, spelledBy, CallOutcome, key, outcomeOf, unless, onPack, lettersThen, checkedThen, callOf}
+use Rattle.engine.specs.Calls.{speltBy, wordByLists, stepsBy, stepsOf, startSet, spelledBy, CallOutcome, key, outcomeOf, unless, onPack, lettersThen, checkedThen, callOf}
 use Rattle.engine.specs.declared.call.Settings.{Settings}
 use Rattle.engine.specs.declared.call.Start.{Start}
 use Rattle.answers.specs.Answers.{WordOfCall, mainTurns}
@@ -74,7 +74,7 @@ joins (refusal k) t f e = clash (cc)
 joins (sets.texts l up) t f e = (l, up, refl, refl)
 
 word-is : (s : List ℕ) (p : Pack) (c : Settings) (g : LanguageSet) (w : Text) → stepsOf s p c .word g w ≡ speltBy (spellingOf s p c g w)
-unfolding stepsOf stepsBy wordBy spellingOf
+unfolding stepsOf stepsBy wordByLists spellingOf
 word-is s p c g w = refl
 
 -- 01, Spelling a name: "Texts compare by code points, shorter first", of every word that a call spells

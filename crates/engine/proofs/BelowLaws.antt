@@ -18,7 +18,7 @@ use Rattle.phoneme_builder.specs.Sets.{Spelling, refusal, texts, united}
 use Rattle.rule_index.specs.Matching.{Matcher}
 use Rattle.phoneme_builder.specs.Passes.{Ran, tooLong, ran, raised, onRan, finalText, finalFrom, finalPass, then, mainOf, wordOf}
 use Rattle.engine.specs.Spelling.{Spelt, unspelt, speltAs, Steps, both, hyphened, andWords, eachWord, onePart, byWords, byPrefix, nameBy, nameFrom, spelledName}
-use Rattle.engine.specs.Calls.{speltBy, wordBy, stepsBy, stepsOf, spelledBy, CallOutcome, refusedBy, key, outcomeOf, unless, onPack, lettersThen, checkedThen, callOf}
+use Rattle.engine.specs.Calls.{speltBy, wordByLists, stepsBy, stepsOf, spelledBy, CallOutcome, refusedBy, key, outcomeOf, unless, onPack, lettersThen, checkedThen, callOf}
 use Rattle.engine.specs.declared.call.Settings.{Settings}
 use Rattle.engine.specs.declared.call.Start.{Start}
 use Rattle.base.proofs.PickLaws.{pick-all}
@@ -34,13 +34,15 @@ unfolding WordBelow raised
 raised-below up (refusal k) h = h
 raised-below up (texts l f) h = tt
 
-united-below : (g : LanguageSet) (xs l : List Entry) (rest : List Entry → Spelling) → ((m : List Entry) → WordBelow (rest m)) → WordBelow (united g xs l rest)
+united-below : (g : LanguageSet) (xs l : List Entry) (rest : List Entry → Spelling) → ((m : List Entry) → WordBelow (rest m))
+    → WordBelow (united g xs l rest)
 unfolding WordBelow numberOf united
 united-below g [] l rest h = h l
 united-below g (x ∷ xs) l rest h =
     pick-all WordBelow _ _ _ (united-below g xs _ rest h) (pick-all WordBelow _ _ _ (omega arith) (united-below g xs _ rest h))
 
-ran-below : (g : LanguageSet) (o : Ran) (l : List Entry) (rest : List Entry → Spelling) → ((m : List Entry) → WordBelow (rest m)) → WordBelow (onRan g o l rest)
+ran-below : (g : LanguageSet) (o : Ran) (l : List Entry) (rest : List Entry → Spelling) → ((m : List Entry) → WordBelow (rest m))
+    → WordBelow (onRan g o l rest)
 unfolding WordBelow numberOf onRan
 ran-below g tooLong l rest h = omega arith
 ran-below g (ran new flag) l rest h = raised-below flag _ (united-below g new l rest h)
@@ -98,7 +100,8 @@ module _ (afresh : Text → Spelt) (low : (t : Text) → NameBelow (afresh t)) w
   prefix-below (Parted keep skip) s whole h = both-below _ _ (low _) (low _)
   prefix-below Whole s whole h = h
 
-name-below : (n : ℕ) (c : Steps) → ((g : LanguageSet) (w : Text) → NameBelow (c .word g w)) → (g : LanguageSet) (s : Text) → NameBelow (nameFrom n c g s)
+name-below : (n : ℕ) (c : Steps) → ((g : LanguageSet) (w : Text) → NameBelow (c .word g w)) → (g : LanguageSet) (s : Text)
+    → NameBelow (nameFrom n c g s)
 unfolding NameBelow nameFrom nameBy byWords onePart
 name-below zero c low g s = tt
 name-below (suc n) c low g s =
@@ -120,12 +123,14 @@ unless-below why (At place) rest h k = h
 unless-below why Nothing rest h k = k
 
 pack-below : (c : Settings) (start : Start) (s name : List ℕ) (v : Verdict) → Below (onPack c start s name v)
-unfolding Below numberOf onPack spelledBy spelledName stepsOf stepsBy wordBy wordOf finalPass
+unfolding Below numberOf onPack spelledBy spelledName stepsOf stepsBy wordByLists wordOf finalPass
 pack-below c start s name (refused place) = omega arith
 pack-below c start s name (accepted p) =
-    pick-all Below _ _ _ (outcome-below _ (name-below _ _ (λ g w. answer-below _ (then-below _ _ (main-below _) (λ l. then-below _ _ (final-below _ _ _ l []) (λ m. final-below _ _ _ m [])))) _ _)) (omega arith)
+    pick-all Below _ _ _ (outcome-below _ (name-below _ _ (λ g w.
+    answer-below _ (then-below _ _ (main-below _) (λ l. then-below _ _ (final-below _ _ _ l []) (λ m. final-below _ _ _ m [])))) _ _)) (omega arith)
 
 pub call-below : (c : Settings) (start : Start) (s name : List ℕ) → Below (callOf c start s name)
 unfolding Below numberOf callOf checkedThen lettersThen
 call-below c start s name =
-    pick-all Below _ _ _ (pick-all Below _ _ _ (omega arith) (unless-below NotUtf8 _ _ (omega arith) (unless-below OutsideRange _ _ (omega arith) (pack-below c start s name _)))) (omega arith)
+    pick-all Below _ _ _ (pick-all Below _ _ _ (omega arith) (unless-below NotUtf8 _ _ (omega arith)
+    (unless-below OutsideRange _ _ (omega arith) (pack-below c start s name _)))) (omega arith)

@@ -1,18 +1,15 @@
--- What a call is told, and the desk it works at: a pack's numbers, the refusals before the pack, and what known settings give.
+-- What a call is told, and the pack it works with: its numbers, the refusals before the pack, and what known settings give.
 -- Assumes nothing.
 use mathlib.Core.Path.{_≡_, refl, sym, ap, ap₂, _∙_}
 use mathlib.Core.Bool.{Bool, true, false, false≢true}
-use mathlib.Core.List.{List, [], _∷_, _++_}
+use mathlib.Core.List.{List, [], _∷_}
 use Prim.Native.Nat.{ℕ, zero, suc, _+_, _-_, _*_, _%_, _^_, _≤_, _<_, zero-le, suc-le-suc, min}
 use native.Mathlib.Nat.{le-antisymm, lt-of-lt-of-le, lt-of-not-le, not-le-of-lt, le-of-suc-le-suc}
 use native.Mathlib.Omega.{arith}
 use lib.Count.{trailingZeros, trailing-le}
 use lib.Pow.{pow-lt, pow-mono, shl-exact}
 use lib.Dec.{eqb, ltb}
-use lib.ListN.{length, getD, take, drop, List·getD-append}
-use lib.Seq.{sets, sets-eq, length-sets, getD-append-add, getD-drop}
-use mir.Syntax.{w64}
-use mir.Val.{Fits}
+use lib.ListN.{length, take, drop}
 use borrow.Author.Tests.{lt-ltb, le-ltb, leb-true, ltb-true, ltb-false}
 use Rattle.base.specs.Pick.{pick}
 use Rattle.base.proofs.Bits.{single-is, ones-pow}
@@ -40,11 +37,11 @@ use Rattle.base.proofs.Arms.{clash}
 use Rattle.refusals.specs.declared.Refusal.{Refusal}
 use Rattle.refusals.specs.declared.Refusal.the-variants.{NotUtf8, OutsideRange, NameTooLong, SettingUnknown}
 use Rattle.engine.specs.Calls.{kindKnown, settingsKnown, haveLanguages, typeOf, startSet, CallOutcome, refusedBy, key, unless, onPack, lettersThen, checkedThen, callOf}
-use Rattle.engine.specs.Contracts.{DeskIs, callFor, foundBy, FoundIs}
+use Rattle.engine.specs.Contracts.{OpenedIs, isGuessed, callFor, foundBy, FoundIs}
 use Rattle.engine.specs.declared.call.Settings.{Settings}
 use Rattle.engine.specs.declared.call.Start.{Start}
 use Rattle.engine.specs.declared.call.Start.the-variants.{Guessed, Given}
-use Rattle.engine.specs.declared.call.Desk.the-variants.{Open, Shut}
+use Rattle.engine.specs.declared.call.Opened.the-variants.{Usable, Broken}
 use Rattle.engine.specs.declared.spelling.Named.{Named}
 use Rattle.engine.specs.declared.spelling.Named.the-variants.{Fine, Wrong}
 use Rattle.engine.specs.declared.spelling.Spelled.the-variants as spelled
@@ -97,7 +94,8 @@ pub have-guessed : (n : ℕ) (start : Start) → start ≡ Guessed → true ≡ 
 unfolding haveLanguages
 have-guessed n start e = rw e refl
 
-pub have-given : (n : ℕ) (start : Start) (kind bits : ℕ) (t : Bool) → start ≡ Given kind bits → t ≡ pick (eqb kind 2) (ltb bits (2 ^ n)) true → t ≡ haveLanguages n start
+pub have-given : (n : ℕ) (start : Start) (kind bits : ℕ) (t : Bool) → start ≡ Given kind bits → t ≡ pick (eqb kind 2) (ltb bits (2 ^ n)) true
+    → t ≡ haveLanguages n start
 unfolding haveLanguages
 have-given n start kind bits t e p = rw e p
 
@@ -120,7 +118,7 @@ place-kept why n m h = ap (spelled.Refused why) (omega arith)
 pub place-cut : (why : Refusal) (n m : ℕ) → m ≤ n → spelled.Refused why m ≡ spelled.Refused why (min n m)
 place-cut why n m h = ap (spelled.Refused why) (omega arith)
 
--- ---- a desk
+-- ---- a pack that is opened
 
 place-cons : (t : Bool) (p n : ℕ) (h : Bool) → (h ≡ true → p < n) → pick t true h ≡ true → pick t 0 (suc p) < suc n
 unfolding pick
@@ -139,14 +137,15 @@ any-held s p e =
     let good = and-inv _ _ (and-inv _ _ (and-inv _ _ (w .front .passes) .1) .1) .1 in
     held-place any (p .names) (ap (holds any) (sym (w .names)) ∙ good)
 
-shut-by : (s : List ℕ) (t : List (List ℕ)) (place : ℕ) (v : Verdict) → packOf s ≡ v → surveyedOf v ≡ surveyed.Refused place → DeskIs s t (Shut place)
-unfolding surveyedOf DeskIs
-shut-by s t place (accepted p) e q = clash (cc)
-shut-by s t place (refused k) e q = let is : k ≡ place = cc in e ∙ ap refused is
+broken-by : (s : List ℕ) (t : List (List ℕ)) (place : ℕ) (v : Verdict) → packOf s ≡ v → surveyedOf v ≡ surveyed.Refused place
+    → OpenedIs s t (Broken place)
+unfolding surveyedOf OpenedIs
+broken-by s t place (accepted p) e q = clash (cc)
+broken-by s t place (refused k) e q = let is : k ≡ place = cc in e ∙ ap refused is
 
 module _ (s : List ℕ) (t : List (List ℕ)) (r : Surveyed) (w : IndexIs s r t) where
-  pub desk-shut : (place : ℕ) → r ≡ surveyed.Refused place → DeskIs s t (Shut place)
-  desk-shut place q = shut-by s t place _ refl (sym (surveyed-one _ _ (w .result)) ∙ q)
+  pub open-broken : (place : ℕ) → r ≡ surveyed.Refused place → OpenedIs s t (Broken place)
+  open-broken place q = broken-by s t place _ refl (sym (surveyed-one _ _ (w .result)) ∙ q)
 
   module _ (n g : ℕ) (q : r ≡ surveyed.Accepted n g) where
     found : SurveyedPack s n g
@@ -174,9 +173,9 @@ module _ (s : List ℕ) (t : List (List ℕ)) (r : Surveyed) (w : IndexIs s r t)
     languages : n ≡ length (packIn s .names)
     languages = found .languages ∙ ap (λ (x : Pack). length (x .names)) same
 
-    pub desk-open : (other : ℕ) → other ≡ namePlace any (stringsOf (take (g - 1) (drop 1 s))) → DeskIs s t (Open n g other)
-    unfolding DeskIs
-    desk-open other o =
+    pub open-usable : (other : ℕ) → other ≡ namePlace any (stringsOf (take (g - 1) (drop 1 s))) → OpenedIs s t (Usable n g other)
+    unfolding OpenedIs
+    open-usable other o =
         let is-any : other ≡ namePlace any (found .pack .names) = o ∙ ap (namePlace any) strings in
         record {
           is = found .is ∙ ap accepted same;
@@ -187,11 +186,12 @@ module _ (s : List ℕ) (t : List (List ℕ)) (r : Surveyed) (w : IndexIs s r t)
           finds = w .found;
         }
 
-pub ruleset desk-laws = (desk-shut, names-start, names-end, any-there, desk-open)
+pub ruleset open-laws = (open-broken, names-start, names-end, any-there, open-usable)
 
 -- ---- a call of known settings
 
-pub call-made : (c : Settings) (start : Start) (languages guesses other : ℕ) (guess set : LanguageSet) (kind : NameType) → kind ≡ typeOf (c .«name_type») → set ≡ startSet start guess
+pub call-made : (c : Settings) (start : Start) (languages guesses other : ℕ) (kind : NameType) (fresh : Bool) (set : LanguageSet)
+    → kind ≡ typeOf (c .«name_type») → fresh ≡ isGuessed start → set ≡ startSet start Any
     → record {
       kind = kind;
       rules = c .«rule_type»;
@@ -200,11 +200,11 @@ pub call-made : (c : Settings) (start : Start) (languages guesses other : ℕ) (
       languages = languages;
       guesses = guesses;
       any = other;
-      fresh = false;
+      fresh = fresh;
       set = set;
-    } ≡ callFor c start languages guesses other guess
+    } ≡ callFor c start languages guesses other
 unfolding callFor
-call-made c start languages guesses other guess set kind ek es = rw (ek, es) refl
+call-made c start languages guesses other kind fresh set ek ef es = rw (ek, ef, es) refl
 
 -- ---- the refusals before the pack
 
@@ -213,7 +213,8 @@ module _ (name : Text) where
   unfolding lettersThen foundBy
   found-long h = record { is = λ rest. sym (pick-true _ _ _ (lt-ltb _ _ h)) }
 
-  letters-by : (x y : Found) → length name ≤ 96 → firstIll name ≡ x → firstOutside name ≡ y → (rest : CallOutcome) → unless NotUtf8 x (unless OutsideRange y rest) ≡ lettersThen name rest
+  letters-by : (x y : Found) → length name ≤ 96 → firstIll name ≡ x → firstOutside name ≡ y → (rest : CallOutcome)
+      → unless NotUtf8 x (unless OutsideRange y rest) ≡ lettersThen name rest
   unfolding lettersThen
   letters-by x y h p q rest = sym (pick-false _ _ _ (le-ltb _ _ h) ∙ ap₂ (λ (f g : Found). unless NotUtf8 f (unless OutsideRange g rest)) p q)
 
@@ -244,48 +245,38 @@ pub ruleset found-laws = (found-long, found-ill, found-outside, found-none, foun
 
 -- ---- what that tells
 
-fine-by : (t u : Bool) (x : CallOutcome) → key [] false ≡ pick t (pick u (refusedBy NameTooLong 0) x) (refusedBy SettingUnknown 0) → (t ≡ true) × (u ≡ false)
+fine-by : (t u : Bool) (x : CallOutcome) → key [] false ≡ pick t (pick u (refusedBy NameTooLong 0) x) (refusedBy SettingUnknown 0)
+    → (t ≡ true) × (u ≡ false)
 unfolding pick
 fine-by false u x e = clash (cc)
 fine-by true true x e = clash (cc)
 fine-by true false x e = (refl, refl)
 
-module _ (c : Settings) (start : Start) where
+module _ (c : Settings) (start : Start) (name : Text) (r : Named) (w : FoundIs (checkedThen c start name) r) where
   -- a name that is fine has known settings, and is short
-  pub fine-name : (name : Text) (r : Named) → FoundIs (checkedThen c start name) r → r ≡ Fine → (settingsKnown c start ≡ true) × (length name ≤ 96)
+  pub fine-name : r ≡ Fine → (settingsKnown c start ≡ true) × (length name ≤ 96)
   unfolding checkedThen lettersThen foundBy
-  fine-name name r w e =
+  fine-name e =
       let all = fine-by _ _ _ (sym (ap (λ (x : Named). foundBy x (key [] false)) e) ∙ w .is (key [] false)) in
       (all .0, ltb-false _ _ (all .1))
 
-  module _ (s : List ℕ) (name : Text) (r : Named) where
-    call-by : (x : Named) → FoundIs (checkedThen c start name) r → r ≡ x → callOf c start s name ≡ foundBy x (onPack c start s name (packOf s))
-    unfolding callOf
-    call-by x w e = sym (w .is _) ∙ ap (λ (y : Named). foundBy y (onPack c start s name (packOf s))) e
+  -- a call is refused as its name is, else the pack is looked at
+  pub call-by : (s : List ℕ) (x : Named) → r ≡ x → callOf c start s name ≡ foundBy x (onPack c start s name (packOf s))
+  unfolding callOf
+  call-by s x e = sym (w .is _) ∙ ap (λ (y : Named). foundBy y (onPack c start s name (packOf s))) e
 
-    -- a call is refused as its name is
-    pub wrong-name : (why : Refusal) (place : ℕ) → FoundIs (checkedThen c start name) r → r ≡ Wrong why place → callOf c start s name ≡ refusedBy why place
-    unfolding foundBy
-    wrong-name why place = call-by (Wrong why place)
-
-    -- else the pack is looked at
-    pub fine-call : FoundIs (checkedThen c start name) r → r ≡ Fine → callOf c start s name ≡ onPack c start s name (packOf s)
-    unfolding foundBy
-    fine-call = call-by Fine
-
-  pub known-limits : settingsKnown c start ≡ true → (c .limit ≤ 256) × (c .«rule_type» < 2)
-  unfolding settingsKnown
-  known-limits e =
-      let a = and-inv _ _ (and-inv _ _ e .1) in
-      let b = and-inv _ _ (and-inv _ _ (a .1) .1) in
-      (leb-true _ _ (b .0), ltb-true _ _ (a .0))
+pub known-limits : (c : Settings) (start : Start) → settingsKnown c start ≡ true → (c .limit ≤ 256) × (c .«rule_type» < 2) × (kindKnown start ≡ true)
+unfolding settingsKnown
+known-limits c start e =
+    let a = and-inv _ _ (and-inv _ _ e .1) in
+    let b = and-inv _ _ (and-inv _ _ (a .1) .1) in
+    (leb-true _ _ (b .0), ltb-true _ _ (a .0), b .1)
 
 -- a given set has bits of the pack's languages only
-pub start-below : (start : Start) (guess : LanguageSet) (n : ℕ) → n ≤ 32 → haveLanguages n start ≡ true → kindKnown start ≡ true → BitsBelow n guess
-    → BitsBelow n (startSet start guess)
+pub start-below : (start : Start) (n : ℕ) → haveLanguages n start ≡ true → kindKnown start ≡ true → BitsBelow n (startSet start Any)
 unfolding haveLanguages kindKnown startSet BitsBelow pick
-start-below Guessed guess n h a k b = b
-start-below (Given zero bits) guess n h a k b = tt
-start-below (Given (suc zero) bits) guess n h a k b = tt
-start-below (Given (suc (suc zero)) bits) guess n h a k b = ltb-true _ _ a
-start-below (Given (suc (suc (suc kind))) bits) guess n h a k b = let no-way : ⊥ = omega (arith, ltb-true (suc (suc (suc kind))) 3 k) in absurd no-way
+start-below Guessed n a k = tt
+start-below (Given zero bits) n a k = tt
+start-below (Given (suc zero) bits) n a k = tt
+start-below (Given (suc (suc zero)) bits) n a k = ltb-true _ _ a
+start-below (Given (suc (suc (suc kind))) bits) n a k = let no-way : ⊥ = omega (arith, ltb-true (suc (suc (suc kind))) 3 k) in absurd no-way

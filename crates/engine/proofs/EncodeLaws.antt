@@ -4,30 +4,28 @@ use mathlib.Core.Bool.{Bool, true, false}
 use mathlib.Core.List.{List, [], _∷_}
 use Prim.Native.Nat.{ℕ, _+_, _-_, _*_, _≤_, _<_, min}
 use native.Mathlib.Omega.{arith}
-use lib.Dec.{leb}
 use lib.ListN.{length, take, drop}
 use lib.Seq.{length-sets}
-use borrow.Author.Tests.{eq-eqb, le-leb, lt-ltb}
-use Rattle.base.specs.Pick.{pick, and}
+use borrow.Author.Tests.{le-leb}
+use Rattle.base.specs.Pick.{pick}
 use Rattle.languages.specs.Sets.{singleOf}
 use Rattle.languages.specs.declared.sets.LanguageSet.{LanguageSet}
 use Rattle.languages.specs.declared.sets.Single.{Single}
 use Rattle.languages.specs.declared.sets.Single.the-variants.{Language, NotSingle}
 use Rattle.languages.proofs.Laws.{single-below}
 use Rattle.writing.specs.Contracts.{cap, Put}
-use Rattle.name_parts.specs.Words.{wordAt, wordsOf, oneWord}
+use Rattle.name_parts.specs.Words.{wordAt}
 use Rattle.prefixes.specs.Prefixes.{splitOf}
-use Rattle.name_parts.specs.Joining.{joinedName, joinedWords}
+use Rattle.name_parts.specs.Joining.{joinedWords}
 use Rattle.prefixes.specs.declared.prefixes.NameType.{NameType}
 use Rattle.prefixes.specs.declared.prefixes.NameType.the-variants.{Ashkenazi, Generic, Sephardic}
 use Rattle.prefixes.specs.declared.prefixes.Prefix.{Prefix}
-use Rattle.prefixes.specs.declared.prefixes.Prefix.the-variants.{Parted, Whole}
-use Rattle.name_parts.proofs.Laws.{split-within, rest-shorter, joined-shorter, joined-short}
+use Rattle.prefixes.specs.declared.prefixes.Prefix.the-variants.{Whole}
+use Rattle.name_parts.proofs.Laws.{joined-short}
 use Rattle.base.proofs.Arms.{clash}
 use Rattle.writing.proofs.Laws.{put-fits, put-long, slice-room}
-use Rattle.pack.specs.Packs.{listCount, stringsLength}
-use Rattle.pack.specs.Guessing.{guessed}
-use Rattle.pack.proofs.Laws.{languages-few, guesses-within, guess-told, guessed-below}
+use Rattle.pack.specs.Packs.{stringsLength}
+use Rattle.pack.proofs.Laws.{languages-few, guess-told, guess-below}
 use Rattle.choices.specs.Texts.{Text}
 use Rattle.refusals.specs.Numbers.{numberOf}
 use Rattle.refusals.specs.declared.Refusal.{Refusal}
@@ -40,24 +38,23 @@ use Rattle.phoneme_builder.specs.Contracts.{WordIs, placed, placedAs, spellings
 use Rattle.phoneme_builder.specs.Contracts as built
 use Rattle.phoneme_builder.specs.declared.words.Worded.{Worded}
 use Rattle.phoneme_builder.specs.declared.words.Worded.the-variants.{Done, TooLong, TooMany}
-use Rattle.engine.specs.Spelling.{unspelt, speltAs, or, onePart, eachWord, partedAs, spelledName, afreshBy}
-use Rattle.engine.specs.Calls.{languageBy, languageOf, listNumbered, speltBy, wordBy, stepsBy}
-use Rattle.engine.specs.Contracts.{CallReady, afreshOf, stepsAt, startAt, listNumbers, isSpelt, ToldBy, NameTold, wholeBy, ToldWhole, EndedIs, bothOf, HyphenAt}
-use Rattle.engine.proofs.SpellingLaws.{not-or, parted-split, name-parted, name-plain, name-words}
-use Rattle.engine.proofs.ToldLaws.{bad-told, both-told}
+use Rattle.engine.specs.Spelling.{unspelt, speltAs, or, onePart, partedAs, spelledName, afreshBy}
+use Rattle.engine.specs.Calls.{languageBy, languageOf, listNumbered, speltBy, wordByLists, stepsBy}
+use Rattle.engine.specs.Contracts.{CallReady, withStart, startedBy, stepsAt, startAt, speltWord, speltPart, speltName, speltAfresh, listNumbers, isSpelt, IntoBy, SpeltInto, wholeBy, SpeltWhole, EndedIs, bothOf, HyphenAt}
+use Rattle.engine.proofs.IntoLaws.{bad-told}
 use Rattle.engine.specs.declared.call.Call.{Call}
 use Rattle.engine.specs.declared.encode.Ends.{Ends}
 use Rattle.engine.specs.declared.encode.Lists.{Lists}
-use Rattle.base.proofs.PickLaws.{pick-true, pick-false, pick-all, and-yes}
+use Rattle.base.proofs.PickLaws.{pick-true, pick-false, pick-all, pick-map}
 use Rattle.languages.specs.Contracts.{BitsBelow}
 use Rattle.pack.specs.Contracts.{guessedAt}
-use Rattle.base.proofs.Stores.{rest-is}
 
 -- ---- what a word's answer tells
 
 module _ {o o′ : List ℕ} {at : ℕ} {r : Ends} (room : length o < cap) where
-  whole-good : (t : Text) (f : Bool) → r .at ≡ min (at + length t) cap → r .flag ≡ f → r .fine ≡ true → o′ ≡ placed o at t → ToldWhole (speltAs t f) o o′ at r
-  unfolding isSpelt ToldBy wholeBy placed
+  whole-good : (t : Text) (f : Bool) → r .at ≡ min (at + length t) cap → r .flag ≡ f → r .fine ≡ true → o′ ≡ placed o at t
+      → SpeltWhole (speltAs t f) o o′ at r
+  unfolding isSpelt IntoBy wholeBy placed
   whole-good t f ea ef ec eo = record {
     told = record {
       fine = ec;
@@ -74,11 +71,12 @@ module _ {o o′ : List ℕ} {at : ℕ} {r : Ends} (room : length o < cap) where
     whole = eo;
   }
 
-  whole-bad : (a why : Refusal) → numberOf a ≡ numberOf why → (r .fine ≡ false) × (r .why ≡ a) → o′ ≡ o → ToldWhole (unspelt why) o o′ at r
+  whole-bad : (a why : Refusal) → numberOf a ≡ numberOf why → (r .fine ≡ false) × (r .why ≡ a) → o′ ≡ o → SpeltWhole (unspelt why) o o′ at r
   unfolding wholeBy
   whole-bad a why e w eo = record { told = bad-told (w .0) (w .1 ∙ number-one a why e); whole = eo }
 
-  word-told : (x : Spelling) (answer : Worded) → answerOf answer ≡ answered x → o′ ≡ placedAs x o at → EndedIs answer at r → ToldWhole (speltBy x) o o′ at r
+  word-told : (x : Spelling) (answer : Worded) → answerOf answer ≡ answered x → o′ ≡ placedAs x o at → EndedIs answer at r
+      → SpeltWhole (speltBy x) o o′ at r
   unfolding answerOf answered placedAs EndedIs speltBy
   word-told (texts l flag) (Done n f) e b w =
       let en : n ≡ length (joined (spellingsIn l)) = cc in
@@ -92,141 +90,111 @@ module _ {o o′ : List ℕ} {at : ℕ} {r : Ends} (room : length o < cap) where
 
 -- ---- a call that is ready
 
-count-is : (n : ℕ) → listCount n ≡ 3 * n + 2
-unfolding listCount
-count-is n = refl
-
 language-by : (n : ℕ) (g : LanguageSet) (x : Single) (other : ℕ) → x ≡ singleOf g → n ≤ 32 → BitsBelow n g → other < n → languageBy x other < n
 unfolding languageBy
 language-by n g (Language l) other e h k o = single-below n g l _ h k e refl
 language-by n g NotSingle other e h k o = o
 
-module _ (s : List ℕ) (table : List (List ℕ)) (call : Call) (w : CallReady s table call) where
-  few : call .languages ≤ 32
-  few = omega (arith, w .desk .languages-are, languages-few s (packIn s) (call .guesses) (w .desk .is) (w .desk .guesses-are))
+module _ {s : List ℕ} {table : List (List ℕ)} {call : Call} (w : CallReady s table call) where
+  pub few : call .languages ≤ 32
+  few = omega (arith, w .pack .languages-are, languages-few s (packIn s) (call .guesses) (w .pack .is) (w .pack .guesses-are))
 
-  few-lists : {k : ℕ} → k < listCount (call .languages) → k < 98
-  few-lists h = omega (arith, few, count-is (call .languages))
-
-  pub names-within : call .guesses ≤ length s
-  names-within = guesses-within s (packIn s) (call .guesses) (w .desk .is) (w .desk .guesses-are)
-
-  -- the set that a name starts with, as it is found
-  pub start-told : (t : Text) (g : LanguageSet) → g ≡ pick (call .fresh) (guessedAt s (call .guesses) (call .languages) t) (call .set) → g ≡ startAt s call t
-  unfolding startAt stepsAt stepsBy
-  start-told t g e =
-      let same : guessedAt s (call .guesses) (call .languages) t ≡ guessed (length (packIn s .names)) (packIn s .guesses) t =
-      ap (λ (n : ℕ). guessedAt s (call .guesses) n t) (w .desk .languages-are) ∙ guess-told s (packIn s) (call .guesses) (w .desk .is) (w .desk .guesses-are) t in
-      e ∙ ap (λ (x : LanguageSet). pick (call .fresh) x (call .set)) same
-
-  pub start-below : (t : Text) (g : LanguageSet) → g ≡ startAt s call t → BitsBelow (call .languages) g
-  unfolding startAt stepsAt stepsBy
-  start-below t g e =
-      let guess : BitsBelow (call .languages) (guessed (length (packIn s .names)) (packIn s .guesses) t) =
-      rw (w .desk .languages-are) (guessed-below (length (packIn s .names)) (packIn s .guesses) t) in
-      rw e (pick-all (BitsBelow (call .languages)) (call .fresh) _ _ guess (w .below))
-
-  -- the same call for a name spelled afresh
-  pub ready-afresh : (again : Call) → again ≡ afreshOf call → CallReady s table again
-  unfolding afreshOf
-  ready-afresh again e = rw e (record { desk = w .desk; few = w .few; known = w .known; below = w .below })
-
-  module _ (set : LanguageSet) (below : BitsBelow (call .languages) set) (l : ℕ) (el : l ≡ languageBy (singleOf set) (call .any)) where
+  module _ {l : ℕ} (el : l ≡ languageBy (singleOf (call .set)) (call .any)) where
     pub language-below : l < call .languages
-    language-below = rw el (language-by (call .languages) set (singleOf set) (call .any) refl few below (w .desk .any-below))
+    language-below = rw el (language-by (call .languages) (call .set) (singleOf (call .set)) (call .any) refl few (w .below) (w .pack .any-below))
 
-    pub lists-ready : (l < call .languages) × (call .languages ≤ 32) × (call .rules < 2)
-    lists-ready = (language-below, few, w .known)
-
-    language-is : languageOf (packIn s) set ≡ l
+    language-is : languageOf (packIn s) (call .set) ≡ l
     unfolding languageOf
-    language-is = ap (languageBy (singleOf set)) (sym (w .desk .any-is)) ∙ sym el
-
-    main-in : 3 * l < listCount (call .languages)
-    main-in = omega (arith, language-below, count-is (call .languages))
-
-    common-in : 3 * (call .languages) + call .rules < listCount (call .languages)
-    common-in = omega (arith, w .known, count-is (call .languages))
-
-    own-in : 3 * l + 1 + call .rules < listCount (call .languages)
-    own-in = omega (arith, language-below, w .known, count-is (call .languages))
+    language-is = ap (languageBy (singleOf (call .set))) (sym (w .pack .any-is)) ∙ sym el
 
     module _ (word : Text) where
       abbrev spelled-word : Lists → Spelling
-      spelled-word x = wordOf (call .limit) (take (call .guesses - 1) (drop 1 s)) (matcher s table (x .main)) (matcher s table (x .common)) (matcher s table (x .own)) set word
+      spelled-word x =
+          wordOf (call .limit) (take (call .guesses - 1) (drop 1 s)) (matcher s table (x .main)) (matcher s table (x .common))
+          (matcher s table (x .own)) (call .set) word
 
-      word-is : stepsAt s call .word set word ≡ speltBy (spelled-word (listNumbers call l))
-      unfolding stepsAt stepsBy wordBy listNumbers listNumbered
+      word-is : speltWord s call word ≡ speltBy (spelled-word (listNumbers call l))
+      unfolding speltWord stepsAt stepsBy wordByLists listNumbers listNumbered
       word-is =
-          let names : call .guesses - 1 ≡ stringsLength (packIn s .names) = omega (arith, w .desk .guesses-are) in
-          rw (language-is, names, w .desk .finds (3 * l), w .desk .finds (3 * (call .languages) + call .rules), w .desk .finds (3 * l + 1 + call .rules), w .desk .languages-are)
+          let names : call .guesses - 1 ≡ stringsLength (packIn s .names) = omega (arith, w .pack .guesses-are) in
+          rw (
+            language-is,
+            names,
+            w .pack .finds (3 * l),
+            w .pack .finds (3 * (call .languages) + call .rules),
+            w .pack .finds (3 * l + 1 + call .rules),
+            w .pack .languages-are,
+          )
 
-      pub one-told : {o o′ : List ℕ} {at : ℕ} {r : Ends} {answer : Worded} (lists : Lists) → lists ≡ listNumbers call l → length o * 1 < cap
-          → WordIs (built.wordBy s table (record { main = lists .main; common = lists .common; own = lists .own; limit = call .limit; guesses = call .guesses; set = set }) word) o o′ at answer
-          → EndedIs answer at r → ToldWhole (stepsAt s call .word set word) o o′ at r
+      pub word-spelt : {o o′ : List ℕ} {at : ℕ} {r : Ends} {answer : Worded} {lists : Lists} → lists ≡ listNumbers call l → length o * 1 < cap
+          → WordIs (built.wordBy s table (record {
+            main = lists .main;
+            common = lists .common;
+            own = lists .own;
+            limit = call .limit;
+            guesses = call .guesses;
+            set = call .set;
+          }) word) o o′ at answer
+          → EndedIs answer at r → SpeltWhole (speltWord s call word) o o′ at r
       unfolding namesIn
-      one-told {o = o} lists e room q ended =
+      word-spelt {o = o} e room q ended =
           let capped : min (call .limit) 256 ≡ call .limit = omega (arith, w .few) in
           let v : WordIs (spelled-word (listNumbers call l)) _ _ _ _ = rw (e, capped) at q in
           rw word-is (word-told (slice-room o room) (spelled-word (listNumbers call l)) _ (v .result) (v .buffer) ended)
 
--- ---- a name by its parts
+  -- the same call with the set that a name starts with
+  module _ (t : Text) {by : Call} (e : by ≡ startedBy call (guessedAt s (call .guesses) (call .languages) t)) where
+    pub ready-started : CallReady s table by
+    unfolding startedBy withStart
+    ready-started = rw e (record {
+      pack = w .pack;
+      few = w .few;
+      known = w .known;
+      below = pick-all (BitsBelow (call .languages)) (call .fresh) _ _ (guess-below s (call .guesses) (call .languages) t _ refl few) (w .below);
+    })
 
--- a prefix stands within the name, and both parts are shorter
-module _ (kind : NameType) (name : Text) (x : Prefix) (e : x ≡ partedAs kind name) (keep skip : ℕ) (q : x ≡ Parted keep skip) where
-  split-here : splitOf name ≡ Parted keep skip
-  split-here = parted-split kind name keep skip (sym e ∙ q)
+    guess-is : guessedAt s (call .guesses) (call .languages) t ≡ stepsAt s call .guess t
+    unfolding stepsAt stepsBy
+    guess-is =
+        ap (λ (n : ℕ). guessedAt s (call .guesses) n t) (w .pack .languages-are)
+        ∙ guess-told s (packIn s) (call .guesses) (w .pack .is) (w .pack .guesses-are) t
 
-  pub skip-within : skip ≤ length name
-  skip-within = split-within name keep skip split-here .1
+    word-started : (x : Text) → speltWord s by x ≡ stepsAt s call .word (startAt s call t) x
+    unfolding speltWord stepsAt startAt startedBy withStart
+    word-started x = rw (e, guess-is)
 
-  pub rest-short : length (drop skip name) < length name
-  rest-short = rest-shorter name keep skip split-here
+    pub name-started : (x : Text) → speltName s by x ≡ spelledName (stepsAt s call) (startAt s call t) x
+    unfolding speltName stepsAt startAt startedBy withStart pick
+    name-started x = rw (e, guess-is)
 
-  pub joined-part : length (joinedName keep skip name) < length name
-  joined-part = joined-shorter name keep skip split-here
+    module _ (x : Text) {o o′ : List ℕ} {at : ℕ} {r : Ends} where
+      part-by : (u : Text) → u ≡ x → pick (call .concat) (joinedWords (call .kind) t) (wordAt t 0) ≡ u → SpeltWhole (speltWord s by x) o o′ at r
+          → SpeltWhole (speltPart s call t) o o′ at r
+      unfolding speltPart onePart stepsAt stepsBy
+      part-by u ux eu q =
+          let same : speltPart s call t ≡ speltWord s by x =
+          sym (pick-map (stepsAt s call .word (startAt s call t)) (call .concat) (joinedWords (call .kind) t) (wordAt t 0))
+          ∙ rw (eu, ux, ← word-started x) in
+          rw same q
 
-pick-ap : {A B : Type 0} (f : A → B) (t : Bool) (a b : A) → pick t (f a) (f b) ≡ f (pick t a b)
-unfolding pick
-pick-ap f true a b = refl
-pick-ap f false a b = refl
+      pub part-joined : call .concat ≡ true → x ≡ joinedWords (call .kind) t → SpeltWhole (speltWord s by x) o o′ at r
+          → SpeltWhole (speltPart s call t) o o′ at r
+      part-joined h ex = part-by _ (sym ex) (pick-true _ _ _ h)
 
-module _ (s : List ℕ) (call : Call) where
-  pub plain-told : {o o′ : List ℕ} {at : ℕ} {r : Ends} (name w : Text) (set : LanguageSet) → set ≡ startAt s call name → w ≡ pick (call .concat) (joinedWords (call .kind) name) (wordAt name 0)
-      → ToldWhole (stepsAt s call .word set w) o o′ at r → ToldWhole (onePart (stepsAt s call) (startAt s call name) name) o o′ at r
-  unfolding onePart stepsAt stepsBy
-  plain-told name w set es ew q =
-      let same : pick (call .concat) (stepsAt s call .word (startAt s call name) (joinedWords (call .kind) name)) (stepsAt s call .word (startAt s call name) (wordAt name 0))
-      ≡ stepsAt s call .word set w = pick-ap (stepsAt s call .word (startAt s call name)) (call .concat) (joinedWords (call .kind) name) (wordAt name 0) ∙ rw (es, ew) in
-      rw same q
+      pub part-only : call .concat ≡ false → x ≡ wordAt t 0 → SpeltWhole (speltWord s by x) o o′ at r → SpeltWhole (speltPart s call t) o o′ at r
+      part-only h ex = part-by _ (sym ex) (pick-false _ _ _ h)
 
-  -- what a name spelled afresh tells
-  pub afresh-told : {o o′ : List ℕ} {at : ℕ} {r : Ends} (again : Call) (t : Text) → again ≡ afreshOf call
-      → NameTold (spelledName (stepsAt s again) (startAt s again t) t) o o′ at r → NameTold (afreshBy (stepsAt s call) t) o o′ at r
-  unfolding afreshOf stepsAt startAt afreshBy pick
-  afresh-told again t e q = rw e at q
+-- ---- spelled afresh
 
-  module _ (name : Text) (x : Prefix) (e : x ≡ partedAs (call .kind) name) where
-    module _ (keep skip : ℕ) (q : x ≡ Parted keep skip) where
-      pub parted-told : (joined : Text) {o o₁ o₂ o₃ o₄ o₅ : List ℕ} {at p₁ p₂ end : ℕ} {a b r : Ends} → joined ≡ joinedName keep skip name
-          → Put o o₁ at p₁ (40 ∷ []) → NameTold (afreshBy (stepsAt s call) (take (length name - skip) (drop skip name))) o₁ o₂ p₁ a → Put o₂ o₃ (a .at) p₂ (41 ∷ 45 ∷ 40 ∷ [])
-          → NameTold (afreshBy (stepsAt s call) joined) o₃ o₄ p₂ b → Put o₄ o₅ (b .at) end (41 ∷ []) → r ≡ bothOf b a end
-          → NameTold (spelledName (stepsAt s call) (startAt s call name) name) o o₅ at r
-      unfolding stepsAt stepsBy
-      parted-told joined ej left ta middle tb right h =
-          rw (name-parted (stepsAt s call) (startAt s call name) name keep skip (sym e ∙ q), ← rest-is name skip, ← ej) (both-told _ _ left ta middle tb right h)
+module _ (s : List ℕ) (call : Call) {again : Call} (e : again ≡ withStart call true (call .set)) where
+  pub ready-afresh : {table : List (List ℕ)} → CallReady s table call → CallReady s table again
+  unfolding withStart
+  ready-afresh w = rw e (record { pack = w .pack; few = w .few; known = w .known; below = w .below })
 
-    module _ (q : x ≡ Whole) (t : Bool) (et : t ≡ pick (call .concat) true (oneWord name)) where
-      pub whole-plain : {o o′ : List ℕ} {at : ℕ} {r : Ends} → t ≡ true → ToldWhole (onePart (stepsAt s call) (startAt s call name) name) o o′ at r → NameTold (spelledName (stepsAt s call) (startAt s call name) name) o o′ at r
-      unfolding stepsAt stepsBy
-      whole-plain y w = rw (name-plain (stepsAt s call) (startAt s call name) name (sym e ∙ q) (sym et ∙ y)) (w .told)
-
-      pub whole-words : {o o′ : List ℕ} {at : ℕ} {r : Ends} → t ≡ false → NameTold (eachWord (afreshBy (stepsAt s call)) (wordsOf name)) o o′ at r → NameTold (spelledName (stepsAt s call) (startAt s call name) name) o o′ at r
-      unfolding stepsAt stepsBy
-      whole-words y w = rw (name-words (stepsAt s call) (startAt s call name) name (sym e ∙ q) (sym et ∙ y)) w
-
-pub several : (concat : Bool) (name : Text) (t : Bool) → t ≡ pick concat true (oneWord name) → t ≡ false → oneWord name ≡ false
-several concat name t e y = not-or _ _ (sym e ∙ y)
+  pub afresh-told : (t : Text) {o o′ : List ℕ} {at : ℕ} {r : Ends} → SpeltInto (speltName s again t) o o′ at r
+      → SpeltInto (speltAfresh s call t) o o′ at r
+  unfolding speltName speltAfresh withStart stepsAt startAt afreshBy pick
+  afresh-told t q = rw e at q
 
 -- ---- the small functions, as `search` applies them
 
@@ -251,7 +219,8 @@ module _ (first second : Ends) (at : ℕ) where
   both-kept h = sym (pick-false _ _ _ h)
 
 module _ (a : Worded) (at : ℕ) where
-  pub ended-done : (n p : ℕ) (f : Bool) (why : Refusal) → a ≡ Done n f → p ≡ min (at + n) cap → EndedIs a at (record { at = p; flag = f; fine = true; why = why })
+  pub ended-done : (n p : ℕ) (f : Bool) (why : Refusal) → a ≡ Done n f → p ≡ min (at + n) cap → EndedIs a at
+      (record { at = p; flag = f; fine = true; why = why })
   unfolding EndedIs
   ended-done n p f why e h = rw e (h, refl, refl)
 
@@ -291,7 +260,22 @@ module _ (kind : NameType) (name : Text) where
   unfolding partedAs
   part-generic x e q = rw e q
 
-pub ruleset encode-laws = (or-yes, or-rest, both-joined, both-kept, ended-done, ended-long, ended-many, hyphen-none, hyphen-put, language-one, language-any, part-ashkenazi, part-sephardic, part-generic)
+pub ruleset encode-laws = (
+  or-yes,
+  or-rest,
+  both-joined,
+  both-kept,
+  ended-done,
+  ended-long,
+  ended-many,
+  hyphen-none,
+  hyphen-put,
+  language-one,
+  language-any,
+  part-ashkenazi,
+  part-sephardic,
+  part-generic,
+)
 
 -- ---- a text at the front of a local array
 
@@ -307,3 +291,5 @@ module _ {o o′ t : List ℕ} {n : ℕ} (x : Put o o′ 0 n t) (h : length t �
 -- the words of a name that is short enough for it
 pub joined-few : (kind : NameType) (name : Text) → length name ≤ 96 → length (joinedWords kind name) ≤ 96
 joined-few kind name h = omega (arith, joined-short kind name)
+
+pub ruleset part-laws = (ready-started, part-joined, part-only, front-in, front-is, joined-few)

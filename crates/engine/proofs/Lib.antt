@@ -1,6 +1,6 @@
 pub mod NumberLaws
 pub mod SpellingLaws
-pub mod ToldLaws
+pub mod IntoLaws
 pub mod EncodeLaws
 pub mod NameLaws
 pub mod CallLaws

@@ -2,7 +2,7 @@
 use mathlib.Core.Path.{_≡_, refl, sym, ap, _∙_}
 use mathlib.Core.Bool.{Bool, true, false, false≢true}
 use mathlib.Core.List.{List, [], _∷_, _++_}
-use Prim.Native.Nat.{ℕ, zero, suc, _+_, _-_, _/_, _%_, _≤_, _<_, min}
+use Prim.Native.Nat.{ℕ, zero, suc, _+_, _-_, _*_, _/_, _%_, _^_, _≤_, _<_, min}
 use native.Mathlib.Decide.{decLe}
 use native.Mathlib.Omega.{arith}
 use mir.Val.{boolByte}
@@ -11,14 +11,15 @@ use lib.ListN.{length, set, length-append}
 use lib.Seq.{sets, set-comm}
 use borrow.Author.Tests.{lt-ltb, le-ltb, le-leb, lt-leb, eq-eqb, ne-eqb, ltb-false, leb-true, leb-false}
 use Rattle.base.proofs.Stores.{sets-then}
-use Rattle.writing.specs.Contracts.{Put}
+use Rattle.writing.specs.Contracts.{cap, Put}
 use Rattle.writing.proofs.Laws.{slice-room, put-then, put-long}
 use Rattle.choices.specs.Texts.{Text}
 use Rattle.refusals.specs.declared.Refusal.the-variants.{NoRoom}
 use Rattle.engine.specs.Calls.{refusedAs, spelledNumbers}
 use Rattle.engine.specs.Lines.{decimalBy, decimal, flagDigit, answerLine, refusalLine, most}
-use Rattle.engine.specs.LineContracts.{headOf, lineLength, DoneIs, placeTold, refusedLine, lengthTold, lengthNeeded, waitsFor, RefusedIs, stoppedAt}
+use Rattle.engine.specs.LineContracts.{SpaceIn, headOf, lineLength, DoneIs, placeTold, refusedLine, lengthTold, lengthNeeded, waitsFor, RefusedIs, stoppedAt}
 use Rattle.engine.specs.declared.lines.Lines.the-variants as lines
+use Rattle.engine.specs.declared.lines.Space.{Space}
 use Rattle.engine.specs.declared.lines.Fit.{Fit}
 use Rattle.engine.specs.declared.lines.Fit.the-variants.{Behind, Over}
 use Rattle.engine.specs.declared.spelling.Spelled.the-variants.{Done}
@@ -32,7 +33,8 @@ by-more zero zero n p q = refl
 by-more zero (suc g) n p q = sym (pick-true _ _ _ (lt-ltb n 10 (omega arith)))
 by-more (suc f) zero n p q = pick-true _ _ _ (lt-ltb n 10 (omega arith))
 by-more (suc f) (suc g) n p q =
-    pick-cong _ _ _ _ _ (λ e. refl) (λ e. ap (λ (t : Text). t ++ (48 + n % 10) ∷ []) (by-more f g (n / 10) (omega (arith, ltb-false n 10 e)) (omega (arith, ltb-false n 10 e))))
+    pick-cong _ _ _ _ _ (λ e. refl)
+    (λ e. ap (λ (t : Text). t ++ (48 + n % 10) ∷ []) (by-more f g (n / 10) (omega (arith, ltb-false n 10 e)) (omega (arith, ltb-false n 10 e))))
 
 decimal-one : (n : ℕ) → n < 10 → decimal n ≡ (48 + n % 10) ∷ []
 unfolding decimal decimalBy
@@ -42,7 +44,8 @@ decimal-one (suc n) h = pick-true _ _ _ (lt-ltb _ _ h)
 decimal-more : (n : ℕ) → 10 ≤ n → decimal n ≡ decimal (n / 10) ++ (48 + n % 10) ∷ []
 unfolding decimal decimalBy
 decimal-more zero h = absurd (omega arith)
-decimal-more (suc n) h = pick-false _ _ _ (le-ltb _ _ h) ∙ ap (λ (t : Text). t ++ (48 + suc n % 10) ∷ []) (by-more n (suc n / 10) (suc n / 10) (omega arith) (omega arith))
+decimal-more (suc n) h =
+    pick-false _ _ _ (le-ltb _ _ h) ∙ ap (λ (t : Text). t ++ (48 + suc n % 10) ∷ []) (by-more n (suc n / 10) (suc n / 10) (omega arith) (omega arith))
 
 module _ (n : ℕ) (o o₁ : List ℕ) (at p : ℕ) where
   pub digit-one : n < 10 → Put o o₁ at p ((48 + n % 10) ∷ []) → Put o o₁ at p (decimal n)
@@ -54,7 +57,8 @@ module _ (n : ℕ) (o o₁ : List ℕ) (at p : ℕ) where
 -- ---- the line of a refusal
 
 pub refusal-put : (code place : ℕ) {o o₁ o₂ o₃ o₄ : List ℕ} {at p q e r : ℕ}
-    → Put o o₁ at p (decimal code) → Put o₁ o₂ p q (32 ∷ []) → Put o₂ o₃ q e (decimal place) → Put o₃ o₄ e r (10 ∷ []) → Put o o₄ at r (refusalLine (refusedAs code place))
+    → Put o o₁ at p (decimal code) → Put o₁ o₂ p q (32 ∷ []) → Put o₂ o₃ q e (decimal place) → Put o₃ o₄ e r (10 ∷ [])
+    → Put o o₄ at r (refusalLine (refusedAs code place))
 unfolding refusalLine
 refusal-put code place w x y z = put-then w (put-then x (put-then y z))
 
@@ -80,8 +84,10 @@ module _ (code place : ℕ) (h : code ≡ 9 → ⊥) where
   unfolding lengthTold
   needed-other = pick-false _ _ _ (ne-eqb _ _ h) ∙ ap (λ (t : Text). min (length t) most) line-told
 
-module _ (code place size : ℕ) (o : List ℕ) (at told n few told-length : ℕ) (none none′ : List ℕ) (t : Bool) (w : t ≡ waitsFor code place size)
-    (p : told ≡ placeTold code place) (x : Put none none′ 0 n (refusalLine (refusedAs code told))) (f : few ≡ min n most) (l : told-length ≡ lengthTold code place few) where
+module _ (code place : ℕ) (o : List ℕ) (space : Space) (told n few told-length : ℕ) (none none′ : List ℕ) (t : Bool)
+    (w : t ≡ waitsFor code place (space .size))
+    (p : told ≡ placeTold code place) (x : Put none none′ 0 n (refusalLine (refusedAs code told))) (f : few ≡ min n most)
+    (l : told-length ≡ lengthTold code place few) where
   line-here : refusalLine (refusedAs code told) ≡ refusedLine code place
   unfolding refusedLine
   line-here = ap (λ (m : ℕ). refusalLine (refusedAs code m)) p
@@ -89,20 +95,25 @@ module _ (code place size : ℕ) (o : List ℕ) (at told n few told-length : ℕ
   long-here : told-length ≡ lengthNeeded code place
   long-here = l ∙ ap (lengthTold code place) (omega (arith, f, x .ends, ap length line-here))
 
-  pub refused-waits : t ≡ true → RefusedIs code place size o o at (Over told-length)
+  pub refused-waits : t ≡ true → RefusedIs code place o o space (Over told-length)
   refused-waits e = record { waits = λ _. (ap Over long-here, refl); line = λ z. absurd (false≢true (sym z ∙ sym w ∙ e)) }
 
-  module _ (e : t ≡ false) (h : (at ≤ size) × (size ≤ length o)) where
-    pub refused-fits : (o′ : List ℕ) (next : ℕ) → n ≤ size - at → Put o o′ at next (refusalLine (refusedAs code told)) → RefusedIs code place size o o′ at (Behind next)
+  module _ (e : t ≡ false) (h : SpaceIn o space) where
+    pub refused-fits : (o′ : List ℕ) (next : ℕ) → n ≤ space .size - space .at → Put o o′ (space .at) next (refusalLine (refusedAs code told))
+        → RefusedIs code place o o′ space (Behind next)
     refused-fits o′ next g y = record {
       waits = λ z. absurd (false≢true (sym e ∙ w ∙ z));
       line = λ _. record {
-        fits = λ _. (ap Behind (omega (arith, h .0, h .1, x .ends, y .ends, y .room, ap length line-here)), y .wrote ∙ ap (sets o at) line-here);
-        stops = λ s. absurd (omega (arith, h .1, x .ends, y .room, ap length line-here));
+        fits =
+            λ _. (
+              ap Behind (omega (arith, h .within, h .inside, x .ends, y .ends, y .room, ap length line-here)),
+              y .wrote ∙ ap (sets o (space .at)) line-here,
+            );
+        stops = λ s. absurd (omega (arith, h .inside, x .ends, y .room, ap length line-here));
       };
     }
 
-    pub refused-stops : size - at < n → RefusedIs code place size o o at (Over told-length)
+    pub refused-stops : space .size - space .at < n → RefusedIs code place o o space (Over told-length)
     refused-stops g = record {
       waits = λ _. (ap Over long-here, refl);
       line = λ _. record { fits = λ s. absurd (omega (arith, x .ends, ap length line-here)); stops = λ _. (ap Over long-here, refl) };
@@ -118,27 +129,32 @@ head-by false = refl
 pub head-is : (flag : Bool) {o o′ : List ℕ} {at r : ℕ} → Put o o′ at r (48 ∷ 32 ∷ (48 + boolByte flag) ∷ 32 ∷ []) → Put o o′ at r (headOf flag)
 head-is flag x = rw (← head-by flag) x
 
-pub digit-small : (flag : Bool) → 48 + boolByte flag ≤ 49
+pub digit-small : (flag : Bool) → 48 + boolByte flag < 2 ^ 8
 digit-small true = omega arith
 digit-small false = omega arith
 
-module _ (written : ℕ) (flag : Bool) (size : ℕ) (o : List ℕ) (at : ℕ) (h : (at ≤ size) × (size ≤ length o)) where
-  module _ (t : Bool) (e : t ≡ leb (written + 5) (size - at)) where
-    pub done-fits : (o₁ o₂ : List ℕ) (p next : ℕ) → t ≡ true → Put o o₁ at p (headOf flag) → Put o₁ o₂ (at + 4 + written) next (10 ∷ []) → DoneIs written flag size o o₂ at (Behind next)
-    done-fits o₁ o₂ p next y x z =
-        let here : written + 5 ≤ size - at = leb-true _ _ (sym e ∙ y) in
-        record {
-          fits = λ _. (ap Behind (omega (arith, h .0, h .1, x .room, z .ends)), z .wrote ∙ ap (λ (l : List ℕ). sets l (at + 4 + written) (10 ∷ [])) (x .wrote));
-          stops = λ s. absurd (omega arith);
-        }
+module _ (written : ℕ) (flag : Bool) (o : List ℕ) (space : Space) (h : SpaceIn o space) (t : Bool)
+    (e : t ≡ leb (written + 5) (space .size - space .at)) where
+  pub done-within : t ≡ true → length o * 1 < cap → space .at + 4 + written < 2 ^ 64
+  done-within y room = let here : written + 5 ≤ space .size - space .at = leb-true _ _ (sym e ∙ y) in omega (arith, h .within, h .inside)
 
-    pub done-over : (o₂ : List ℕ) (r : Fit) → t ≡ false → RefusedIs 9 written size o o₂ at r → DoneIs written flag size o o₂ at r
-    done-over o₂ r n x =
-        let over : size - at < written + 5 = leb-false _ _ (sym e ∙ n) in
-        record { fits = λ s. absurd (omega arith); stops = λ _. x }
+  pub done-fits : (o₁ o₂ : List ℕ) (p next : ℕ) → t ≡ true → Put o o₁ (space .at) p (headOf flag)
+      → Put o₁ o₂ (space .at + 4 + written) next (10 ∷ []) → DoneIs written flag o o₂ space (Behind next)
+  done-fits o₁ o₂ p next y x z =
+      let here : written + 5 ≤ space .size - space .at = leb-true _ _ (sym e ∙ y) in
+      record {
+        fits =
+            λ _. (
+              ap Behind (omega (arith, h .within, h .inside, x .room, z .ends)),
+              z .wrote ∙ ap (λ (l : List ℕ). sets l (space .at + 4 + written) (10 ∷ [])) (x .wrote),
+            );
+        stops = λ s. absurd (omega arith);
+      }
 
-pub done-within : (written size at : ℕ) {t : Bool} → at ≤ size → t ≡ leb (written + 5) (size - at) → t ≡ true → at + 4 + written < size
-done-within written size at h e y = let here : written + 5 ≤ size - at = leb-true _ _ (sym e ∙ y) in omega arith
+  pub done-over : (o₂ : List ℕ) (r : Fit) → t ≡ false → RefusedIs 9 written o o₂ space r → DoneIs written flag o o₂ space r
+  done-over o₂ r n x =
+      let over : space .size - space .at < written + 5 = leb-false _ _ (sym e ∙ n) in
+      record { fits = λ s. absurd (omega arith); stops = λ _. x }
 
 set-apart : (ws l : List ℕ) (i v j : ℕ) → i < j → set (sets l j ws) i v ≡ sets (set l i v) j ws
 set-apart [] l i v j h = refl
@@ -216,4 +232,25 @@ module _ (read written n : ℕ) where
   unfolding stoppedAt
   stopped-later h = sym (pick-false _ _ _ (ne-eqb _ _ h))
 
-pub ruleset lines-laws = (told-yes, told-no, length-yes, length-no, stopped-first, stopped-later, slice-room, put-long, digit-one, digit-more, refused-waits, refused-fits, refused-stops, done-fits, done-over, room-large, room-small, waits-room, waits-other)
+pub ruleset lines-laws = (
+  told-yes,
+  told-no,
+  length-yes,
+  length-no,
+  stopped-first,
+  stopped-later,
+  slice-room,
+  put-long,
+  digit-one,
+  digit-more,
+  refused-waits,
+  refused-fits,
+  refused-stops,
+  done-within,
+  done-fits,
+  done-over,
+  room-large,
+  room-small,
+  waits-room,
+  waits-other,
+)

@@ -12,7 +12,7 @@ use lib.Seq.{sets, length-sets, drop-drop}
 use borrow.Author.Tests.{lt-ltb, le-ltb, le-leb, lt-leb, eq-eqb, ne-eqb}
 use Rattle.base.specs.Pick.{pick}
 use Rattle.base.proofs.One.{one}
-use Rattle.base.proofs.Stores.{sets-then}
+use Rattle.base.proofs.Stores.{sets-then, rest-is}
 use Rattle.texts.specs.Parts.{placeOf, has}
 use Rattle.base.proofs.Arms.{clash}
 use Rattle.choices.specs.Texts.{Text}
@@ -20,9 +20,8 @@ use Rattle.refusals.specs.Numbers.{numberOf}
 use Rattle.refusals.specs.declared.Refusal.the-variants.{NoRoom}
 use Rattle.engine.specs.Calls.{CallOutcome, refusedBy, key, refusedAs}
 use Rattle.engine.specs.Lines.{decimal, refusalLine, most, holdsLine, needed, lineWith, lineFor, linesFrom, wholeLines, Taken, andTaken, noneTaken, takeLines, taken, BlockNumbers, blockNumbers, took, noRoom, numbersBy, blockBy, LinesIs}
-use Rattle.engine.specs.LineContracts.{LineAt, lineLength, stoppedAt}
+use Rattle.engine.specs.LineContracts.{SpaceOf, LineAt, LineFor, lineLength, stoppedAt}
 use Rattle.engine.proofs.NumberLaws.{told-is}
-use Rattle.base.proofs.Stores.{rest-is}
 use Rattle.engine.specs.declared.lines.Lines.{Lines}
 use Rattle.engine.specs.declared.lines.Lines.the-variants as lines
 use Rattle.engine.specs.declared.lines.Fit.{Fit}
@@ -43,11 +42,13 @@ block-one (lines.NoRoom n) (lines.NoRoom m) e = ap lines.NoRoom (ap (λ (x : Blo
 block-one (lines.Done read written) (lines.NoRoom n) e = clash (omega (arith, ap (λ (x : BlockNumbers). x .code) e))
 block-one (lines.NoRoom n) (lines.Done read written) e = clash (omega (arith, ap (λ (x : BlockNumbers). x .code) e))
 
-pub lines-one : {call : Text → CallOutcome} {block out : List ℕ} {r s : Lines} {o p : List ℕ} → LinesIs call block out r o → LinesIs call block out s p → (r ≡ s) × (o ≡ p)
+pub lines-one : {call : Text → CallOutcome} {block out : List ℕ} {r s : Lines} {o p : List ℕ} → LinesIs call block out r o
+    → LinesIs call block out s p → (r ≡ s) × (o ≡ p)
 lines-one x y = (block-one _ _ (one (x .result) (y .result)), one (x .buffer) (y .buffer))
 
 -- the first line of a text, and what is taken of it
-pub lines-more : (n : ℕ) (s : List ℕ) → placeOf 10 s < length s → linesFrom (suc n) s ≡ take (placeOf 10 s) s ∷ linesFrom n (drop (suc (placeOf 10 s)) s)
+pub lines-more : (n : ℕ) (s : List ℕ) → placeOf 10 s < length s
+    → linesFrom (suc n) s ≡ take (placeOf 10 s) s ∷ linesFrom n (drop (suc (placeOf 10 s)) s)
 unfolding linesFrom has
 lines-more n s h = pick-true _ _ _ (lt-ltb _ _ h)
 
@@ -57,7 +58,8 @@ lines-none zero s h = refl
 lines-none (suc n) s h = pick-false _ _ _ (le-ltb _ _ h)
 
 module _ (f : Text → Text) (size : ℕ) (name : Text) (names : List Text) where
-  pub take-fits : length (f name) ≤ size → takeLines f size (name ∷ names) ≡ andTaken (suc (length name)) (f name) (takeLines f (size - length (f name)) names)
+  pub take-fits : length (f name) ≤ size
+      → takeLines f size (name ∷ names) ≡ andTaken (suc (length name)) (f name) (takeLines f (size - length (f name)) names)
   unfolding takeLines
   take-fits h = pick-true _ _ _ (le-leb _ _ h)
 
@@ -67,7 +69,9 @@ module _ (f : Text → Text) (size : ℕ) (name : Text) (names : List Text) wher
 
   take-read : (k : ℕ) → suc (length name) + takeLines f (size - length (f name)) names .read ≤ k → takeLines f size (name ∷ names) .read ≤ k
   unfolding takeLines andTaken
-  take-read k h = pick-all (λ (r : Taken). r .read ≤ k) (leb (length (f name)) size) (andTaken (suc (length name)) (f name) (takeLines f (size - length (f name)) names)) noneTaken h zero-le
+  take-read k h =
+      pick-all (λ (r : Taken). r .read ≤ k) (leb (length (f name)) size)
+      (andTaken (suc (length name)) (f name) (takeLines f (size - length (f name)) names)) noneTaken h zero-le
 
 taken-read : (f : Text → Text) (size n : ℕ) (s : List ℕ) → takeLines f size (linesFrom n s) .read ≤ length s
 unfolding linesFrom takeLines
@@ -88,7 +92,8 @@ unfolding takeLines andTaken
 taken-long f size [] = zero-le
 taken-long f size (name ∷ names) = elim (decLe (length (f name)) size) [
   | yes h ↦
-      rw (take-fits f size name names h) (omega (arith, taken-long f (size - length (f name)) names, length-append (f name) (takeLines f (size - length (f name)) names .text)))
+      rw (take-fits f size name names h)
+      (omega (arith, taken-long f (size - length (f name)) names, length-append (f name) (takeLines f (size - length (f name)) names .text)))
   | no h ↦ rw (take-stop f size name names (omega arith)) zero-le
 ]
 
@@ -98,12 +103,14 @@ unfolding pick
 took-first true x n e = refl
 took-first false x n e = clash (omega (arith, e))
 
-took-by : (call : Text → CallOutcome) (size : ℕ) (names : List Text) (t : Taken) → numbersBy call size names t .code ≡ 0 → numbersBy call size names t ≡ took t
+took-by : (call : Text → CallOutcome) (size : ℕ) (names : List Text) (t : Taken) → numbersBy call size names t .code ≡ 0
+    → numbersBy call size names t ≡ took t
 unfolding numbersBy
 took-by call size [] t e = refl
 took-by call size (name ∷ names) t e = took-first _ _ _ e
 
-pub blocked-took : (call : Text → CallOutcome) (block : List ℕ) (size : ℕ) → blockBy call block size .code ≡ 0 → blockBy call block size ≡ took (taken call block size)
+pub blocked-took : (call : Text → CallOutcome) (block : List ℕ) (size : ℕ) → blockBy call block size .code ≡ 0
+    → blockBy call block size ≡ took (taken call block size)
 unfolding blockBy
 blocked-took call block size e = took-by call size (wholeLines block) (taken call block size) e
 
@@ -114,11 +121,13 @@ module _ {call : Text → CallOutcome} {block out o : List ℕ} {read written : 
 
   pub lines-read : read ≤ length block
   unfolding taken wholeLines blockNumbers
-  lines-read = omega (arith, ap (λ (n : BlockNumbers). n .first) taken-is, taken-read (lineFor call (length out)) (min (length out) most) (length block) block)
+  lines-read =
+      omega (arith, ap (λ (n : BlockNumbers). n .first) taken-is, taken-read (lineFor call (length out)) (min (length out) most) (length block) block)
 
   pub lines-written : written ≤ length out
   unfolding taken blockNumbers
-  lines-written = omega (arith, ap (λ (n : BlockNumbers). n .second) taken-is, taken-long (lineFor call (length out)) (min (length out) most) (wholeLines block))
+  lines-written =
+      omega (arith, ap (λ (n : BlockNumbers). n .second) taken-is, taken-long (lineFor call (length out)) (min (length out) most) (wholeLines block))
 
 -- ---- the lines of a block
 
@@ -147,7 +156,8 @@ pub record Going (call : Text → CallOutcome) (block o₀ o : List ℕ) (size r
   pub text : Text
   pub long : length text ≡ written
   pub stands : o ≡ sets o₀ 0 text
-  pub is : taken call block (length o₀) ≡ andTaken read text (takeLines (lineFor call (length o₀)) (size - written) (linesFrom fuel (drop read block)))
+  pub is : taken call block (length o₀) ≡ andTaken read text
+      (takeLines (lineFor call (length o₀)) (size - written) (linesFrom fuel (drop read block)))
   pub first : written ≡ 0 → linesFrom fuel (drop read block) ≡ wholeLines block
   pub later : (written ≡ 0 → ⊥) → blockBy call block (length o₀) ≡ took (taken call block (length o₀))
 
@@ -182,13 +192,17 @@ module _ {call : Text → CallOutcome} {block o₀ o : List ℕ} {size read writ
   pub going-long : length o ≡ length o₀
   going-long = ap length (w .stands) ∙ length-sets o₀ 0 (w .text)
 
-  pub going-room : (written ≤ size) × (size ≡ min (length o) most)
-  going-room = (w .written-in, w .size-is ∙ ap (λ (n : ℕ). min n most) (sym going-long))
+  pub going-stays : (o′ : List ℕ) → length o′ ≡ length o → length o′ ≡ length o₀
+  going-stays o′ e = e ∙ going-long
+
+  pub going-room : SpaceOf o (record { at = written; size = size })
+  going-room = record { within = w .written-in; size-is = w .size-is ∙ ap (λ (n : ℕ). min n most) (sym going-long) }
 
   module _ (e : takeLines (lineFor call (length o₀)) (size - written) (linesFrom (w .fuel) (drop read block)) ≡ noneTaken) where
     taken-here : taken call block (length o₀) ≡ record { read = read; text = w .text }
     unfolding andTaken
-    taken-here = w .is ∙ ap (andTaken read (w .text)) e ∙ ap₂ (λ (k : ℕ) (v : Text). record { read = k; text = v }) (omega arith) (append-nil (w .text))
+    taken-here =
+        w .is ∙ ap (andTaken read (w .text)) e ∙ ap₂ (λ (k : ℕ) (v : Text). record { read = k; text = v }) (omega arith) (append-nil (w .text))
 
     stands-here : o ≡ sets o₀ 0 (taken call block (length o₀) .text)
     stands-here = w .stands ∙ ap (λ (x : Taken). sets o₀ 0 (x .text)) (sym taken-here)
@@ -218,21 +232,22 @@ module _ {call : Text → CallOutcome} {block o₀ o : List ℕ} {size read writ
         | no z ↦ w .later z
       ])
 
-  pub going-most : (n : ℕ) → n < length left-over → read + n + 1 ≤ length block
+  pub going-most : (n : ℕ) → n < length left-over → read + n < length block
   going-most n h = omega (arith, ap length (rest-is block read), length-drop read block)
 
-  pub going-less : (n : ℕ) → n < length left-over → length block - (read + n + 1) < length block - read
-  going-less n h = omega (arith, going-most n h)
+  pub going-less : (n read′ : ℕ) → n < length left-over → read′ ≡ read + n + 1 → length block - read′ < length block - read
+  going-less n read′ h e = omega (arith, e, going-most n h)
 
   module _ (n : ℕ) (e : n ≡ placeOf 10 left-over) (h : n < length left-over) (o′ : List ℕ) (next : Fit)
-      (l : LineAt (lineFor call (length o) (take (n - 0) left-over)) (needed (call (take (n - 0) left-over))) size o o′ written next) where
+      (l : LineFor (call (take (n - 0) left-over)) o o′ (record { at = written; size = size }) next) where
     abbrev name : Text
     name = take n (drop read block)
 
     abbrev line : Text
     line = lineFor call (length o₀) name
 
-    line-at : LineAt line (needed (call name)) size o o′ written next
+    line-at : LineAt line (needed (call name)) o o′ (record { at = written; size = size }) next
+    unfolding lineFor
     line-at = rw (going-long, rest-is block read, sub-zero n) at l
 
     -- the next name, and those behind it
@@ -246,7 +261,8 @@ module _ {call : Text → CallOutcome} {block o₀ o : List ℕ} {size read writ
         ∙ ap (λ (k : ℕ). take k (drop read block) ∷ linesFrom (w .fuel - 1) (drop (suc k) (drop read block))) (sym place)
         ∙ ap (λ (s : List ℕ). name ∷ linesFrom (w .fuel - 1) s) (drop-drop (suc n) read block ∙ ap (λ (k : ℕ). drop k block) behind)
 
-    none-fits : size - written < length line → takeLines (lineFor call (length o₀)) (size - written) (linesFrom (w .fuel) (drop read block)) ≡ noneTaken
+    none-fits : size - written < length line
+        → takeLines (lineFor call (length o₀)) (size - written) (linesFrom (w .fuel) (drop read block)) ≡ noneTaken
     none-fits k = ap (takeLines (lineFor call (length o₀)) (size - written)) names-are ∙ take-stop _ _ _ _ k
 
     -- whether the buffer holds the first line
@@ -255,7 +271,8 @@ module _ {call : Text → CallOutcome} {block o₀ o : List ℕ} {size read writ
     unfolding blockBy numbersBy holdsLine
     first-by b z k =
         ap (λ (ns : List Text). numbersBy call (length o₀) ns (taken call block (length o₀))) (sym (w .first z) ∙ names-are)
-        ∙ ap (λ (t : Bool). pick t (took (taken call block (length o₀))) (noRoom (needed (call name)))) (ap (leb (length line)) (sym (w .size-is)) ∙ k)
+        ∙ ap (λ (t : Bool). pick t (took (taken call block (length o₀))) (noRoom (needed (call name))))
+        (ap (leb (length line)) (sym (w .size-is)) ∙ k)
 
     going-narrow : written ≡ 0 → size - written < length line → LinesIs call block o₀ (lines.NoRoom (needed (call name))) o
     unfolding blockNumbers
@@ -292,28 +309,36 @@ module _ {call : Text → CallOutcome} {block o₀ o : List ℕ} {size read writ
       going-at : at ≡ written + length line
       going-at = cc (line-at .fits going-fits .0)
 
-      pub going-next : Going call block o₀ o′ size (read + n + 1) at
-      going-next =
+      going-on : Going call block o₀ o′ size (read + n + 1) at
+      going-on =
           let put = line-at .fits going-fits in
           let left : size - written - length line ≡ size - at = omega (arith, going-at) in
-          let read-is : read + suc (length name) ≡ read + n + 1 = omega (arith, going-most n h, length-take n (drop read block), length-drop read block) in
+          let read-is : read + suc (length name) ≡ read + n + 1 =
+          omega (arith, going-most n h, length-take n (drop read block), length-drop read block) in
           record {
             fuel = w .fuel - 1;
             enough = omega (arith, w .enough);
-            read-in = going-most n h;
+            read-in = omega (arith, going-most n h);
             written-in = omega (arith, going-at, going-fits, w .written-in);
             size-is = w .size-is;
             text = w .text ++ line;
             long = omega (arith, length-append (w .text) line, w .long, going-at);
-            stands = put .1 ∙ ap₂ (λ (l : List ℕ) (k : ℕ). sets l k line) (w .stands) (sym (w .long) ∙ sym (zero-add _)) ∙ sets-then o₀ 0 (w .text) line;
+            stands =
+                put .1 ∙ ap₂ (λ (l : List ℕ) (k : ℕ). sets l k line) (w .stands) (sym (w .long) ∙ sym (zero-add _)) ∙ sets-then o₀ 0 (w .text) line;
             is =
                 w .is ∙ ap (λ (ns : List Text). andTaken read (w .text) (takeLines (lineFor call (length o₀)) (size - written) ns)) names-are
                 ∙ ap (andTaken read (w .text)) (take-fits _ _ _ _ going-fits)
                 ∙ and-twice read (suc (length name)) (w .text) line _
-                ∙ ap₂ (λ (k m : ℕ). andTaken k (w .text ++ line) (takeLines (lineFor call (length o₀)) m (linesFrom (w .fuel - 1) (drop (read + n + 1) block)))) read-is left;
+                ∙ ap₂ (λ (k m : ℕ). andTaken k (w .text ++ line) (takeLines (lineFor call (length o₀)) m
+                (linesFrom (w .fuel - 1) (drop (read + n + 1) block)))) read-is left;
             first = λ y. absurd (omega (arith, going-at, some-line));
             later = λ _. elim (ℕ-discrete written 0) [
               | yes y ↦ first-by true y (le-leb (length line) size (omega (arith, going-fits))) ∙ pick-true _ _ _ refl
               | no y ↦ w .later y
             ];
           }
+
+      pub going-next : (read′ : ℕ) → read′ ≡ read + n + 1 → Going call block o₀ o′ size read′ at
+      going-next read′ er = rw er going-on
+
+pub ruleset going-laws = (going-in, going-start, going-long, going-stays, going-room, going-end, going-most, going-less, going-stop, going-next)

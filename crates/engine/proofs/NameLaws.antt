@@ -1,103 +1,177 @@
--- What `spell_name` and `spell_words` ask of each other. Assumes nothing.
-use mathlib.Core.Path.{_≡_, refl, _∙_}
-use mathlib.Core.Bool.{true, false}
-use mathlib.Core.List.{List}
-use Prim.Native.Nat.{ℕ, _+_, _-_, _*_, _≤_, _<_, zero-le}
+-- What `spell_name`, `spell_bracketed` and `spell_words` ask of each other. Assumes nothing.
+use mathlib.Core.Path.{_≡_, sym, _∙_}
+use mathlib.Core.Bool.{Bool, true, false}
+use mathlib.Core.List.{List, [], _∷_}
+use Prim.Native.Nat.{ℕ, _+_, _-_, _*_, _≤_, _<_}
 use native.Mathlib.Omega.{arith}
 use lib.ListN.{length, take, drop}
-use Rattle.base.specs.Pick.{pick}
 use Rattle.choices.specs.Texts.{Text}
 use Rattle.writing.specs.Contracts.{cap, Put}
-use Rattle.name_parts.specs.Words.{wordsOf, wordAt, pastWord, oneWord}
+use Rattle.name_parts.specs.Words.{wordAt, oneWord}
 use Rattle.name_parts.specs.Joining.{joinedName}
+use Rattle.prefixes.specs.Prefixes.{splitOf}
 use Rattle.prefixes.specs.declared.prefixes.NameType.{NameType}
 use Rattle.prefixes.specs.declared.prefixes.Prefix.{Prefix}
-use Rattle.prefixes.specs.declared.prefixes.Prefix.the-variants.{Parted}
-use Rattle.name_parts.proofs.Laws.{word-later, past-within, word-shorter}
-use Rattle.writing.proofs.Laws.{slice-room}
-use Rattle.refusals.specs.declared.Refusal.{Refusal}
-use Rattle.engine.specs.Spelling.{Spelt, partedAs, spelledName, eachWord, afreshBy}
-use Rattle.engine.specs.Contracts.{afreshOf, stepsAt, startAt, NameTold, bothOf, HyphenAt}
+use Rattle.prefixes.specs.declared.prefixes.Prefix.the-variants as prefix
+use Rattle.base.specs.Pick.{pick}
+use native.Mathlib.Nat.{sub-zero}
+use Rattle.name_parts.proofs.Laws.{split-within, rest-shorter, joined-shorter}
+use Rattle.writing.proofs.Laws.{put-place, put-fits}
+use Rattle.engine.specs.Spelling.{Spelt, partedAs}
+use Rattle.engine.specs.Calls.{stepsBy}
+use Rattle.engine.specs.Contracts.{Asks, JoinedAt, JoinedIs, withStart, stepsAt, startAt, speltPart, speltName, speltAfresh, speltWords, SpeltInto, SpeltWhole, bothOf, HyphenAt, bracketed}
 use Rattle.engine.specs.declared.call.Call.{Call}
 use Rattle.engine.specs.declared.encode.Ends.{Ends}
-use Rattle.engine.proofs.ToldLaws.{WordsTold, words-start, words-end, words-place, words-turn, a-word}
-use Rattle.engine.proofs.EncodeLaws.{rest-short, joined-part, front-is}
+use Rattle.engine.specs.declared.encode.Joined.{Joined}
+use Rattle.engine.specs.declared.encode.Joined.the-variants as joined
+use Rattle.engine.proofs.SpellingLaws.{not-or, parted-split, name-parted, name-plain, name-words}
+use Rattle.engine.proofs.IntoLaws.{both-told, bracketed-told, WordsHeld, held-start, held-end, held-shorter, held-less, held-place, held-turn}
+use Rattle.engine.proofs.EncodeLaws.{ready-afresh, afresh-told, front-in}
 use Rattle.base.proofs.Stores.{rest-is}
 
--- the buffers keep their sizes
--- the measures: twice a name's length and one, and twice the length for its words
-module _ {m n : ℕ} (h : m < n) where
-  pub name-falls : {t : ℕ} → n * 2 + 1 ≡ t → m * 2 + 1 < t
-  name-falls e = omega (arith, e)
+-- the measures: twice a name's length for its words, one more for the name, and two for it between brackets
 
-  pub word-falls : {t : ℕ} → n * 2 ≡ t → m * 2 + 1 < t
-  word-falls e = omega (arith, e)
+-- ---- a name with a prefix: it stands within the name, and both parts are shorter
 
-  pub still-short : n ≤ 96 → m ≤ 96
-  still-short k = omega arith
+module _ (kind : NameType) (name : Text) (x : Prefix) (e : x ≡ partedAs kind name) where
+  pub join-parted : (keep skip n : ℕ) (o o′ : List ℕ) → (length name ≤ 96) × (length o ≡ 96) → x ≡ prefix.Parted keep skip
+      → Put o o′ 0 n (joinedName keep skip name)
+      → JoinedIs kind name o′ (joined.Parted skip n)
+  unfolding JoinedIs
+  join-parted keep skip n o o′ h q p =
+      let here = sym e ∙ q in
+      let few = joined-shorter name keep skip (parted-split kind name keep skip here) in
+      record { keep = keep; parted = here; inside = front-in p (omega (arith, h .0)) (h .1); text = put-fits p (omega (arith, h .0, h .1)) .1 }
 
-pub words-fall : (n : ℕ) {t : ℕ} → n * 2 + 1 ≡ t → n * 2 < t
-words-fall n e = omega (arith, e)
+  pub join-whole : (o : List ℕ) → x ≡ prefix.Whole → JoinedIs kind name o joined.Whole
+  unfolding JoinedIs
+  join-whole o q = sym e ∙ q
 
--- ---- a name with a prefix: both parts are shorter
+pub ruleset join-laws = (join-parted, join-whole)
 
-module _ (kind : NameType) (name : Text) (x : Prefix) (e : x ≡ partedAs kind name) (keep skip : ℕ) (q : x ≡ Parted keep skip) where
-  pub rest-less : length (take (length name - skip) (drop skip name)) < length name
-  rest-less = rw (rest-is name skip) (rest-short kind name x e keep skip q)
+module _ (kind : NameType) (name : Text) (u : List ℕ) (x : Joined) (w : JoinedIs kind name u x) (skip n : ℕ) (q : x ≡ joined.Parted skip n) where
+  at-parted : JoinedAt kind name u skip n
+  unfolding JoinedIs
+  at-parted = rw q at w
 
-  pub joined-small : length name ≤ 96 → length (joinedName keep skip name) ≤ 96
-  joined-small h = omega (arith, joined-part kind name x e keep skip q)
+  split-here : splitOf name ≡ prefix.Parted (at-parted .keep) skip
+  split-here = parted-split kind name (at-parted .keep) skip (at-parted .parted)
 
-  pub joined-less : {o o′ : List ℕ} {n : ℕ} → length name ≤ 96 → Put o o′ 0 n (joinedName keep skip name) → length o ≡ 96 → length (take (n - 0) (drop 0 o′)) < length name
-  joined-less h p r = rw (front-is p (joined-small h) r) (joined-part kind name x e keep skip q)
+  pub skip-within : skip ≤ length name
+  skip-within = split-within name _ skip split-here .1
 
--- ---- spelled afresh
+  rest-less : length (take (length name - skip) (drop skip name)) < length name
+  rest-less = rw (rest-is name skip) (rest-shorter name _ skip split-here)
 
-module _ (s : List ℕ) (call again : Call) (e : again ≡ afreshOf call) where
-  pub steps-again : stepsAt s again ≡ stepsAt s call
-  unfolding afreshOf stepsAt
-  steps-again = rw e refl
+  pub joined-in : n ≤ length u
+  joined-in = at-parted .inside
 
-  pub told-again : {o o′ : List ℕ} {at : ℕ} {r : Ends} (t : Text) → NameTold (spelledName (stepsAt s again) (startAt s again t) t) o o′ at r → NameTold (afreshBy (stepsAt s again) t) o o′ at r
-  unfolding afreshOf stepsAt startAt afreshBy pick
-  told-again t q = rw e (rw e at q)
+  joined-is : take (n - 0) (drop 0 u) ≡ joinedName (at-parted .keep) skip name
+  joined-is = rw (sub-zero n) (at-parted .text)
+
+  joined-less : length (take (n - 0) (drop 0 u)) < length name
+  joined-less = rw joined-is (joined-shorter name _ skip split-here)
+
+  module _ (t : ℕ) (h : length name * 2 + 1 ≡ t) where
+    pub rest-falls : length (take (length name - skip) (drop skip name)) * 2 + 2 < t
+    rest-falls = omega (arith, h, rest-less)
+
+    pub joined-falls : length (take (n - 0) (drop 0 u)) * 2 + 2 < t
+    joined-falls = omega (arith, h, joined-less)
+
+  module _ (s : List ℕ) (table : List (List ℕ)) (call : Call) (at : ℕ) (a : Asks s table call name at) where
+    pub rest-asks : Asks s table call (take (length name - skip) (drop skip name)) at
+    rest-asks = record { ready = a .ready; short = omega (arith, a .short, rest-less); place = a .place }
+
+    pub joined-asks : (p : ℕ) → p ≤ cap → Asks s table call (take (n - 0) (drop 0 u)) p
+    joined-asks p h = record { ready = a .ready; short = omega (arith, a .short, joined-less); place = h }
+
+module _ (s : List ℕ) (call : Call) (name : Text) (u : List ℕ) (x : Joined) (w : JoinedIs (call .kind) name u x) where
+  pub parted-told : (skip n : ℕ) → x ≡ joined.Parted skip n → (o o₁ o₂ o₃ : List ℕ) (at p : ℕ) (a b r : Ends)
+      → SpeltInto (bracketed (speltAfresh s call (take (length name - skip) (drop skip name)))) o o₁ at a → Put o₁ o₂ (a .at) p (45 ∷ [])
+      → SpeltInto (bracketed (speltAfresh s call (take (n - 0) (drop 0 u)))) o₂ o₃ p b → r ≡ bothOf b a (b .at)
+      → SpeltInto (speltName s call name) o o₃ at r
+  unfolding speltName speltAfresh stepsAt stepsBy
+  parted-told skip n q o o₁ o₂ o₃ at p a b r ta middle tb h =
+      rw (
+        name-parted (stepsAt s call) (startAt s call name) name _ skip (at-parted _ name u x w skip n q .parted),
+        ← rest-is name skip,
+        ← joined-is _ name u x w skip n q,
+      ) (both-told _ _ ta middle tb h)
+
+  module _ (q : x ≡ joined.Whole) (t : Bool) (et : t ≡ pick (call .concat) true (oneWord name)) (o o′ : List ℕ) (at : ℕ) (r : Ends) where
+    is-whole : partedAs (call .kind) name ≡ prefix.Whole
+    unfolding JoinedIs
+    is-whole = rw q at w
+
+    pub whole-part : t ≡ true → SpeltWhole (speltPart s call name) o o′ at r → SpeltInto (speltName s call name) o o′ at r
+    unfolding speltName speltPart stepsAt stepsBy
+    whole-part y k = rw (name-plain (stepsAt s call) (startAt s call name) name is-whole (sym et ∙ y)) (k .told)
+
+    pub whole-words : t ≡ false → SpeltInto (speltWords s call name) o o′ at r → SpeltInto (speltName s call name) o o′ at r
+    unfolding speltName speltWords speltAfresh stepsAt stepsBy
+    whole-words y k = rw (name-words (stepsAt s call) (startAt s call name) name is-whole (sym et ∙ y)) k
+
+pub several : (concat : Bool) (name : Text) (t : Bool) → t ≡ pick concat true (oneWord name) → t ≡ false → oneWord name ≡ false
+several concat name t e y = not-or _ _ (sym e ∙ y)
+
+-- ---- afresh
+
+module _ (s : List ℕ) (call again : Call) (e : again ≡ withStart call true (call .set)) where
+  pub again-asks : (table : List (List ℕ)) (name : Text) (at p : ℕ) → Asks s table call name at → p ≤ cap → Asks s table again name p
+  again-asks table name at p w h = record { ready = ready-afresh s call e (w .ready); short = w .short; place = h }
+
+  pub between-told : (t : Text) (o o₁ o₂ o₃ : List ℕ) (at p end : ℕ) (a : Ends) → Put o o₁ at p (40 ∷ [])
+      → SpeltInto (speltName s again t) o₁ o₂ p a → Put o₂ o₃ (a .at) end (41 ∷ [])
+      → SpeltInto (bracketed (speltAfresh s call t)) o o₃ at (record { at = end; flag = a .flag; fine = a .fine; why = a .why })
+  between-told t o o₁ o₂ o₃ at p end a left told right = bracketed-told _ left (afresh-told s call e _ told) right
 
 -- ---- words
 
--- the invariant of the loop: the words so far are told, and every buffer has its size
-pub record WordsHeld (f : Text → Spelt) (name : Text) (o₀ o : List ℕ) (at p : ℕ) (all : Ends) : Type 0 where
-  pub told : WordsTold f name o₀ o at p all
-  pub within : p ≤ length name
-  pub out-same : length o ≡ length o₀
+module _ (f : Text → Spelt) (name : Text) (o₀ o : List ℕ) (at p : ℕ) (all : Ends) (k : WordsHeld f name o₀ o at p all) (w : Text)
+    (ew : w ≡ wordAt name p) (some : length w ≡ 0 → ⊥) (several : oneWord name ≡ false) where
+  pub word-falls : (t : ℕ) → length name * 2 ≡ t → length w * 2 + 1 < t
+  word-falls t h = omega (arith, h, held-shorter k ew some several)
 
-pub held-start : (f : Text → Spelt) (name : Text) (o : List ℕ) (at : ℕ) (why : Refusal) → at ≤ cap → length o * 1 < cap
-    → WordsHeld f name o o at 0 (record { at = at; flag = false; fine = true; why = why })
-held-start f name o at why h r = record {
-  told = words-start f name o at why h (slice-room o r);
-  within = zero-le;
-  out-same = refl;
-}
+  pub word-asks : (s : List ℕ) (table : List (List ℕ)) (call again : Call) → again ≡ withStart call true (call .set) → (at₀ : ℕ)
+      → Asks s table call name at₀
+      → (o₁ : List ℕ) (q : ℕ) → HyphenAt o o₁ (all .at) p q → Asks s table again w q
+  word-asks s table call again e at₀ a o₁ q h =
+      record {
+        ready = ready-afresh s call e (a .ready);
+        short = omega (arith, a .short, held-shorter k ew some several);
+        place = held-place k ew some h;
+      }
 
-module _ {f : Text → Spelt} {name : Text} {o₀ o : List ℕ} {at p : ℕ} {all : Ends} (k : WordsHeld f name o₀ o at p all) where
-  module _ (w : Text) (ew : w ≡ wordAt name p) where
-    pub held-end : length w ≡ 0 → NameTold (eachWord f (wordsOf name)) o₀ o at all
-    held-end h = words-end w ew (k .told) h
+module _ (s : List ℕ) (call : Call) (name : Text) (o₀ o : List ℕ) (at p : ℕ) (all : Ends) (k : WordsHeld (speltAfresh s call) name o₀ o at p all)
+    (w : Text) (ew : w ≡ wordAt name p) where
+  pub words-told : length w ≡ 0 → SpeltInto (speltWords s call name) o₀ o at all
+  unfolding speltWords
+  words-told h = held-end k ew h
 
-    module _ (some : length w ≡ 0 → ⊥) where
-      pub held-shorter : oneWord name ≡ false → length w < length name
-      held-shorter h = rw ew (word-shorter name p h (a-word name p w ew some))
+-- a buffer that is lent on keeps its length
+module _ (o o₁ o₂ : List ℕ) (e : length o₁ ≡ length o) (e′ : length o₂ ≡ length o₁) where
+  pub long-two : length o₂ ≡ length o
+  long-two = e′ ∙ e
 
-      pub held-less : (p′ : ℕ) → p′ ≡ pastWord name p → length name - p′ < length name - p
-      held-less p′ e = omega (arith, e, word-later name p (a-word name p w ew some), past-within name p (a-word name p w ew some))
+  pub long-three : (o₃ : List ℕ) → length o₃ ≡ length o₂ → length o₃ ≡ length o
+  long-three o₃ h = h ∙ long-two
 
-      module _ {o₁ : List ℕ} {q : ℕ} (h : HyphenAt o o₁ (all .at) p q) where
-        pub held-place : q ≤ cap
-        held-place = words-place w ew some h (k .told)
+pub ruleset bracketed-laws = (again-asks, put-place, between-told, long-three)
 
-        pub held-turn : {o₂ : List ℕ} {b′ r : Ends} {p′ : ℕ} → NameTold (f w) o₁ o₂ q b′ → r ≡ bothOf all b′ (b′ .at) → p′ ≡ pastWord name p
-            → length o₂ ≡ length o → WordsHeld f name o₀ o₂ at p′ r
-        held-turn {p′ = p′} tb e ep eo = record {
-          told = words-turn w ew some h tb e (k .told) p′ ep;
-          within = rw ep (past-within name p (a-word name p w ew some));
-          out-same = eo ∙ k .out-same;
-        }
+pub ruleset name-laws = (
+  skip-within,
+  rest-falls,
+  rest-asks,
+  joined-in,
+  joined-falls,
+  joined-asks,
+  put-place,
+  parted-told,
+  whole-part,
+  whole-words,
+  several,
+  long-three,
+)
+
+pub ruleset words-laws = (held-start, word-falls, word-asks, held-less, held-turn, words-told, afresh-told, long-two)

@@ -13,7 +13,7 @@ use Rattle.refusals.proofs.NumberLaws.{number-one, number-some}
 use Rattle.engine.specs.Calls.{CallOutcome, refusedBy, key, Numbers, doneAs, refusedAs, numbersIn, spelledNumbers, filledBy, SpellIs}
 use Rattle.engine.specs.declared.spelling.Spelled.{Spelled}
 use Rattle.engine.specs.declared.spelling.Spelled.the-variants.{Done, Refused}
-use Rattle.engine.specs.Contracts.{toldOf}
+use Rattle.engine.specs.Contracts.{spelledIn}
 
 -- a refusal is not "done"
 not-done : {A : Type 0} (why : Refusal) {n p : ℕ} {f : Bool} → doneAs n f ≡ refusedAs (numberOf why) p → A
@@ -37,14 +37,14 @@ unfolding pick
 numbers-by true r r′ = refl
 numbers-by false r r′ = refl
 
-pub numbers-told : (x : CallOutcome) (room : ℕ) → spelledNumbers (toldOf x room) ≡ numbersIn x room
-unfolding spelledNumbers numbersIn toldOf
+pub numbers-told : (x : CallOutcome) (room : ℕ) → spelledNumbers (spelledIn x room) ≡ numbersIn x room
+unfolding spelledNumbers numbersIn spelledIn
 numbers-told (refusedBy why place) room = refl
 numbers-told (key t f) room = numbers-by (leb (length t) room) _ _
 
 module _ {x : CallOutcome} {out out′ : List ℕ} {r : Spelled} where
-  pub told-is : SpellIs x out r out′ → r ≡ toldOf x (length out)
+  pub told-is : SpellIs x out r out′ → r ≡ spelledIn x (length out)
   told-is w = numbers-one _ _ (w .result ∙ sym (numbers-told x (length out)))
 
-  pub spell-is : r ≡ toldOf x (length out) → out′ ≡ filledBy x out → SpellIs x out r out′
+  pub spell-is : r ≡ spelledIn x (length out) → out′ ≡ filledBy x out → SpellIs x out r out′
   spell-is e b = record { result = ap spelledNumbers e ∙ numbers-told x (length out); buffer = b }

@@ -57,7 +57,8 @@ digits-by k f n false e ih h = omega (arith, ih (n / 10) (omega arith), length-a
 digits-few : (k f n : ℕ) → n < tens k → length (decimalBy f n) ≤ suc k
 unfolding decimalBy tens
 digits-few k zero n h = omega arith
-digits-few zero (suc f) n h = rw (pick-true (ltb n 10) ((48 + n % 10) ∷ []) (decimalBy f (n / 10) ++ (48 + n % 10) ∷ []) (lt-ltb n 10 h)) (omega arith)
+digits-few zero (suc f) n h =
+    rw (pick-true (ltb n 10) ((48 + n % 10) ∷ []) (decimalBy f (n / 10) ++ (48 + n % 10) ∷ []) (lt-ltb n 10 h)) (omega arith)
 digits-few (suc k) (suc f) n h = digits-by k f n _ refl (λ m l. digits-few k f m l) h
 
 code-short : (n : ℕ) → n < 10 → length (decimal n) ≤ 1
@@ -71,7 +72,13 @@ place-short n h = digits-few 19 n n h
 refusal-short : (k p : ℕ) → k < 10 → p < 100000000000000000000 → length (refusalLine (refusedAs k p)) ≤ 23
 unfolding refusalLine
 refusal-short k p h l =
-    omega (arith, code-short k h, place-short p l, length-append (decimal k) ((32 ∷ []) ++ (decimal p ++ 10 ∷ [])), length-append (decimal p) (10 ∷ []))
+    omega (
+      arith,
+      code-short k h,
+      place-short p l,
+      length-append (decimal k) ((32 ∷ []) ++ (decimal p ++ 10 ∷ [])),
+      length-append (decimal p) (10 ∷ []),
+    )
 
 -- ---- where a refusal's place is
 
@@ -108,7 +115,8 @@ unfoldable FaultIn : ℕ → Verdict → Type 0
 FaultIn b (accepted p) = Unit {0}
 FaultIn b (refused place) = place ≤ b
 
-section-in : {A : Type 0} (b place : ℕ) (fine : A → Bool) (rd : Read A) (k : A → List ℕ → Verdict) → place ≤ b → ((a : A) (r : List ℕ) → FaultIn b (k a r)) → FaultIn b (section place fine rd k)
+section-in : {A : Type 0} (b place : ℕ) (fine : A → Bool) (rd : Read A) (k : A → List ℕ → Verdict) → place ≤ b
+    → ((a : A) (r : List ℕ) → FaultIn b (k a r)) → FaultIn b (section place fine rd k)
 unfolding FaultIn section
 section-in b place fine cut k h l = h
 section-in b place fine (got a r) k h l = pick-all (FaultIn b) (fine a) _ _ (l a r) h
@@ -117,7 +125,8 @@ place-in : (s r : List ℕ) → placeIn s r ≤ length s
 unfolding placeIn
 place-in s r = omega arith
 
-lists-in : (s names : List ℕ) (n : ℕ) (r : List ℕ) (k : List (List Rule) → List ℕ → Verdict) → ((ls : List (List Rule)) (t : List ℕ) → FaultIn (length s) (k ls t)) → FaultIn (length s) (listSections s names n r k)
+lists-in : (s names : List ℕ) (n : ℕ) (r : List ℕ) (k : List (List Rule) → List ℕ → Verdict)
+    → ((ls : List (List Rule)) (t : List ℕ) → FaultIn (length s) (k ls t)) → FaultIn (length s) (listSections s names n r k)
 unfolding listSections
 lists-in s names zero r k l = l [] r
 lists-in s names (suc n) r k l = section-in _ _ _ (readList r) _ (place-in s r) (λ rules q. lists-in s names n q _ (λ ls t. l (rules ∷ ls) t))
@@ -138,12 +147,14 @@ unfolding PlaceIn outcomeOf
 spelt-in b (unspelt k) = zero-le
 spelt-in b (speltAs t f) = tt
 
-unless-in : (b : ℕ) (why : Refusal) (at : Found) (rest : CallOutcome) → ((q : ℕ) → at ≡ At q → q ≤ b) → PlaceIn b rest → PlaceIn b (unless why at rest)
+unless-in : (b : ℕ) (why : Refusal) (at : Found) (rest : CallOutcome) → ((q : ℕ) → at ≡ At q → q ≤ b) → PlaceIn b rest
+    → PlaceIn b (unless why at rest)
 unfolding PlaceIn unless
 unless-in b why (At place) rest h k = h place refl
 unless-in b why Nothing rest h k = k
 
-on-pack-in : (c : Settings) (start : Start) (s name : List ℕ) (b : ℕ) (v : Verdict) → length s ≤ b → FaultIn (length s) v → PlaceIn b (onPack c start s name v)
+on-pack-in : (c : Settings) (start : Start) (s name : List ℕ) (b : ℕ) (v : Verdict) → length s ≤ b → FaultIn (length s) v
+    → PlaceIn b (onPack c start s name v)
 unfolding PlaceIn FaultIn onPack
 on-pack-in c start s name b (refused place) h l = omega arith
 on-pack-in c start s name b (accepted p) h l = pick-all (PlaceIn b) _ _ _ (spelt-in b _) zero-le
@@ -160,21 +171,26 @@ letters-in name rest b false e h k =
 call-in : (c : Settings) (start : Start) (s name : List ℕ) → PlaceIn (length s + 96) (callOf c start s name)
 unfolding callOf checkedThen lettersThen PlaceIn
 call-in c start s name =
-    pick-all (PlaceIn (length s + 96)) _ _ _ (letters-in name _ _ _ refl (omega arith) (on-pack-in c start s name _ _ (omega arith) (pack-in s))) zero-le
+    pick-all (PlaceIn (length s + 96)) _ _ _
+    (letters-in name _ _ _ refl (omega arith) (on-pack-in c start s name _ _ (omega arith) (pack-in s))) zero-le
 
 -- ---- a line and its buffer
 
-line-fits-by : (size b : ℕ) (x : CallOutcome) → 32 ≤ size → b < 100000000000000000000 → Below x → PlaceIn b x → length (lineWith size x) ≤ min size most
+line-fits-by : (size b : ℕ) (x : CallOutcome) → 32 ≤ size → b < 100000000000000000000 → Below x → PlaceIn b x
+    → length (lineWith size x) ≤ min size most
 unfolding Below PlaceIn
-line-fits-by size b (refusedBy k place) h l code there = omega (arith, refusal-short (numberOf k) place (omega arith) (omega arith), ap length (line-other size k place))
+line-fits-by size b (refusedBy k place) h l code there =
+    omega (arith, refusal-short (numberOf k) place (omega arith) (omega arith), ap length (line-other size k place))
 line-fits-by size b (key t f) h l code there = elim (decLe (length t + 5) (min size most)) [
   | yes m ↦ omega (arith, ap length (line-answer size t f m), answer-long (length t) f t)
   | no m ↦ omega (arith, ap length (line-long size t f (omega arith)), refusal-short 9 (lineLength (length t)) (omega arith) (omega arith))
 ]
 
-line-fits : (c : Settings) (start : Start) (s : List ℕ) (size : ℕ) (name : Text) → 32 ≤ size → length s < cap → length (lineFor (callOf c start s) size name) ≤ min size most
+line-fits : (c : Settings) (start : Start) (s : List ℕ) (size : ℕ) (name : Text) → 32 ≤ size → length s < cap
+    → length (lineFor (callOf c start s) size name) ≤ min size most
 unfolding lineFor
-line-fits c start s size name h l = line-fits-by size (length s + 96) (callOf c start s name) h (omega arith) (call-below c start s name) (call-in c start s name)
+line-fits c start s size name h l =
+    line-fits-by size (length s + 96) (callOf c start s name) h (omega arith) (call-below c start s name) (call-in c start s name)
 
 -- in a buffer of the length needed a name's line is the whole one
 needed-fits : (size : ℕ) (x : CallOutcome) → needed x < most → needed x ≤ size → length (lineWith size x) ≤ min size most
@@ -196,16 +212,24 @@ module _ (call : Text → CallOutcome) (block : List ℕ) (there : placeOf 10 bl
       let n : length block ≡ suc (length block - 1) = omega arith in
       ap (λ (k : ℕ). linesFrom k block) n ∙ lines-more (length block - 1) block there
 
-  numbers-are : (size : ℕ) → blockBy call block size ≡ pick (holdsLine size (lineFor call size first-name)) (took (taken call block size)) (noRoom (needed (call first-name)))
+  numbers-are : (size : ℕ)
+      → blockBy call block size ≡ pick (holdsLine size (lineFor call size first-name)) (took (taken call block size))
+      (noRoom (needed (call first-name)))
   unfolding blockBy numbersBy
   numbers-are size = ap (λ (ns : List Text). numbersBy call size ns (taken call block size)) names-are
 
   -- where its line fits, it is read
   first-read : (size : ℕ) → length (lineFor call size first-name) ≤ min size most → 0 < taken call block size .read
   unfolding taken andTaken
-  first-read size h = rw (names-are, take-fits (lineFor call size) (min size most) first-name (linesFrom (length block - 1) (drop (suc (placeOf 10 block)) block)) h) (omega arith)
+  first-read size h =
+      rw (
+        names-are,
+        take-fits (lineFor call size) (min size most) first-name
+            (linesFrom (length block - 1) (drop (suc (placeOf 10 block)) block)) h,
+      ) (omega arith)
 
-  block-read : (size : ℕ) → length (lineFor call size first-name) ≤ min size most → (blockBy call block size .code ≡ 0) × (0 < blockBy call block size .first)
+  block-read : (size : ℕ) → length (lineFor call size first-name) ≤ min size most
+      → (blockBy call block size .code ≡ 0) × (0 < blockBy call block size .first)
   unfolding holdsLine
   block-read size h = rw (numbers-are size ∙ pick-true _ _ _ (le-leb _ _ h)) (refl, first-read size h)
 
@@ -213,17 +237,20 @@ module _ (call : Text → CallOutcome) (block : List ℕ) (there : placeOf 10 bl
   unfolding holdsLine
   block-nine size h = numbers-are size ∙ pick-false _ _ _ (lt-leb _ _ h)
 
-  block-either : (size : ℕ) → ((blockBy call block size .code ≡ 0) × (0 < blockBy call block size .first)) ⊎ (blockBy call block size ≡ noRoom (needed (call first-name)))
+  block-either : (size : ℕ)
+      → ((blockBy call block size .code ≡ 0) × (0 < blockBy call block size .first)) ⊎ (blockBy call block size ≡ noRoom (needed (call first-name)))
   block-either size = elim (decLe (length (lineFor call size first-name)) (min size most)) [
     | yes h ↦ inl (block-read size h)
     | no h ↦ inr (block-nine size (omega arith))
   ]
 
   -- a buffer of the length that 9 tells is enough
-  block-needed : (size size₂ n : ℕ) → blockBy call block size ≡ noRoom n → n < most → n ≤ size₂ → (blockBy call block size₂ .code ≡ 0) × (0 < blockBy call block size₂ .first)
+  block-needed : (size size₂ n : ℕ) → blockBy call block size ≡ noRoom n → n < most → n ≤ size₂
+      → (blockBy call block size₂ .code ≡ 0) × (0 < blockBy call block size₂ .first)
   unfolding lineFor
   block-needed size size₂ n e few h = needed-by (block-either size) where
-    needed-by : ((blockBy call block size .code ≡ 0) × (0 < blockBy call block size .first)) ⊎ (blockBy call block size ≡ noRoom (needed (call first-name))) → (blockBy call block size₂ .code ≡ 0) × (0 < blockBy call block size₂ .first)
+    needed-by : ((blockBy call block size .code ≡ 0) × (0 < blockBy call block size .first)) ⊎
+        (blockBy call block size ≡ noRoom (needed (call first-name))) → (blockBy call block size₂ .code ≡ 0) × (0 < blockBy call block size₂ .first)
     needed-by (inl x) = clash (omega (arith, x .0, ap (λ (b : BlockNumbers). b .code) e))
     needed-by (inr x) =
         let is : needed (call first-name) ≡ n = ap (λ (b : BlockNumbers). b .first) (sym x ∙ e) in
@@ -235,11 +262,13 @@ module _ (call : Text → CallOutcome) (block : List ℕ) (there : placeOf 10 bl
     lines-progress = ⊎-elim (λ h. inl (rw (x .result) h)) (λ h. inr (ap (λ (b : BlockNumbers). b .code) (x .result ∙ h))) (block-either (length out))
 
     -- and where it is, a buffer of the length needed is enough to read on
-    pub lines-needed : {out₂ o₂ : List ℕ} {r₂ : Lines} (n : ℕ) → r ≡ NoRoom n → n < most → n ≤ length out₂ → LinesIs call block out₂ r₂ o₂ → (blockNumbers r₂ .code ≡ 0) × (0 < blockNumbers r₂ .first)
+    pub lines-needed : {out₂ o₂ : List ℕ} {r₂ : Lines} (n : ℕ) → r ≡ NoRoom n → n < most → n ≤ length out₂ → LinesIs call block out₂ r₂ o₂
+        → (blockNumbers r₂ .code ≡ 0) × (0 < blockNumbers r₂ .first)
     unfolding blockNumbers
     lines-needed {out₂} n e few h y = rw (y .result) (block-needed (length out) (length out₂) n (sym (x .result) ∙ ap blockNumbers e) few h)
 
 -- with a buffer of 32 bytes or more it is read on always: no name and no pack can stop it
 pub lines-enough : (c : Settings) (start : Start) (s block out o : List ℕ) (r : Lines) → LinesIs (callOf c start s) block out r o
     → 32 ≤ length out → length s < cap → placeOf 10 block < length block → (blockNumbers r .code ≡ 0) × (0 < blockNumbers r .first)
-lines-enough c start s block out o r x h l there = rw (x .result) (block-read (callOf c start s) block there (length out) (line-fits c start s (length out) _ h l))
+lines-enough c start s block out o r x h l there =
+    rw (x .result) (block-read (callOf c start s) block there (length out) (line-fits c start s (length out) _ h l))

@@ -61,7 +61,8 @@ module _ (f g : Text → Spelt) (s : Text) (alike : (t : Text) → length t < le
   next-agree p w ws e x a = rw e (x, a)
 
   module _ (several : oneWord s ≡ false) where
-    agree-by : (p : ℕ) → ((q : ℕ) → length s - q < length s - p → Agree f g (wordsOf (drop q s))) → (t : Bool) → eqb (length (wordAt s p)) 0 ≡ t → Agree f g (wordsOf (drop p s))
+    agree-by : (p : ℕ) → ((q : ℕ) → length s - q < length s - p → Agree f g (wordsOf (drop q s))) → (t : Bool) → eqb (length (wordAt s p)) 0 ≡ t
+        → Agree f g (wordsOf (drop p s))
     agree-by p ih true e = none-agree p (words-none s p (eqb-true _ _ e))
     agree-by p ih false e =
         let some : length (wordAt s p) ≡ 0 → ⊥ = eqb-false _ _ e in
@@ -104,7 +105,8 @@ name-once c l s = name-alike _ _ s (λ t m. enough (length s) (suc (length t)) c
 -- ---- the three ways of a name
 
 module _ (c : Steps) (l : LanguageSet) (s : Text) where
-  pub name-parted : (keep skip : ℕ) → partedAs (c .kind) s ≡ Parted keep skip → spelledName c l s ≡ both (afreshBy c (drop skip s)) (afreshBy c (joinedName keep skip s))
+  pub name-parted : (keep skip : ℕ) → partedAs (c .kind) s ≡ Parted keep skip
+      → spelledName c l s ≡ both (afreshBy c (drop skip s)) (afreshBy c (joinedName keep skip s))
   unfolding nameBy byPrefix
   name-parted keep skip e = name-once c l s ∙ rw e refl
 

@@ -76,16 +76,16 @@ speltBy (refusal k) = unspelt k
 speltBy (texts l flag) = speltAs (joined (map (λ (e : Entry). e .text) l)) flag
 
 -- a word by the lists of a language, of the pack's n; the names' bytes stand in s behind the count
-unfoldable pub wordBy : List ℕ → Pack → ℕ → ℕ → ℕ → LanguageSet → Text → Spelt
-wordBy s p rules limit l g w =
-    speltBy (wordOf limit (take (stringsLength (p .names)) (drop 1 s)) (firstMatch (listNumbered p (3 * l))) (firstMatch (listNumbered p (3 * length (p .names) + rules)))
-    (firstMatch (listNumbered p (3 * l + 1 + rules))) g w)
+unfoldable pub wordByLists : List ℕ → Pack → ℕ → ℕ → ℕ → LanguageSet → Text → Spelt
+wordByLists s p rules limit l g w =
+    speltBy (wordOf limit (take (stringsLength (p .names)) (drop 1 s)) (firstMatch (listNumbered p (3 * l)))
+    (firstMatch (listNumbered p (3 * length (p .names) + rules))) (firstMatch (listNumbered p (3 * l + 1 + rules))) g w)
 
 -- the steps below a name
 unfoldable pub stepsBy : List ℕ → Pack → NameType → ℕ → Bool → ℕ → Steps
 stepsBy s p kind rules concat limit = record {
   guess = λ (t : Text). guessed (length (p .names)) (p .guesses) t;
-  word = λ (g : LanguageSet) (w : Text). wordBy s p rules limit (languageOf p g) g w;
+  word = λ (g : LanguageSet) (w : Text). wordByLists s p rules limit (languageOf p g) g w;
   kind = kind;
   concat = concat;
 }

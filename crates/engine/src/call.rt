@@ -1,13 +1,16 @@
 // What a call is told, and what it works with once that is found good.
 ghost use mathlib.Core.Path.{_≡_};
+ghost use mathlib.Core.Bool.{true};
 ghost use Prim.Native.Nat.{_≤_, _<_, _^_, min};
 ghost use lib.Dec.{ltb};
 ghost use lib.ListN.{length};
+ghost use Rattle.base.specs.Pick.{pick};
 ghost use Rattle.languages.specs.Names.{namePlace};
 ghost use Rattle.strings.specs.Reading.{stringsOf};
 ghost use Rattle.pack.specs.Packs.{any};
+ghost use Rattle.languages.specs.declared.sets.LanguageSet.the-variants.{Any};
 ghost use Rattle.engine.specs.Calls.{settingsKnown, kindKnown, haveLanguages, typeOf, startSet};
-ghost use Rattle.engine.specs.Contracts.{DeskIs, callFor, afreshOf};
+ghost use Rattle.engine.specs.Contracts.{OpenedIs, isGuessed, callFor, withStart, startedBy};
 ghost use Rattle.pack.specs.Contracts.{guessedAt};
 use languages::LanguageSet;
 use languages::Listed;
@@ -31,18 +34,25 @@ pub enum Start {
 
 // A survey's verdict, and where it accepts, the numbers that spelling works with: how many languages, the place of the guessing
 // section, and which language is `any`.
-pub enum Desk {
-    Open {
+pub enum Opened {
+    Usable {
         languages: usize,
         guesses: usize,
         any: usize,
     },
-    Shut {
+    Broken {
         place: usize,
     },
 }
 
-// What a name is spelled by. The set counts where the name is not spelled afresh.
+// What each name of a call is asked with.
+pub struct Request {
+    pub opened: Opened,
+    pub settings: Settings,
+    pub start: Start,
+}
+
+// What a name is spelled by. The set counts where the name is not spelled afresh, its languages guessed from it.
 pub struct Call {
     pub kind: NameType,
     pub rules: usize,
@@ -56,16 +66,16 @@ pub struct Call {
 }
 
 // The pack's numbers, and the table that its rules are found by.
-pub(crate) fn open(pack: &[u8], table: &mut Table) -> Desk
-    ensures { λ r. ⌜ DeskIs (now (pack .entry)) (now (table .exit)) r ⌝ }
+pub(crate) fn open(pack: &[u8], table: &mut Table) -> Opened
+    ensures { λ r. ⌜ OpenedIs (now (pack .entry)) (now (table .exit)) r ⌝ }
 {
     match rule_index::index(pack, table) {
-        Surveyed::Accepted { languages, guesses } => Desk::Open {
+        Surveyed::Accepted { languages, guesses } => Opened::Usable {
             languages,
             guesses,
             any: any_of(&pack[1..guesses]),
         },
-        Surveyed::Refused(place) => Desk::Shut { place },
+        Surveyed::Refused(place) => Opened::Broken { place },
     }
 }
 
@@ -146,12 +156,21 @@ fn type_of(number: u32) -> NameType
     }
 }
 
-// The set to start with, on the lower-cased name, hyphens still there.
-fn set_of(start: Start, pack: &[u8], languages: usize, guesses: usize, name: &[u8]) -> LanguageSet
-    ensures { λ r. ⌜ r ≡ startSet start (guessedAt (now (pack .entry)) guesses languages (now (name .entry))) ⌝ }
+fn is_guessed(start: Start) -> bool
+    ensures { λ r. ⌜ r ≡ isGuessed start ⌝ }
 {
     match start {
-        Start::Guessed => pack::guess_languages(pack, guesses, languages, name),
+        Start::Guessed => true,
+        Start::Given { kind: _, bits: _ } => false,
+    }
+}
+
+// The set that is given, if one is.
+fn set_of(start: Start) -> LanguageSet
+    ensures { λ r. ⌜ r ≡ startSet start Any ⌝ }
+{
+    match start {
+        Start::Guessed => LanguageSet::Any,
         Start::Given { kind, bits } => {
             if kind == 0 {
                 LanguageSet::Any
@@ -164,17 +183,15 @@ fn set_of(start: Start, pack: &[u8], languages: usize, guesses: usize, name: &[u
     }
 }
 
-// The call of known settings on a good pack.
+// The call of known settings on a usable pack.
 pub(crate) fn call_of(
     settings: Settings,
     start: Start,
-    pack: &[u8],
     languages: usize,
     guesses: usize,
     any: usize,
-    name: &[u8],
 ) -> Call
-    ensures { λ r. ⌜ r ≡ callFor settings start languages guesses any (guessedAt (now (pack .entry)) guesses languages (now (name .entry))) ⌝ }
+    ensures { λ r. ⌜ r ≡ callFor settings start languages guesses any ⌝ }
 {
     Call {
         kind: type_of(settings.name_type),
@@ -184,17 +201,16 @@ pub(crate) fn call_of(
         languages,
         guesses,
         any,
-        fresh: false,
-        set: set_of(start, pack, languages, guesses, name),
+        fresh: is_guessed(start),
+        set: set_of(start),
     }
 }
 
-// The same call for a name that is spelled afresh.
-pub(crate) fn afresh(call: Call) -> Call
-    ensures { λ r. ⌜ r ≡ afreshOf call ⌝ }
+// The same call, for names that are spelled afresh or with a set.
+fn with_start(call: Call, fresh: bool, set: LanguageSet) -> Call
+    ensures { λ r. ⌜ r ≡ withStart call fresh set ⌝ }
 {
     let kind = call.kind;
-    let set = call.set;
     Call {
         kind,
         rules: call.rules,
@@ -203,7 +219,34 @@ pub(crate) fn afresh(call: Call) -> Call
         languages: call.languages,
         guesses: call.guesses,
         any: call.any,
-        fresh: true,
+        fresh,
         set,
     }
+}
+
+// The same call for a name that is spelled afresh.
+pub(crate) fn afresh(call: Call) -> Call
+    ensures { λ r. ⌜ r ≡ withStart call true (call .set) ⌝ }
+{
+    let set = call.set;
+    with_start(call, true, set)
+}
+
+// The set that a name starts with.
+fn start_of(pack: &[u8], call: Call, name: &[u8]) -> LanguageSet
+    ensures { λ r. ⌜ r ≡ pick (call .fresh) (guessedAt (now (pack .entry)) (call .guesses) (call .languages) (now (name .entry))) (call .set) ⌝ }
+{
+    if call.fresh {
+        pack::guess_languages(pack, call.guesses, call.languages, name)
+    } else {
+        call.set
+    }
+}
+
+// The same call with that set.
+pub(crate) fn start_at(pack: &[u8], call: Call, name: &[u8]) -> Call
+    ensures { λ r. ⌜ r ≡ startedBy call (guessedAt (now (pack .entry)) (call .guesses) (call .languages) (now (name .entry))) ⌝ }
+{
+    let set = start_of(pack, call, name);
+    with_start(call, false, set)
 }

@@ -1,20 +1,19 @@
 // A name spelled (01, Spelling a name, steps 2 to 5): by its prefix, by its words, or as one word.
 ghost use mathlib.Core.Path.{_≡_};
 ghost use mathlib.Core.Bool.{true, false};
-ghost use mathlib.Core.List.{_∷_};
 ghost use Prim.Native.Nat.{_+_, _≤_, _<_, min};
 ghost use lib.ListN.{length};
 ghost use Rattle.base.specs.Pick.{pick};
 ghost use Rattle.languages.specs.Sets.{singleOf};
-ghost use Rattle.name_parts.specs.Words.{oneWord, wordsOf};
-ghost use Rattle.writing.specs.Contracts.{cap, Put};
-ghost use Rattle.engine.specs.Spelling.{partedAs, or, spelledName, onePart, eachWord, afreshBy};
+ghost use Rattle.name_parts.specs.Words.{oneWord};
+ghost use Rattle.writing.specs.Contracts.{cap};
+ghost use Rattle.engine.specs.Spelling.{partedAs, or};
 ghost use Rattle.engine.specs.Calls.{languageBy};
-ghost use Rattle.engine.specs.Contracts.{CallReady, stepsAt, startAt, listNumbers, EndedIs, NameTold, ToldWhole, bothOf, HyphenAt};
-ghost use Rattle.languages.specs.Contracts.{BitsBelow};
-ghost use Rattle.pack.specs.Contracts.{guessedAt};
+ghost use Rattle.engine.specs.Contracts.{CallReady, Asks, listNumbers, EndedIs, SpeltInto, SpeltWhole, bothOf, HyphenAt, bracketed, JoinedIs};
+ghost use Rattle.engine.specs.Contracts.{speltWord, speltPart, speltName, speltAfresh, speltWords};
 use crate::call::Call;
 use crate::call::afresh;
+use crate::call::start_at;
 use languages::LanguageSet;
 use languages::Single;
 use phoneme_builder::Plan;
@@ -42,6 +41,12 @@ pub struct Lists {
     pub main: usize,
     pub common: usize,
     pub own: usize,
+}
+
+// Whether a name has a prefix: where its remainder begins, and how long the joined name is.
+pub enum Joined {
+    Parted { skip: usize, length: usize },
+    Whole,
 }
 
 // The language whose lists are used: the single one, else `any`.
@@ -105,19 +110,8 @@ fn ended(answer: Worded, at: usize) -> Ends
     }
 }
 
-// The set that a name starts with.
-fn start_of(pack: &[u8], call: Call, name: &[u8]) -> LanguageSet
-    ensures { λ r. ⌜ r ≡ pick (call .fresh) (guessedAt (now (pack .entry)) (call .guesses) (call .languages) (now (name .entry))) (call .set) ⌝ }
-{
-    if call.fresh {
-        pack::guess_languages(pack, call.guesses, call.languages, name)
-    } else {
-        call.set
-    }
-}
-
 // Whether a name with no prefix is spelled as one word.
-pub(crate) fn is_plain(call: Call, name: &[u8]) -> bool
+pub(crate) fn is_one_part(call: Call, name: &[u8]) -> bool
     ensures { λ r. ⌜ r ≡ pick (call .concat) true (oneWord (now (name .entry))) ⌝ }
 {
     if call.concat {
@@ -127,22 +121,21 @@ pub(crate) fn is_plain(call: Call, name: &[u8]) -> bool
     }
 }
 
-// A word spelled with a set, into `out` from `at` on where it fits as a whole.
+// A word spelled with the call's set, into `out` from `at` on where it fits as a whole.
 fn spell_word(
     store: &mut Store,
     slots: &mut Slots,
     pack: &[u8],
     table: &Table,
     call: Call,
-    set: LanguageSet,
     word: &[u8],
     out: &mut [u8],
     at: usize,
 ) -> Ends
     requires { ⌜ CallReady (now pack) (now table) call ⌝ }
-    requires { ⌜ BitsBelow (call .languages) set ⌝ }
-    ensures { λ r. ⌜ ToldWhole (stepsAt (now (pack .entry)) call .word set (now (word .entry))) (now (out .entry)) (now (out .exit)) at r ⌝ }
+    ensures { λ r. ⌜ SpeltWhole (speltWord (now (pack .entry)) call (now (word .entry))) (now (out .entry)) (now (out .exit)) at r ⌝ }
 {
+    let set = call.set;
     let lists = lists_of(call, language_of(set, call.any));
     let by = Plan {
         main: lists.main,
@@ -157,7 +150,7 @@ fn spell_word(
 }
 
 // A name spelled as one word: its words joined, or the part of it where its only word stands.
-pub(crate) fn spell_plain(
+pub(crate) fn spell_part(
     store: &mut Store,
     slots: &mut Slots,
     pack: &[u8],
@@ -169,18 +162,17 @@ pub(crate) fn spell_plain(
 ) -> Ends
     requires { ⌜ CallReady (now pack) (now table) call ⌝ }
     requires { ⌜ length (now name) ≤ 96 ⌝ }
-    ensures { λ r. ⌜ ToldWhole (onePart (stepsAt (now (pack .entry)) call) (startAt (now (pack .entry)) call (now (name .entry))) (now (name .entry)))
-        (now (out .entry)) (now (out .exit)) at r ⌝ }
+    ensures { λ r. ⌜ SpeltWhole (speltPart (now (pack .entry)) call (now (name .entry))) (now (out .entry)) (now (out .exit)) at r ⌝ }
 {
-    let set = start_of(pack, call, name);
+    let by = start_at(pack, call, name);
     if call.concat {
         let kind = call.kind;
         let mut joined = [0u8; 96];
         let n = name_parts::join_words(kind, name, &mut joined);
-        spell_word(store, slots, pack, table, call, set, &joined[0..n], out, at)
+        spell_word(store, slots, pack, table, by, &joined[0..n], out, at)
     } else {
         let word = name_parts::next_word(name, 0);
-        spell_word(store, slots, pack, table, call, set, word, out, at)
+        spell_word(store, slots, pack, table, by, word, out, at)
     }
 }
 
@@ -195,11 +187,18 @@ pub(crate) fn part_of(kind: NameType, name: &[u8]) -> Prefix
     }
 }
 
-// Between remainder and joined name.
-fn middle(out: &mut [u8], at: usize) -> usize
-    ensures { λ r. ⌜ Put (now (out .entry)) (now (out .exit)) at r (41 ∷ 45 ∷ 40 ∷ mathlib.Core.List.[]) ⌝ }
+// A name's prefix joined to its remainder, at the front of a buffer, if it has one.
+fn join_parts(kind: NameType, name: &[u8], joined: &mut [u8]) -> Joined
+    requires { ⌜ (length (now name) ≤ 96) × (length (now joined) ≡ 96) ⌝ }
+    ensures { λ r. ⌜ JoinedIs kind (now (name .entry)) (now (joined .exit)) r ⌝ }
 {
-    writing::copy(b")-(", out, at)
+    match part_of(kind, name) {
+        Prefix::Parted { keep, skip } => Joined::Parted {
+            skip,
+            length: name_parts::join_prefix(name, keep, skip, joined),
+        },
+        Prefix::Whole => Joined::Whole,
+    }
 }
 
 // Between words, and not before the first: p is how far the name is read.
@@ -248,32 +247,52 @@ pub(crate) fn spell_name(
     out: &mut [u8],
     at: usize,
 ) -> Ends
-    requires { ⌜ CallReady (now pack) (now table) call ⌝ }
-    requires { ⌜ length (now name) ≤ 96 ⌝ }
-    requires { ⌜ at ≤ cap ⌝ }
-    ensures { λ r. ⌜ NameTold (spelledName (stepsAt (now (pack .entry)) call) (startAt (now (pack .entry)) call (now (name .entry))) (now (name .entry)))
-        (now (out .entry)) (now (out .exit)) at r ⌝ }
+    requires { ⌜ Asks (now pack) (now table) call (now name) at ⌝ }
+    ensures { λ r. ⌜ SpeltInto (speltName (now (pack .entry)) call (now (name .entry))) (now (out .entry)) (now (out .exit)) at r ⌝ }
 {
     let kind = call.kind;
-    match part_of(kind, name) {
-        Prefix::Parted { keep, skip } => {
-            let again = afresh(call);
-            let mut joined = [0u8; 96];
-            let n = name_parts::join_prefix(name, keep, skip, &mut joined);
-            let p = writing::push(out, at, b'(');
-            let a = spell_name(store, slots, pack, table, again, &name[skip..], out, p);
-            let q = middle(out, a.at);
-            let b = spell_name(store, slots, pack, table, again, &joined[0..n], out, q);
-            let end = writing::push(out, b.at, b')');
-            both(b, a, end)
+    let mut joined = [0u8; 96];
+    match join_parts(kind, name, &mut joined) {
+        Joined::Parted { skip, length } => {
+            let a = spell_bracketed(store, slots, pack, table, call, &name[skip..], out, at);
+            let p = writing::push(out, a.at, b'-');
+            let b = spell_bracketed(store, slots, pack, table, call, &joined[0..length], out, p);
+            both(b, a, b.at)
         }
-        Prefix::Whole => {
-            if is_plain(call, name) {
-                spell_plain(store, slots, pack, table, call, name, out, at)
+        Joined::Whole => {
+            if is_one_part(call, name) {
+                spell_part(store, slots, pack, table, call, name, out, at)
             } else {
                 spell_words(store, slots, pack, table, call, name, out, at)
             }
         }
+    }
+}
+
+// A name spelled afresh, between brackets.
+fn spell_bracketed(
+    store: &mut Store,
+    slots: &mut Slots,
+    pack: &[u8],
+    table: &Table,
+    call: Call,
+    name: &[u8],
+    out: &mut [u8],
+    at: usize,
+) -> Ends
+    requires { ⌜ Asks (now pack) (now table) call (now name) at ⌝ }
+    ensures { λ r. ⌜ SpeltInto (bracketed (speltAfresh (now (pack .entry)) call (now (name .entry)))) (now (out .entry)) (now (out .exit)) at r ⌝ }
+{
+    let p = writing::push(out, at, b'(');
+    let again = afresh(call);
+    let a = spell_name(store, slots, pack, table, again, name, out, p);
+    let end = writing::push(out, a.at, b')');
+    let why = a.why;
+    Ends {
+        at: end,
+        flag: a.flag,
+        fine: a.fine,
+        why,
     }
 }
 
@@ -288,13 +307,10 @@ fn spell_words(
     out: &mut [u8],
     at: usize,
 ) -> Ends
-    requires { ⌜ CallReady (now pack) (now table) call ⌝ }
-    requires { ⌜ length (now name) ≤ 96 ⌝ }
-    requires { ⌜ at ≤ cap ⌝ }
+    requires { ⌜ Asks (now pack) (now table) call (now name) at ⌝ }
     requires { ⌜ oneWord (now name) ≡ false ⌝ }
-    ensures { λ r. ⌜ NameTold (eachWord (afreshBy (stepsAt (now (pack .entry)) call)) (wordsOf (now (name .entry)))) (now (out .entry)) (now (out .exit)) at r ⌝ }
+    ensures { λ r. ⌜ SpeltInto (speltWords (now (pack .entry)) call (now (name .entry))) (now (out .entry)) (now (out .exit)) at r ⌝ }
 {
-    let again = afresh(call);
     let mut all = Ends {
         at,
         flag: false,
@@ -308,6 +324,7 @@ fn spell_words(
             return all;
         }
         let q = hyphen(out, all.at, p);
+        let again = afresh(call);
         let b = spell_name(store, slots, pack, table, again, w, out, q);
         all = both(all, b, b.at);
         p = name_parts::past_word(name, p);

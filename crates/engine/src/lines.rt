@@ -1,14 +1,15 @@
 // Names, a line each: the pack is checked once, and what is written is what the program prints.
 ghost use mathlib.Core.Path.{_≡_};
-ghost use Prim.Native.Nat.{_+_, _-_, _≤_, min, max};
+ghost use Prim.Native.Nat.{_+_, _-_, _≤_, _<_, min, max};
 ghost use lib.Dec.{leb};
 ghost use lib.ListN.{length};
 ghost use Rattle.writing.specs.Contracts.{Put};
 ghost use Rattle.engine.specs.Calls.{callOf, refusedAs};
-ghost use Rattle.engine.specs.Contracts.{DeskIs};
-ghost use Rattle.engine.specs.Lines.{most, decimal, refusalLine, needed, lineFor, LinesIs};
-ghost use Rattle.engine.specs.LineContracts.{LineAt, headOf, lineLength, DoneIs, placeTold, lengthTold, waitsFor, RefusedIs, stoppedAt};
-use crate::call::Desk;
+ghost use Rattle.engine.specs.Contracts.{OpenedIs, outcomeFor};
+ghost use Rattle.engine.specs.Lines.{most, decimal, refusalLine, LinesIs};
+ghost use Rattle.engine.specs.LineContracts.{headOf, lineLength, DoneIs, placeTold, lengthTold, waitsFor, RefusedIs, stoppedAt};
+ghost use Rattle.engine.specs.LineContracts.{SpaceIn, SpaceOf, BehindIs, LineFor};
+use crate::call::Request;
 use crate::call::Settings;
 use crate::call::Start;
 use crate::call::open;
@@ -29,6 +30,12 @@ pub enum Lines {
 pub enum Fit {
     Behind { next: usize },
     Over { needed: usize },
+}
+
+// Where a line begins, and how many bytes of the buffer are used.
+pub struct Space {
+    pub at: usize,
+    pub size: usize,
 }
 
 // The largest number of bytes that is told, and the most of a buffer that is used.
@@ -103,10 +110,12 @@ fn length_told(code: u8, place: usize, n: usize) -> usize
 }
 
 // The line of a refusal from `at` on where it fits, unless the answer waits.
-fn refused_line(code: u8, place: usize, out: &mut [u8], at: usize, size: usize) -> Fit
-    requires { ⌜ (at ≤ size) × (size ≤ length (now out)) ⌝ }
-    ensures { λ r. ⌜ RefusedIs code place size (now (out .entry)) (now (out .exit)) at r ⌝ }
+fn refused_line(code: u8, place: usize, out: &mut [u8], space: Space) -> Fit
+    requires { ⌜ SpaceIn (now out) space ⌝ }
+    ensures { λ r. ⌜ RefusedIs code place (now (out .entry)) (now (out .exit)) space r ⌝ }
 {
+    let at = space.at;
+    let size = space.size;
     let told = place_told(code, place);
     let mut none = [0u8; 1];
     let n = put_refusal(code, told, &mut none, 0);
@@ -131,16 +140,18 @@ fn put_head(flag: bool, out: &mut [u8], at: usize) -> usize
 }
 
 // What stands before and behind an answer in its place, 4 bytes behind `at`, where they fit; else the answer is too long.
-fn done_line(written: usize, flag: bool, out: &mut [u8], at: usize, size: usize) -> Fit
-    requires { ⌜ (at ≤ size) × (size ≤ length (now out)) ⌝ }
-    ensures { λ r. ⌜ DoneIs written flag size (now (out .entry)) (now (out .exit)) at r ⌝ }
+fn done_line(written: usize, flag: bool, out: &mut [u8], space: Space) -> Fit
+    requires { ⌜ SpaceIn (now out) space ⌝ }
+    ensures { λ r. ⌜ DoneIs written flag (now (out .entry)) (now (out .exit)) space r ⌝ }
 {
+    let at = space.at;
+    let size = space.size;
     if has_room(written, size - at) {
         put_head(flag, out, at);
         let next = writing::push(out, at + 4 + written, b'\n');
         Fit::Behind { next }
     } else {
-        refused_line(9, written, out, at, size)
+        refused_line(9, written, out, space)
     }
 }
 
@@ -160,41 +171,45 @@ fn end_of(a: usize, size: usize) -> usize
     if a < size { size - 1 } else { a }
 }
 
+// A name spelled, its answer in its place in a line.
+fn spell_behind(
+    store: &mut Store,
+    slots: &mut Slots,
+    pack: &[u8],
+    table: &Table,
+    request: Request,
+    name: &[u8],
+    out: &mut [u8],
+    space: Space,
+) -> Spelled
+    requires { ⌜ OpenedIs (now pack) (now table) (request .opened) ⌝ }
+    requires { ⌜ SpaceOf (now out) space ⌝ }
+    ensures { λ r. ⌜ BehindIs (outcomeFor request (now (pack .entry)) (now (name .entry))) space (now (out .entry)) r (now (out .exit)) ⌝ }
+{
+    let a = front_of(space.at, space.size);
+    let e = end_of(a, space.size);
+    spell_at(store, slots, pack, table, request, name, &mut out[a..e])
+}
+
 // The line of one name, where it fits.
 fn put_line(
     store: &mut Store,
     slots: &mut Slots,
     pack: &[u8],
     table: &Table,
-    desk: Desk,
-    settings: Settings,
-    start: Start,
+    request: Request,
     name: &[u8],
     out: &mut [u8],
-    at: usize,
-    size: usize,
+    space: Space,
 ) -> Fit
-    requires { ⌜ DeskIs (now pack) (now table) desk ⌝ }
-    requires { ⌜ (at ≤ size) × (size ≡ min (length (now out)) most) ⌝ }
-    ensures { λ r. ⌜ LineAt (lineFor (callOf settings start (now (pack .entry))) (length (now (out .entry))) (now (name .entry)))
-        (needed (callOf settings start (now (pack .entry)) (now (name .entry)))) size (now (out .entry)) (now (out .exit)) at r ⌝ }
+    requires { ⌜ OpenedIs (now pack) (now table) (request .opened) ⌝ }
+    requires { ⌜ SpaceOf (now out) space ⌝ }
+    ensures { λ r. ⌜ LineFor (outcomeFor request (now (pack .entry)) (now (name .entry))) (now (out .entry)) (now (out .exit)) space r ⌝ }
 {
-    let a = front_of(at, size);
-    let e = end_of(a, size);
-    match spell_at(
-        store,
-        slots,
-        pack,
-        table,
-        desk,
-        settings,
-        start,
-        name,
-        &mut out[a..e],
-    ) {
-        Spelled::Done { written, flag } => done_line(written, flag, out, at, size),
+    match spell_behind(store, slots, pack, table, request, name, out, space) {
+        Spelled::Done { written, flag } => done_line(written, flag, out, space),
         Spelled::Refused { why, place } => {
-            refused_line(refusals::number_of(why), place, out, at, size)
+            refused_line(refusals::number_of(why), place, out, space)
         }
     }
 }
@@ -210,20 +225,26 @@ fn stopped(read: usize, written: usize, needed: usize) -> Lines
     }
 }
 
-// The lines of whole names, as many as fit, at a desk.
+// The place behind a name of n bytes and its LF.
+fn past_line(block: &[u8], read: usize, n: usize) -> usize
+    requires { ⌜ read + n < length (now block) ⌝ }
+    ensures { λ r. ⌜ r ≡ read + n + 1 ⌝ }
+{
+    read + n + 1
+}
+
+// The lines of whole names, as many as fit.
 fn put_lines(
     store: &mut Store,
     slots: &mut Slots,
     pack: &[u8],
     table: &Table,
-    desk: Desk,
-    settings: Settings,
-    start: Start,
+    request: Request,
     block: &[u8],
     out: &mut [u8],
 ) -> Lines
-    requires { ⌜ DeskIs (now pack) (now table) desk ⌝ }
-    ensures { λ r. ⌜ LinesIs (callOf settings start (now (pack .entry))) (now (block .entry)) (now (out .entry)) r (now (out .exit)) ⌝ }
+    requires { ⌜ OpenedIs (now pack) (now table) (request .opened) ⌝ }
+    ensures { λ r. ⌜ LinesIs (outcomeFor request (now (pack .entry))) (now (block .entry)) (now (out .entry)) r (now (out .exit)) ⌝ }
 {
     let size = most_of(out.len());
     let mut read: usize = 0;
@@ -234,22 +255,11 @@ fn put_lines(
         if rest.len() <= n {
             return Lines::Done { read, written };
         }
-        match put_line(
-            store,
-            slots,
-            pack,
-            table,
-            desk,
-            settings,
-            start,
-            &rest[0..n],
-            out,
-            written,
-            size,
-        ) {
+        let space = Space { at: written, size };
+        match put_line(store, slots, pack, table, request, &rest[0..n], out, space) {
             Fit::Behind { next } => {
                 written = next;
-                read = read + n + 1;
+                read = past_line(block, read, n);
             }
             Fit::Over { needed } => return stopped(read, written, needed),
         }
@@ -267,18 +277,13 @@ pub fn spell_lines(
     ensures { λ r. ⌜ LinesIs (callOf settings start (now (pack .entry))) (now (block .entry)) (now (out .entry)) r (now (out .exit)) ⌝ }
 {
     let mut table = [[0usize; 128]; 98];
-    let desk = open(pack, &mut table);
+    let opened = open(pack, &mut table);
     let mut store = [[0u8; 32768]; 4];
     let mut slots = [[0u64; 256]; 4];
-    put_lines(
-        &mut store,
-        &mut slots,
-        pack,
-        &table,
-        desk,
+    let request = Request {
+        opened,
         settings,
         start,
-        block,
-        out,
-    )
+    };
+    put_lines(&mut store, &mut slots, pack, &table, request, block, out)
 }

@@ -5,22 +5,25 @@ ghost use Prim.Native.Nat.{_≤_};
 ghost use lib.ListN.{length};
 ghost use Rattle.base.specs.Pick.{pick};
 ghost use Rattle.name_parts.specs.Words.{oneWord};
-ghost use Rattle.engine.specs.Spelling.{spelledName, partedAs};
+ghost use Rattle.engine.specs.Spelling.{partedAs};
 ghost use Rattle.engine.specs.Calls.{lettersThen, checkedThen, callOf, SpellIs};
-ghost use Rattle.engine.specs.Contracts.{DeskIs, CallReady, stepsAt, startAt, ToldWhole, FoundIs, answeredBy, wholeAnd, HeldApartIs};
+ghost use Rattle.engine.specs.Contracts.{OpenedIs, FineFor, outcomeOn, outcomeFor, FoundIs, answeredBy, wholeAnd, CopyOutIs};
+ghost use Rattle.engine.specs.Contracts.{CallReady, SpeltWhole, speltName, speltFine, LoweredIs};
 use crate::call::Call;
-use crate::call::Desk;
+use crate::call::Opened;
+use crate::call::Request;
 use crate::call::Settings;
 use crate::call::Start;
 use crate::call::are_known;
 use crate::call::call_of;
 use crate::call::have_languages;
 use crate::call::open;
+use crate::call::start_at;
 use crate::encode::Ends;
-use crate::encode::is_plain;
+use crate::encode::is_one_part;
 use crate::encode::part_of;
 use crate::encode::spell_name;
-use crate::encode::spell_plain;
+use crate::encode::spell_part;
 use letters::Found;
 use phoneme_builder::Slots;
 use phoneme_builder::Store;
@@ -113,13 +116,13 @@ fn is_single(call: Call, name: &[u8]) -> bool
     let kind = call.kind;
     match part_of(kind, name) {
         Prefix::Parted { keep: _, skip: _ } => false,
-        Prefix::Whole => is_plain(call, name),
+        Prefix::Whole => is_one_part(call, name),
     }
 }
 
 // An answer held apart, written where it fits. False where it fits, but is too long to be held apart.
-fn keep(a: Ends, apart: &[u8], out: &mut [u8]) -> bool
-    ensures { λ r. ⌜ HeldApartIs a (now (apart .entry)) (now (out .entry)) (now (out .exit)) r ⌝ }
+fn copy_out(a: Ends, apart: &[u8], out: &mut [u8]) -> bool
+    ensures { λ r. ⌜ CopyOutIs a (now (apart .entry)) (now (out .entry)) (now (out .exit)) r ⌝ }
 {
     let n = a.at;
     if a.fine {
@@ -147,64 +150,109 @@ fn spell_lowered(
 ) -> Ends
     requires { ⌜ CallReady (now pack) (now table) call ⌝ }
     requires { ⌜ length (now name) ≤ 96 ⌝ }
-    ensures { λ r. ⌜ ToldWhole (spelledName (stepsAt (now (pack .entry)) call) (startAt (now (pack .entry)) call (now (name .entry))) (now (name .entry)))
-        (now (out .entry)) (now (out .exit)) 0 r ⌝ }
+    ensures { λ r. ⌜ SpeltWhole (speltName (now (pack .entry)) call (now (name .entry))) (now (out .entry)) (now (out .exit)) 0 r ⌝ }
 {
     if is_single(call, name) {
-        return spell_plain(store, slots, pack, table, call, name, out, 0);
+        return spell_part(store, slots, pack, table, call, name, out, 0);
     }
     let mut apart = [0u8; 16384];
     let a = spell_name(store, slots, pack, table, call, name, &mut apart, 0);
-    if keep(a, &apart, out) {
+    if copy_out(a, &apart, out) {
         a
     } else {
         spell_name(store, slots, pack, table, call, name, out, 0)
     }
 }
 
-// Any name, with any settings, at a desk: the checks in the order 4, 3, 1, 2, 5, 6; then it is lower-cased, guessed, and spelled with
-// its hyphens made spaces.
+// A name lower-cased at the front of a buffer, its languages guessed, and then its hyphens made spaces. Returns the call with its set.
+fn lower_name(pack: &[u8], call: Call, name: &[u8], low: &mut [u8]) -> Call
+    requires { ⌜ (length (now name) ≤ 96) × (length (now low) ≡ 96) ⌝ }
+    ensures { λ r. ⌜ LoweredIs (now (pack .entry)) call (now (name .entry)) (now (low .exit)) r ⌝ }
+{
+    let n = name.len();
+    lower_case::lower_into(name, low);
+    let by = start_at(pack, call, &low[0..n]);
+    name_parts::part_hyphens(low);
+    by
+}
+
+// A name that is fine, lower-cased and spelled.
+fn spell_fine(
+    store: &mut Store,
+    slots: &mut Slots,
+    pack: &[u8],
+    table: &Table,
+    call: Call,
+    name: &[u8],
+    out: &mut [u8],
+) -> Ends
+    requires { ⌜ CallReady (now pack) (now table) call ⌝ }
+    requires { ⌜ length (now name) ≤ 96 ⌝ }
+    ensures { λ r. ⌜ SpeltWhole (speltFine (now (pack .entry)) call (now (name .entry))) (now (out .entry)) (now (out .exit)) 0 r ⌝ }
+{
+    let n = name.len();
+    let mut low = [0u8; 96];
+    let by = lower_name(pack, call, name, &mut low);
+    spell_lowered(store, slots, pack, table, by, &low[0..n], out)
+}
+
+// A name that is fine, with known settings: refusals 5 and 6, and then its answer.
+fn spell_opened(
+    store: &mut Store,
+    slots: &mut Slots,
+    pack: &[u8],
+    table: &Table,
+    request: Request,
+    name: &[u8],
+    out: &mut [u8],
+) -> Spelled
+    requires { ⌜ FineFor (now pack) (now table) request (now name) ⌝ }
+    ensures { λ r. ⌜ SpellIs (outcomeOn (now (pack .entry)) request (now (name .entry))) (now (out .entry)) r (now (out .exit)) ⌝ }
+{
+    let opened = request.opened;
+    let settings = request.settings;
+    let start = request.start;
+    match opened {
+        Opened::Usable {
+            languages,
+            guesses,
+            any,
+        } => {
+            if have_languages(start, languages) {
+                let call = call_of(settings, start, languages, guesses, any);
+                let a = spell_fine(store, slots, pack, table, call, name, out);
+                answer(a, out.len())
+            } else {
+                Spelled::Refused {
+                    why: Refusal::NoSuchLanguage,
+                    place: 0,
+                }
+            }
+        }
+        Opened::Broken { place } => Spelled::Refused {
+            why: Refusal::PackBroken,
+            place,
+        },
+    }
+}
+
+// Any name, with any settings: the checks in the order 4, 3, 1, 2, 5, 6, and then its answer.
 pub(crate) fn spell_at(
     store: &mut Store,
     slots: &mut Slots,
     pack: &[u8],
     table: &Table,
-    desk: Desk,
-    settings: Settings,
-    start: Start,
+    request: Request,
     name: &[u8],
     out: &mut [u8],
 ) -> Spelled
-    requires { ⌜ DeskIs (now pack) (now table) desk ⌝ }
-    ensures { λ r. ⌜ SpellIs (callOf settings start (now (pack .entry)) (now (name .entry))) (now (out .entry)) r (now (out .exit)) ⌝ }
+    requires { ⌜ OpenedIs (now pack) (now table) (request .opened) ⌝ }
+    ensures { λ r. ⌜ SpellIs (outcomeFor request (now (pack .entry)) (now (name .entry))) (now (out .entry)) r (now (out .exit)) ⌝ }
 {
+    let settings = request.settings;
+    let start = request.start;
     match refusal_of(settings, start, name) {
-        Named::Fine => match desk {
-            Desk::Open {
-                languages,
-                guesses,
-                any,
-            } => {
-                if have_languages(start, languages) {
-                    let n = name.len();
-                    let mut low = [0u8; 96];
-                    lower_case::lower_into(name, &mut low);
-                    let call = call_of(settings, start, pack, languages, guesses, any, &low[0..n]);
-                    name_parts::part_hyphens(&mut low);
-                    let a = spell_lowered(store, slots, pack, table, call, &low[0..n], out);
-                    answer(a, out.len())
-                } else {
-                    Spelled::Refused {
-                        why: Refusal::NoSuchLanguage,
-                        place: 0,
-                    }
-                }
-            }
-            Desk::Shut { place } => Spelled::Refused {
-                why: Refusal::PackBroken,
-                place,
-            },
-        },
+        Named::Fine => spell_opened(store, slots, pack, table, request, name, out),
         Named::Wrong { why, place } => Spelled::Refused { why, place },
     }
 }
@@ -214,18 +262,13 @@ pub fn spell(settings: Settings, start: Start, pack: &[u8], name: &[u8], out: &m
     ensures { λ r. ⌜ SpellIs (callOf settings start (now (pack .entry)) (now (name .entry))) (now (out .entry)) r (now (out .exit)) ⌝ }
 {
     let mut table = [[0usize; 128]; 98];
-    let desk = open(pack, &mut table);
+    let opened = open(pack, &mut table);
     let mut store = [[0u8; 32768]; 4];
     let mut slots = [[0u64; 256]; 4];
-    spell_at(
-        &mut store,
-        &mut slots,
-        pack,
-        &table,
-        desk,
+    let request = Request {
+        opened,
         settings,
         start,
-        name,
-        out,
-    )
+    };
+    spell_at(&mut store, &mut slots, pack, &table, request, name, out)
 }

@@ -11,7 +11,7 @@ use Rattle.rules_parser.proofs.NumberLaws.{item-one}
 use Rattle.rules_parser.specs.Files.{itemAt}
 use Rattle.rules_parser.specs.declared.fields.Text.{Text}
 use Rattle.rules_parser.specs.declared.lines.FileKind.the-variants.{Rules}
-use Rattle.rules_parser.specs.declared.lines.Told.{Told}
+use Rattle.rules_parser.specs.declared.lines.Clause.{Clause}
 use Rattle.rules_parser.specs.declared.files.Item.{Item}
 use Rattle.rules_parser.specs.declared.files.Item.the-variants as item
 use Rattle.rule_lines.specs.declared.Fault.{Fault}
@@ -46,7 +46,7 @@ module _ (names s : List ℕ) (p : ℕ) (i : Item) (is : i ≡ itemAt Rules s p)
   unfolding rowAt
   row-item j h e = e ∙ ap (rowIn names s) (sym h ∙ is)
 
-  pub row-told : (t : Told) (n : ℕ) → i ≡ item.Tells t n → (u : Told) → t ≡ u → r ≡ rowIn names s (item.Tells u n) → r ≡ rowAt names s p
-  row-told t n h u g e = row-item _ (h ∙ ap (λ (x : Told). item.Tells x n) g) e
+  pub row-told : (t : Clause) (n : ℕ) → i ≡ item.Tells t n → (u : Clause) → t ≡ u → r ≡ rowIn names s (item.Tells u n) → r ≡ rowAt names s p
+  row-told t n h u g e = row-item _ (h ∙ ap (λ (x : Clause). item.Tells x n) g) e
 
 pub ruleset row-laws = (item-one, row-rule, row-fault, row-item, row-told, needs)

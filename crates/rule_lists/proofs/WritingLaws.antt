@@ -18,8 +18,8 @@ use Rattle.rules_parser.proofs.NumberLaws.{item-one}
 use Rattle.rules_parser.specs.Files.{itemAt}
 use Rattle.rules_parser.specs.declared.fields.Text.{Text}
 use Rattle.rules_parser.specs.declared.lines.FileKind.the-variants.{Rules}
-use Rattle.rules_parser.specs.declared.lines.Told.{Told}
-use Rattle.rules_parser.specs.declared.lines.Told.the-variants as told
+use Rattle.rules_parser.specs.declared.lines.Clause.{Clause}
+use Rattle.rules_parser.specs.declared.lines.Clause.the-variants as told
 use Rattle.rules_parser.specs.declared.files.Item.{Item}
 use Rattle.rules_parser.specs.declared.files.Item.the-variants as item
 use Rattle.rule_lists.specs.Lines.{ruleIn}
@@ -42,7 +42,7 @@ module _ (s : List ℕ) (place : ℕ) (r : Item) (g : r ≡ itemAt Rules s place
   unfolding rowPut
   item-put x q o′ e w = let same : x ≡ itemAt Rules s place = sym q ∙ g in rw same at w
 
-  pub row-rule : (t : Told) (n : ℕ) → r ≡ item.Tells t n → (a b c d : Text) → t ≡ told.Rule a b c d → (o′ : List ℕ) (e : ℕ) → Put o o′ at e (rulePut (ruleIn s a b c d)) → Put o o′ at e (rowPut s place)
+  pub row-rule : (t : Clause) (n : ℕ) → r ≡ item.Tells t n → (a b c d : Text) → t ≡ told.Rule a b c d → (o′ : List ℕ) (e : ℕ) → Put o o′ at e (rulePut (ruleIn s a b c d)) → Put o o′ at e (rowPut s place)
   unfolding itemPut
   row-rule t n q a b c d u o′ e w = item-put (item.Tells (told.Rule a b c d) n) (rw u at q) o′ e w
 
@@ -50,7 +50,7 @@ module _ (s : List ℕ) (place : ℕ) (r : Item) (g : r ≡ itemAt Rules s place
     pub row-none : (x : Item) → r ≡ x → [] ≡ itemPut s x → Put o o at at (rowPut s place)
     row-none x q e = item-put x q o at (rw (← e) (put-none o at (slice-room o h) k))
 
-    pub row-other : (t : Told) (n : ℕ) → r ≡ item.Tells t n → (x : Told) → t ≡ x → [] ≡ itemPut s (item.Tells x n) → Put o o at at (rowPut s place)
+    pub row-other : (t : Clause) (n : ℕ) → r ≡ item.Tells t n → (x : Clause) → t ≡ x → [] ≡ itemPut s (item.Tells x n) → Put o o at at (rowPut s place)
     row-other t n q x u e = row-none (item.Tells x n) (rw u at q) e
 
 -- ---- a list: rows by keys

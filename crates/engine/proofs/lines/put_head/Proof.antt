@@ -1,13 +1,9 @@
-use native.Mathlib.Omega.{arith}
 use borrow.Author.Needs.{needs}
 use Rattle.engine.proofs.LineLaws.{head-is, digit-small}
 use Rattle.engine.proofs.lines.put_head.Statement.{statement}
 use Rattle.engine.proofs.lines.put_head.Tie as tie
 
-returns : tie.Need-returns
-returns c = head-is (c .before .before .before .before .before .before .args .flag) (c .before .before .copy .ensures)
-
 pub put-head-spec : {M : Type 1} → statement M
 put-head-spec =
-    tie.close (tie.spec (λ c. search needs) (λ c. omega (arith, digit-small (c .before .args .flag))) (λ c. search needs) (λ c κs. search needs)
-    (λ c. search needs) returns)
+    tie.close (tie.spec (λ c. search needs) (λ c. search (digit-small, needs)) (λ c. search needs) (λ c κs. search needs)
+    (λ c. search needs) (λ c. search (head-is, needs)))

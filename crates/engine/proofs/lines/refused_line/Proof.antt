@@ -1,5 +1,5 @@
-use borrow.Author.Needs.{needs}
 use Rattle.engine.proofs.LineLaws.{lines-laws}
+use borrow.Author.Needs.{needs}
 use Rattle.engine.proofs.lines.refused_line.Statement.{statement}
 use Rattle.engine.proofs.lines.refused_line.Tie as tie
 
