@@ -5,9 +5,9 @@ ghost use Prim.Native.Nat.{_≤_};
 ghost use lib.ListN.{length};
 use crate::taken;
 use crate::words;
+use rules_parser::Clause;
 use rules_parser::FileKind;
 use rules_parser::Item;
-use rules_parser::Told;
 use taken::Taken;
 
 // A line's name, of which `len` bytes were copied, none where it has no name; and where the next line begins.
@@ -47,15 +47,15 @@ fn read_line(kind: FileKind, s: &[u8], p: usize, buf: &mut [u8]) -> Line
     match rules_parser::read_item(kind, s, p) {
         Item::Passed { lines: _, next } => no_name(next),
         Item::Tells { told, next } => match told {
-            Told::Name { name } => naming(rules_parser::part(s, name), next, buf),
-            Told::Include { name } => naming(rules_parser::part(s, name), next, buf),
-            Told::Rule {
+            Clause::Name { name } => naming(rules_parser::part(s, name), next, buf),
+            Clause::Include { name } => naming(rules_parser::part(s, name), next, buf),
+            Clause::Rule {
                 pattern: _,
                 left: _,
                 right: _,
                 expression: _,
             } => no_name(next),
-            Told::Guess {
+            Clause::Guess {
                 pattern: _,
                 names: _,
                 accept: _,

@@ -6,9 +6,8 @@ use mathlib.Core.List.{List, [], _∷_}
 use mathlib.Core.Logic.{⊎-elim}
 use Prim.Native.Nat.{ℕ, zero, suc, _≤_}
 use native.Mathlib.Omega.{arith}
-use lib.Dec.{leb}
 use lib.ListN.{length, take}
-use lib.Seq.{sets-eq, length-sets, take-at}
+use lib.Seq.{sets, sets-eq, length-sets, take-at}
 use borrow.Author.Tests.{leb-true, le-leb}
 use Rattle.refusals.specs.declared.Refusal.{Refusal}
 use Rattle.refusals.specs.Numbers.{numberOf}
@@ -17,23 +16,24 @@ use Rattle.base.proofs.Arms.{clash}
 use Rattle.prefixes.specs.declared.prefixes.NameType.{NameType}
 use Rattle.prefixes.specs.declared.prefixes.NameType.the-variants.{Ashkenazi, Generic, Sephardic}
 use Rattle.strings.specs.Reading.{Read, cut, got}
-use Rattle.pack.specs.Packs.{Guess, Pack, accepted, packOf, all, guessesGood, listGood, listCount}
+use Rattle.pack.specs.Packs.{Guess, Pack, accepted, packOf, guessesGood, listGood, listCount}
 use Rattle.rule_lines.specs.Rules.{Rule, ruleGood}
 use Rattle.pack_bytes.specs.Bytes.{namesBytes, packBytes}
 use Rattle.pack_bytes.proofs.Laws.{packed}
 use Rattle.bundles.specs.Bundles.{File, Found, missing, found, readBundle}
 use Rattle.rule_lists.specs.Outcomes as outcome
 use Rattle.rule_lists.specs.Lists.{typePrefix, listFiles, listsOf}
-use Rattle.rule_lists.proofs.WalkLaws.{GoodRead}
 use Rattle.rule_lists.proofs.FileLaws.{list-good}
-use Rattle.loader.specs.Guesses.{guessesOf}
-use Rattle.loader.specs.Loading.{onType, onListed, namesOf, guessFile, listsIn, packFrom, onBundle, loadOf, written, LoadNumbers, doneAt, refusedAt, loadedNumbers, answer, filled, AnswerIs, LoadIs}
-use Rattle.loader.specs.declared.loading.Loaded.{Loaded}
-use Rattle.loader.specs.declared.loading.Loaded.the-variants.{Done, Refused}
-use Rattle.loader.proofs.FileLaws.{fine-is, then-fine}
-use Rattle.loader.proofs.LanguageLaws.{strings-names}
-use Rattle.loader.proofs.GuessLaws.{guesses-good}
-use Rattle.loader.proofs.LoadingLaws.{names-good, lists-counted}
+use Rattle.loader.specs as specs
+use specs.Guesses.{guessesOf}
+use specs.Loading.{onType, onListed, namesOf, guessFile, listsIn, packFrom, onBundle, loadOf, written, LoadNumbers, doneAt, refusedAt, loadedNumbers, answer, filled, AnswerIs, LoadIs}
+use specs.declared.loading.Loaded.{Loaded}
+use specs.declared.loading.Loaded.the-variants.{Done, Refused}
+use Rattle.loader.proofs as own
+use own.FileLaws.{fine-is, then-fine, each-all}
+use own.NameLaws.{strings-names}
+use own.GuessLaws.{guesses-good}
+use own.LoadingLaws.{names-good, lists-counted}
 use Rattle.base.proofs.PickLaws.{pick-true, pick-inv, and-yes}
 use Rattle.pack_bytes.specs.Contracts.{Each, none, more, GoodPack}
 
@@ -79,10 +79,12 @@ pub record LoadedFrom (s : List ℕ) (p : Pack) : Type 0 where
   pub read : readBundle s ≡ got files rest
   pub parts : PartsOf kind files p
 
-good-bundle : (kind : NameType) (s : List ℕ) (p : Pack) (x : Read (List File)) → readBundle s ≡ x → onBundle x (packFrom kind) ≡ outcome.fine p → LoadedFrom s p
+good-bundle : (kind : NameType) (s : List ℕ) (p : Pack) (x : Read (List File)) → readBundle s ≡ x → onBundle x (packFrom kind) ≡ outcome.fine p
+    → LoadedFrom s p
 unfolding onBundle
 good-bundle kind s p cut r e = clash (cc)
-good-bundle kind s p (got fs q) r e = ⊎-elim (λ w. record { kind = kind; files = fs; rest = q; read = r; parts = parts-of kind fs p (w .1) }) (λ w. clash (cc (w .1))) (pick-inv _ _ _ _ e)
+good-bundle kind s p (got fs q) r e =
+    ⊎-elim (λ w. record { kind = kind; files = fs; rest = q; read = r; parts = parts-of kind fs p (w .1) }) (λ w. clash (cc (w .1))) (pick-inv _ _ _ _ e)
 
 loaded-from : (ty : ℕ) (s : List ℕ) (p : Pack) → loadOf ty s ≡ outcome.fine p → LoadedFrom s p
 unfolding loadOf onType
@@ -93,21 +95,18 @@ loaded-from (suc (suc (suc n))) s p e = clash (cc)
 
 -- ---- they are good
 
-rules-good : (names : List ℕ) (rs : List Rule) → Each (GoodRead names) rs → all (ruleGood names) rs ≡ true
-unfolding all
-rules-good names [] none = refl
-rules-good names (r ∷ rs) (more g w) = and-yes _ _ g (rules-good names rs w)
-
-lists-good : (names : List ℕ) (fs : List File) (ws : List (List ℕ)) (ls : List (List Rule)) → listsOf names fs ws ≡ outcome.fine ls → Each (λ rs. listGood names rs ≡ true) ls
+lists-good : (names : List ℕ) (fs : List File) (ws : List (List ℕ)) (ls : List (List Rule)) → listsOf names fs ws ≡ outcome.fine ls
+    → Each (λ rs. listGood names rs ≡ true) ls
 unfolding listsOf listGood
 lists-good names fs [] ls e = rw (← fine-is e) none
 lists-good names fs (w ∷ ws) ls e =
     let a = then-fine _ _ ls e in
     let b = then-fine _ _ ls (a .2) in
     let g = list-good names fs w (a .0) (a .1) in
-    rw (← fine-is (b .2)) (more (and-yes _ _ (le-leb _ _ (g .few)) (and-yes _ _ (rules-good names (a .0) (g .each)) (g .order))) (lists-good names fs ws (b .0) (b .1)))
+    rw (← fine-is (b .2)) (more (and-yes _ _ (le-leb _ _ (g .few)) (and-yes _ _ (each-all (ruleGood names) (g .each)) (g .order))) (lists-good names fs ws (b .0) (b .1)))
 
-found-guesses : (xs : List (List ℕ)) (gs : List Guess) (x : Found) → onListed x (guessesOf (namesBytes xs)) ≡ outcome.fine gs → guessesGood (length xs) gs ≡ true
+found-guesses : (xs : List (List ℕ)) (gs : List Guess) (x : Found) → onListed x (guessesOf (namesBytes xs)) ≡ outcome.fine gs
+    → guessesGood (length xs) gs ≡ true
 unfolding onListed
 found-guesses xs gs missing e = clash (cc)
 found-guesses xs gs (found f s) e = guesses-good (namesBytes xs) xs (strings-names xs) f s gs e
@@ -130,14 +129,22 @@ pub record Written (ty : ℕ) (s : List ℕ) (n : ℕ) (out′ : List ℕ) : Typ
   pub front : take n out′ ≡ packBytes it
   pub accepts : packOf (take n out′) ≡ accepted it
 
-fits : (b out out′ : List ℕ) (n : ℕ) → doneAt n ≡ answer (outcome.fine b) (length out) → out′ ≡ filled (outcome.fine b) out → take n out′ ≡ b
-unfolding answer filled
-fits b out out′ n r h = ⊎-elim (λ w. yes-so (w .0) (ap (λ (m : LoadNumbers). m .place) (w .1))) (λ w. not-done _ _ _ n (w .1)) (pick-inv _ _ _ _ (sym r))
-  where
-    yes-so : leb (length b) (length out) ≡ true → length b ≡ n → take n out′ ≡ b
-    yes-so t e = rw (h ∙ pick-true _ _ _ t ∙ sets-eq b out 0 (omega (arith, leb-true (length b) (length out) t))) (take-at b _ n e)
+done-inv : (b : List ℕ) (n m : ℕ) → doneAt n ≡ answer (outcome.fine b) m → (length b ≡ n) × (length b ≤ m)
+unfolding answer
+done-inv b n m e =
+    ⊎-elim (λ w. (ap (λ (k : LoadNumbers). k .place) (w .1), leb-true _ _ (w .0))) (λ w. not-done _ _ _ n (w .1)) (pick-inv _ _ _ _ (sym e))
 
-written-by : (ty : ℕ) (s out out′ : List ℕ) (n : ℕ) (x : outcome.Loading Pack) → loadOf ty s ≡ x → AnswerIs (written x) out (Done n) out′ → Written ty s n out′
+filled-is : (b out out′ : List ℕ) → out′ ≡ filled (outcome.fine b) out → length b ≤ length out → out′ ≡ sets out 0 b
+unfolding filled
+filled-is b out out′ e h = e ∙ pick-true _ _ _ (le-leb _ _ h)
+
+fits : (b out out′ : List ℕ) (n : ℕ) → doneAt n ≡ answer (outcome.fine b) (length out) → out′ ≡ filled (outcome.fine b) out → take n out′ ≡ b
+fits b out out′ n r h =
+    let i = done-inv b n (length out) r in
+    rw (filled-is b out out′ h (i .1), sets-eq b out 0 (omega (arith, i .1))) (take-at b _ n (i .0))
+
+written-by : (ty : ℕ) (s out out′ : List ℕ) (n : ℕ) (x : outcome.Loading Pack) → loadOf ty s ≡ x → AnswerIs (written x) out (Done n) out′
+    → Written ty s n out′
 unfolding written answer loadedNumbers
 written-by ty s out out′ n (outcome.fine p) e a =
     let f : take n out′ ≡ packBytes p = fits (packBytes p) out out′ n (a .result) (a .buffer) in
@@ -151,14 +158,12 @@ load-accepted ty s out out′ n a = written-by ty s out out′ n (loadOf ty s) r
 
 -- for a program that takes the pack out of its buffer
 within-by : (x : outcome.Loading (List ℕ)) (out out′ : List ℕ) (n : ℕ) → AnswerIs x out (Done n) out′ → n ≤ length out′
-unfolding answer filled loadedNumbers
+unfolding answer loadedNumbers
 within-by (outcome.notLoaded c l f) out out′ n a = not-done c l f n (sym (a .result))
-within-by (outcome.fine b) out out′ n a = ⊎-elim (λ w. yes-so (w .0) (ap (λ (m : LoadNumbers). m .place) (w .1))) (λ w. not-done _ _ _ n (w .1)) (pick-inv _ _ _ _ (sym (a .result)))
-  where
-    yes-so : leb (length b) (length out) ≡ true → length b ≡ n → n ≤ length out′
-    yes-so t e =
-        let size : length out′ ≡ length out = ap length (a .buffer ∙ pick-true _ _ _ t) ∙ length-sets out 0 b in
-        omega (arith, leb-true (length b) (length out) t)
+within-by (outcome.fine b) out out′ n a =
+    let i = done-inv b n (length out) (a .result) in
+    let size : length out′ ≡ length out = ap length (filled-is b out out′ (a .buffer) (i .1)) ∙ length-sets out 0 b in
+    omega (arith, i .0, i .1)
 
 pub load-within : (ty : ℕ) (s out out′ : List ℕ) (n : ℕ) (r : Loaded) → LoadIs ty s out r out′ → r ≡ Done n → n ≤ length out′
 load-within ty s out out′ n r a e = within-by (written (loadOf ty s)) out out′ n (rw (← e) a)

@@ -1,16 +1,15 @@
 -- The guessing file: a rule judged and written, the loop over its lines, and that what is kept is good in a pack. Assumes nothing.
-use mathlib.Core.Path.{_≡_, refl, sym, ap, ap₂, _∙_}
+use mathlib.Core.Path.{_≡_, refl, sym, ap, _∙_}
 use mathlib.Core.Bool.{Bool, true, false, not}
 use mathlib.Core.List.{List, [], _∷_, _++_}
-use Prim.Native.Nat.{ℕ, zero, suc, _+_, _-_, _*_, _^_, _≤_, _<_}
-use native.Mathlib.Nat.{zero-add}
+use Prim.Native.Nat.{ℕ, zero, suc, _+_, _*_, _^_, _≤_, _<_}
 use native.Mathlib.Omega.{arith}
+use borrow.Author.Needs.{needs}
 use lib.Bits.{bitOr, bitAnd, or-lt, and-zero-r}
-use lib.Dec.{eqb, leb, ltb}
+use lib.Dec.{eqb, leb}
 use lib.ListN.{length}
 use lib.Pow.{pow-pos}
 use types.Run.{OneOf, miss}
-use borrow.Author.Needs.{needs}
 use denote.Enum.Declared.{tagOf}
 use mir.Syntax.{w64}
 use mir.Val.{Fits, boolByte}
@@ -22,6 +21,7 @@ use Rattle.refusals.specs.declared.Refusal.the-variants.{LineUnreadable, Outsid
 use Rattle.strings.specs.Reading.{stringsOf}
 use Rattle.languages.specs.declared.names.Listed.{Listed}
 use Rattle.languages.specs.declared.names.Listed.the-variants.{Bit, Unlisted}
+use Rattle.languages.proofs.NumberLaws.{listed-one}
 use Rattle.languages.proofs.Laws.{is-listed, bit-held}
 use Rattle.phonemes.specs.Expressions.{plus, onFirst, cutAt, withBits, namesMask}
 use Rattle.lang.specs.Patterns.{inForms}
@@ -30,26 +30,27 @@ use Rattle.base.proofs.Arms.{clash}
 use Rattle.writing.proofs.Laws.{put-none, put-then, put-long, put-place}
 use Rattle.pack.specs.Packs.{Guess, guess, guessGood, guessesGood}
 use Rattle.pack_bytes.specs.Bytes.{textBytes, maskBytes, guessBytes}
-use Rattle.rules_parser.specs.Fields.{partOf}
-use Rattle.rules_parser.proofs.NumberLaws.{item-one}
-use Rattle.rules_parser.specs.Files.{itemAt}
-use Rattle.rules_parser.proofs.Laws.{passed-goes, passed-in, passed-lines, tells-goes, guess-pattern}
-use Rattle.rules_parser.proofs.lines.Told.{the-type}
-use Rattle.rules_parser.specs.declared.fields.Text.{Text}
-use Rattle.rules_parser.specs.declared.lines.FileKind.the-variants.{Guesses}
-use Rattle.rules_parser.specs.declared.lines.Told.{Told}
-use Rattle.rules_parser.specs.declared.lines.Told.the-variants as told
-use Rattle.rules_parser.specs.declared.files.Item.{Item}
-use Rattle.rules_parser.specs.declared.files.Item.the-variants.{Passed, Tells, Wrong}
+use Rattle.rules_parser.specs as rules_parser
+use rules_parser.Fields.{partOf}
+use rules_parser.Files.{itemAt}
+use Rattle.rules_parser.proofs.Laws.{passed-goes, tells-goes, guess-pattern}
+use Rattle.rules_parser.proofs.lines.Clause.{the-type}
+use rules_parser.declared.fields.Text.{Text}
+use rules_parser.declared.lines.FileKind.the-variants.{Guesses}
+use rules_parser.declared.lines.Clause.{Clause}
+use rules_parser.declared.lines.Clause.the-variants as told
+use rules_parser.declared.files.Item.{Item}
+use rules_parser.declared.files.Item.the-variants.{Passed, Tells, Wrong}
 use Rattle.rule_lists.specs.Outcomes.{Loading, fine, notLoaded, andLoad}
-use Rattle.loader.specs.Files.{Kept, keeps, fault}
-use Rattle.loader.specs.Guesses.{acceptOf, withMask, judgedGuess, guessOf, guessesIn, countedGuesses, guessesOf}
-use Rattle.loader.specs.Contracts.{judgment, judgedAs, guessPut, GuessesTold, GuessesAre}
-use Rattle.loader.specs.declared.guesses.Judged.{Judged}
-use Rattle.loader.specs.declared.guesses.Judged.the-variants.{Mask, Fault}
-use Rattle.loader.specs.declared.guesses.Guessed.{Guessed}
-use Rattle.loader.specs.declared.guesses.Guessed.the-variants.{Done, Refused}
-use Rattle.loader.proofs.FileLaws.{fine-is, then-fine, toldFrom, told-start, told-end, told-wrong, told-passed, told-fault, told-kept, each-told, each-all}
+use Rattle.loader.specs as specs
+use specs.Files.{Kept, keeps, fault}
+use specs.Guesses.{acceptOf, withMask, judgedGuess, guessOf, guessesIn, countedGuesses, guessesOf}
+use specs.Contracts.{judgment, judgedAs, guessPut, GuessesWritten, GuessesAre}
+use specs.declared.guesses.Judged.{Judged}
+use specs.declared.guesses.Judged.the-variants.{Mask, Fault}
+use specs.declared.guesses.Guessed.{Guessed}
+use specs.declared.guesses.Guessed.the-variants.{Done, Refused}
+use Rattle.loader.proofs.FileLaws.{fine-is, then-fine, toldFrom, told-start, told-end, told-wrong, told-passed, told-fault, told-kept, each-told, each-all, AtLine, line-start, passed-line, told-line, line-steps}
 use Rattle.base.proofs.PickLaws.{pick-true, pick-false, pick-all, and-yes}
 use Rattle.held.specs.Met.{bytesOfAll}
 use Rattle.pack_bytes.specs.Contracts.{textPut, none, more}
@@ -79,35 +80,41 @@ module _ (names pattern joined : List ℕ) where
       unfolding judgment withMask
       judge-mask m p = rw p at listed-by
 
-      pub judge-stranger : x ≡ Unlisted → Fault NameUnlisted ≡ judgedAs names pattern joined
+      pub judge-unlisted : x ≡ Unlisted → Fault NameUnlisted ≡ judgedAs names pattern joined
       unfolding judgment withMask
-      judge-stranger p = rw p at listed-by
+      judge-unlisted p = rw p at listed-by
 
-pub ruleset judge-laws = (judge-long, judge-bad, judge-mask, judge-stranger)
+pub ruleset judges = (needs, listed-one, judge-long, judge-bad, judge-mask, judge-unlisted)
 
 -- what a judgment tells, whether the rule accepts or not
 abbrev judgedBy : Bool → List ℕ → Bool → Bool → Listed → Kept Guess
 judgedBy v pattern t u x = pick t (fault TooMuch) (pick u (withMask v pattern x) (fault OutsideForms))
 
-mask-by : (v : Bool) (pattern : List ℕ) (t u : Bool) (x : Listed) (m : ℕ) → judgment (judgedBy true pattern t u x) ≡ Mask m
-    → (t ≡ false) × (judgedBy v pattern t u x ≡ keeps (guess (acceptOf v) m pattern))
-unfolding judgment withMask pick
-mask-by v pattern true u x m e = clash (cc)
-mask-by v pattern false true (Bit k) m e = let same : k ≡ m = cc in (refl, ap (λ (i : ℕ). keeps (guess (acceptOf v) i pattern)) same)
-mask-by v pattern false true Unlisted m e = clash (cc)
-mask-by v pattern false false x m e = clash (cc)
+keptAs : Bool → List ℕ → Judged → Kept Guess
+keptAs v pattern (Mask m) = keeps (guess (acceptOf v) m pattern)
+keptAs v pattern (Fault c) = fault c
 
-fault-by : (v : Bool) (pattern : List ℕ) (t u : Bool) (x : Listed) (c : Refusal) → judgment (judgedBy true pattern t u x) ≡ Fault c → judgedBy v pattern t u x ≡ fault c
-unfolding judgment withMask pick
-fault-by v pattern true u x c e = let same : TooMuch ≡ c = cc in ap (λ (i : Refusal). fault i) same
-fault-by v pattern false true (Bit k) c e = clash (cc)
-fault-by v pattern false true Unlisted c e = let same : NameUnlisted ≡ c = cc in ap (λ (i : Refusal). fault i) same
-fault-by v pattern false false x c e = let same : OutsideForms ≡ c = cc in ap (λ (i : Refusal). fault i) same
+judged-is : (v : Bool) (pattern : List ℕ) (t u : Bool) (x : Listed)
+    → judgedBy v pattern t u x ≡ keptAs v pattern (judgment (judgedBy true pattern t u x))
+unfolding judgment withMask pick keptAs
+judged-is v pattern true u x = refl
+judged-is v pattern false true (Bit k) = refl
+judged-is v pattern false true Unlisted = refl
+judged-is v pattern false false x = refl
+
+kept-inv : (v : Bool) (pattern : List ℕ) (t u : Bool) (x : Listed) (g : Guess) → judgedBy v pattern t u x ≡ keeps g
+    → (m : ℕ) × (t ≡ false) × (u ≡ true) × (x ≡ Bit m) × (guess (acceptOf v) m pattern ≡ g)
+unfolding withMask pick
+kept-inv v pattern true u x g e = clash (cc)
+kept-inv v pattern false true (Bit m) g e = (m, refl, refl, refl, cc)
+kept-inv v pattern false true Unlisted g e = clash (cc)
+kept-inv v pattern false false x g e = clash (cc)
 
 -- ---- a rule written
 
 module _ (o o₁ o₂ o₃ : List ℕ) (at p q r : ℕ) where
-  pub guess-put : (v : Bool) (m : ℕ) (pattern : List ℕ) → Put o o₁ at p (boolByte v ∷ []) → Put o₁ o₂ p q (maskBytes m) → Put o₂ o₃ q r (textPut pattern)
+  pub guess-put : (v : Bool) (m : ℕ) (pattern : List ℕ) → Put o o₁ at p (boolByte v ∷ []) → Put o₁ o₂ p q (maskBytes m)
+      → Put o₂ o₃ q r (textPut pattern)
       → Put o o₃ at r (guessPut v m pattern)
   unfolding guessPut acceptOf
   guess-put true m pattern x y z = put-then x (put-then y z)
@@ -119,32 +126,15 @@ put-bytes v m pattern h = ap (λ (n : ℕ). acceptOf v ∷ (maskBytes m ++ (n �
 
 -- ---- the loop: what is left of the file, written behind n rules
 
-unfoldable pub ToldFrom : ℕ → Loading (List Guess) → List ℕ → ℕ → Guessed → List ℕ → Type 0
-ToldFrom n (fine gs) o at r o′ = (p : ℕ) × (r ≡ Done (n + length gs) p) × Put o o′ at p (bytesOfAll guessBytes gs)
-ToldFrom n (notLoaded c l f) o at r o′ = r ≡ Refused c l f
-
-from-start : (x : Loading (List Guess)) (o : List ℕ) (at : ℕ) (r : Guessed) (o′ : List ℕ) → ToldFrom 0 x o at r o′ → GuessesTold x o at r o′
-unfolding ToldFrom GuessesTold
-from-start (fine gs) o at r o′ w = (w .0, w .1 ∙ ap (λ (n : ℕ). Done n (w .0)) (zero-add (length gs)), w .2)
-from-start (notLoaded c l f) o at r o′ w = w
-
 from-next : (n : ℕ) (g : Guess) (x : Loading (List Guess)) (o o₁ : List ℕ) (at p : ℕ) (r : Guessed) (o′ : List ℕ) → Put o o₁ at p (guessBytes g)
-    → ToldFrom (n + 1) x o₁ p r o′ → ToldFrom n (andLoad x (λ gs. fine (g ∷ gs))) o at r o′
-unfolding ToldFrom andLoad bytesOfAll
+    → GuessesWritten (n + 1) x o₁ p r o′ → GuessesWritten n (andLoad x (λ gs. fine (g ∷ gs))) o at r o′
+unfolding GuessesWritten andLoad bytesOfAll
 from-next n g (fine gs) o o₁ at p r o′ y w =
     let size : n + 1 + length gs ≡ n + suc (length gs) = omega arith in
     (w .0, w .1 ∙ ap (λ (k : ℕ). Done k (w .0)) size, put-then y (w .2))
 from-next n g (notLoaded c l f) o o₁ at p r o′ y w = w
 
-from-end : (n : ℕ) (o : List ℕ) (at : ℕ) → length o < cap → at ≤ cap → ToldFrom n (fine []) o at (Done n at) o
-unfolding ToldFrom bytesOfAll
-from-end n o at h k = let size : n ≡ n + 0 = omega arith in (at, ap (λ (i : ℕ). Done i at) size, put-none o at h k)
-
-from-refused : (n : ℕ) (c : Refusal) (l f : ℕ) (o : List ℕ) (at : ℕ) → ToldFrom n (notLoaded c l f) o at (Refused c l f) o
-unfolding ToldFrom
-from-refused n c l f o at = refl
-
-other : (names s : List ℕ) (t : Told) → OneOf (0 ∷ 1 ∷ 3 ∷ []) (tagOf the-type t) → guessOf names s t ≡ fault LineUnreadable
+other : (names s : List ℕ) (t : Clause) → OneOf (0 ∷ 1 ∷ 3 ∷ []) (tagOf the-type t) → guessOf names s t ≡ fault LineUnreadable
 unfolding guessOf
 other names s (told.Rule a b c d) h = refl
 other names s (told.Include a) h = refl
@@ -153,78 +143,56 @@ other names s (told.Name a) h = refl
 
 -- n rules were written up to the place `at` of o, and the file is read up to its place p, in line l
 pub record Writing (names s : List ℕ) (f : ℕ) (o₀ : List ℕ) (at₀ : ℕ) (o : List ℕ) (at n p l : ℕ) : Type 0 where
-  pub lines : l ≤ p + 1
+  pub line-at : AtLine s p l
   pub rules : n ≤ p
-  pub small : length s < cap
   pub room : length o < cap
   pub long : length o ≡ length o₀
   pub place : at ≤ cap
-  pub is : (r : Guessed) (o′ : List ℕ) → ToldFrom n (toldFrom (guessOf names s) f Guesses s l p) o at r o′ → GuessesAre names s f o₀ at₀ r o′
+  pub is : (r : Guessed) (o′ : List ℕ) → GuessesWritten n (toldFrom (guessOf names s) f Guesses s l p) o at r o′ → GuessesAre names s f o₀ at₀ r o′
 
-pub writing-start : (names s : List ℕ) (f : ℕ) (o : List ℕ) (at : ℕ) → length s * 1 < cap → length o * 1 < cap → at ≤ cap → Writing names s f o at o at 0 0 1
+pub writing-start : (names s : List ℕ) (f : ℕ) (o : List ℕ) (at : ℕ) → length s * 1 < cap → length o * 1 < cap → at ≤ cap
+    → Writing names s f o at o at 0 0 1
 unfolding GuessesAre guessesIn
 writing-start names s f o at b h k = record {
-  lines = omega arith;
+  line-at = line-start s b;
   rules = omega arith;
-  small = omega arith;
   room = omega arith;
   long = refl;
   place = k;
-  is = λ r o′ w. from-start _ o at r o′ (rw (told-start (guessOf names s) f Guesses s) at w);
+  is = λ r o′ w. rw (told-start (guessOf names s) f Guesses s) at w;
 }
 
 module _ {names s : List ℕ} {f : ℕ} {o₀ : List ℕ} {at₀ : ℕ} {o : List ℕ} {at n p l : ℕ} (w : Writing names s f o₀ at₀ o at n p l) where
   -- what is left comes to a refusal
   stops : (c : Refusal) → toldFrom (guessOf names s) f Guesses s l p ≡ notLoaded c l f → GuessesAre names s f o₀ at₀ (Refused c l f) o
-  stops c e = w .is _ o (rw e (from-refused n c l f o at))
-
-  pub writing-long : length o ≡ length o₀
-  writing-long = w .long
+  unfolding GuessesWritten
+  stops c e = w .is _ o (rw e refl)
 
   pub writing-done : length s ≤ p → GuessesAre names s f o₀ at₀ (Done n at) o
-  writing-done h = w .is _ o (rw (told-end (guessOf names s) f Guesses s l p h) (from-end n o at (w .room) (w .place)))
+  unfolding GuessesWritten bytesOfAll
+  writing-done h =
+      w .is _ o (rw (told-end (guessOf names s) f Guesses s l p h) (at, ap (λ (i : ℕ). Done i at) (omega arith), put-none o at (w .room) (w .place)))
 
-  module _ (h : p < length s) where
-    pub writing-count : Fits w64 (n + 1)
-    writing-count = record { fits = omega (arith, w .rules, w .small) }
+  pub writing-count : Fits w64 (n + 1)
+  writing-count = record { fits = omega (arith, w .rules, w .line-at .within, w .line-at .small) }
 
-    pub writing-line : Fits w64 (l + 1)
-    writing-line = record { fits = omega (arith, w .lines, w .small) }
+  module _ (x : Item) (e : x ≡ itemAt Guesses s p) where
+    pub writing-wrong : p < length s → x ≡ Wrong → GuessesAre names s f o₀ at₀ (Refused LineUnreadable l f) o
+    writing-wrong h q = stops LineUnreadable (told-wrong (guessOf names s) f Guesses s l p h (sym e ∙ q))
 
-  module _ (h : p < length s) (x : Item) (e : x ≡ itemAt Guesses s p) where
-    pub writing-wrong : x ≡ Wrong → GuessesAre names s f o₀ at₀ (Refused LineUnreadable l f) o
-    writing-wrong q = stops LineUnreadable (told-wrong (guessOf names s) f Guesses s l p h (sym e ∙ q))
+    pub writing-passed : (k i : ℕ) → x ≡ Passed k i → Writing names s f o₀ at₀ o at n i (l + k)
+    writing-passed k i q = record {
+      line-at = passed-line Guesses s p l (w .line-at) x e k i q;
+      rules = omega (arith, w .rules, passed-goes Guesses s p k i (sym e ∙ q));
+      room = w .room;
+      long = w .long;
+      place = w .place;
+      is = λ r o′ y. w .is r o′ (rw (told-passed (guessOf names s) f Guesses s l p k i (sym e ∙ q)) y);
+    }
 
-    module _ (k i : ℕ) (q : x ≡ Passed k i) where
-      here-passed : itemAt Guesses s p ≡ Passed k i
-      here-passed = sym e ∙ q
-
-      lines-passed : l + k ≤ i + 1
-      lines-passed = omega (arith, w .lines, passed-goes Guesses s p k i here-passed, passed-lines Guesses s p k i here-passed)
-
-      pub writing-lines : Fits w64 (l + k)
-      writing-lines = record { fits = omega (arith, lines-passed, passed-in Guesses s p k i here-passed, w .small) }
-
-      pub passed-less : length s - i < length s - p
-      passed-less = omega (arith, passed-goes Guesses s p k i here-passed)
-
-      pub writing-passed : Writing names s f o₀ at₀ o at n i (l + k)
-      writing-passed = record {
-        lines = lines-passed;
-        rules = omega (arith, w .rules, passed-goes Guesses s p k i here-passed);
-        small = w .small;
-        room = w .room;
-        long = w .long;
-        place = w .place;
-        is = λ r o′ y. w .is r o′ (rw (told-passed (guessOf names s) f Guesses s l p k i here-passed) y);
-      }
-
-    module _ (t : Told) (i : ℕ) (q : x ≡ Tells t i) where
+    module _ (t : Clause) (i : ℕ) (q : x ≡ Tells t i) where
       here-tells : itemAt Guesses s p ≡ Tells t i
       here-tells = sym e ∙ q
-
-      pub tells-less : length s - i < length s - p
-      tells-less = omega (arith, tells-goes Guesses s p t i here-tells)
 
       faulty : (c : Refusal) → guessOf names s t ≡ fault c → GuessesAre names s f o₀ at₀ (Refused c l f) o
       faulty c m = stops c (told-fault (guessOf names s) f Guesses s l p t i c here-tells m)
@@ -234,34 +202,43 @@ module _ {names s : List ℕ} {f : ℕ} {o₀ : List ℕ} {at₀ : ℕ} {o : Lis
 
       module _ (a b : Text) (v : Bool) (g : t ≡ told.Guess a b v) (pattern joined : List ℕ) (ea : pattern ≡ partOf s a) (eb : joined ≡ partOf s b)
           (j : Judged) (ej : j ≡ judgedAs names pattern joined) where
-        judged-here : (y : Kept Guess) → judgedGuess names v pattern joined ≡ y → guessOf names s t ≡ y
+        judged : (k : Judged) → j ≡ k → judgedGuess names v pattern joined ≡ keptAs v pattern k
+        unfolding judgedAs judgedGuess
+        judged k z = judged-is v pattern _ _ _ ∙ ap (keptAs v pattern) (sym ej ∙ z)
+
+        here : guessOf names s t ≡ judgedGuess names v pattern joined
         unfolding guessOf
-        judged-here y z = ap (guessOf names s) g ∙ ap₂ (judgedGuess names v) (sym ea) (sym eb) ∙ z
+        here = rw (g, ← ea, ← eb) refl
 
         pub writing-fault : (c : Refusal) → j ≡ Fault c → GuessesAre names s f o₀ at₀ (Refused c l f) o
-        unfolding judgedAs judgedGuess
-        writing-fault c z = faulty c (judged-here _ (fault-by v pattern _ _ _ c (sym ej ∙ z)))
+        unfolding keptAs
+        writing-fault c z = faulty c (here ∙ judged (Fault c) z)
 
-        module _ (m : ℕ) (z : j ≡ Mask m) where
-          kept : (ltb 255 (length pattern) ≡ false) × (judgedGuess names v pattern joined ≡ keeps (guess (acceptOf v) m pattern))
-          unfolding judgedAs judgedGuess
-          kept = mask-by v pattern _ _ _ m (sym ej ∙ z)
+        pub writing-kept : (m : ℕ) → j ≡ Mask m → (o₁ : List ℕ) (r : ℕ) → Put o o₁ at r (guessPut v m pattern)
+            → Writing names s f o₀ at₀ o₁ r (n + 1) i (l + 1)
+        unfolding keptAs judgedGuess
+        writing-kept m z o₁ r y =
+            let bytes = rw (put-bytes v m pattern (ltb-false _ _ (kept-inv v pattern _ _ _ _ (judged (Mask m) z) .1))) at y in
+            record {
+              line-at = told-line Guesses s p l (w .line-at) x e t i q;
+              rules = omega (arith, w .rules, tells-goes Guesses s p t i here-tells);
+              room = omega (arith, w .room, put-long o o₁ at r _ y);
+              long = put-long o o₁ at r _ y ∙ w .long;
+              place = put-place o o₁ at r _ y;
+              is = λ u o′ x. w .is u o′ (rw (told-kept (guessOf names s) f Guesses s l p t i _ here-tells (here ∙ judged (Mask m) z)) (from-next n _ _ o o₁ at r u o′ bytes x));
+            }
 
-          pub writing-kept : (o₁ : List ℕ) (r : ℕ) → Put o o₁ at r (guessPut v m pattern) → Writing names s f o₀ at₀ o₁ r (n + 1) i (l + 1)
-          writing-kept o₁ r y =
-              let goes = tells-goes Guesses s p t i here-tells in
-              let bytes = rw (put-bytes v m pattern (ltb-false _ _ (kept .0))) at y in
-              record {
-                lines = omega (arith, w .lines);
-                rules = omega (arith, w .rules);
-                small = w .small;
-                room = omega (arith, w .room, put-long o o₁ at r _ y);
-                long = put-long o o₁ at r _ y ∙ w .long;
-                place = put-place o o₁ at r _ y;
-                is = λ u o′ x. w .is u o′ (rw (told-kept (guessOf names s) f Guesses s l p t i _ here-tells (judged-here _ (kept .1))) (from-next n _ _ o o₁ at r u o′ bytes x));
-              }
-
-pub ruleset writing-laws = (needs, item-one, writing-start, writing-long, writing-done, writing-count, writing-line, writing-wrong, writing-lines, passed-less, writing-passed, tells-less, writing-other, writing-fault, writing-kept)
+pub ruleset writes = (
+  line-steps,
+  writing-start,
+  writing-done,
+  writing-count,
+  writing-wrong,
+  writing-passed,
+  writing-other,
+  writing-fault,
+  writing-kept,
+)
 
 -- ---- what is kept is good in a pack
 
@@ -302,21 +279,13 @@ module _ (names : List ℕ) where
       let l = is-listed names n (i .0) _ refl (i .2) in
       or-by (i .0) (i .1) m (i .4) (rw (l .bit) (pow-pos (l .place)))
 
-kept-inv : (v : Bool) (pattern : List ℕ) (t u : Bool) (x : Listed) (g : Guess) → judgedBy v pattern t u x ≡ keeps g
-    → (m : ℕ) × (u ≡ true) × (x ≡ Bit m) × (guess (acceptOf v) m pattern ≡ g)
-unfolding withMask pick
-kept-inv v pattern true u x g e = clash (cc)
-kept-inv v pattern false true (Bit m) g e = (m, refl, refl, cc)
-kept-inv v pattern false true Unlisted g e = clash (cc)
-kept-inv v pattern false false x g e = clash (cc)
-
 accept-good : (v : Bool) → leb (acceptOf v) 1 ≡ true
 unfolding acceptOf
 accept-good true = refl
 accept-good false = refl
 
 -- a line that is kept
-kept-good : (names s : List ℕ) (p : ℕ) (t : Told) (n : ℕ) (g : Guess) → itemAt Guesses s p ≡ Tells t n → guessOf names s t ≡ keeps g
+kept-good : (names s : List ℕ) (p : ℕ) (t : Clause) (n : ℕ) (g : Guess) → itemAt Guesses s p ≡ Tells t n → guessOf names s t ≡ keeps g
     → guessGood (length (stringsOf names)) g ≡ true
 unfolding guessOf judgedGuess guessGood
 kept-good names s p (told.Rule a b c d) n g e k = clash (cc)
@@ -324,10 +293,10 @@ kept-good names s p (told.Include a) n g e k = clash (cc)
 kept-good names s p (told.Name a) n g e k = clash (cc)
 kept-good names s p (told.Guess a b v) n g e k =
     let i = kept-inv v (partOf s a) _ _ _ g k in
-    let some = mask-some names _ (i .0) (cut-some plus (partOf s b)) (i .2) in
+    let some = mask-some names _ (i .0) (cut-some plus (partOf s b)) (i .3) in
     let more = ap not (ne-eqb (i .0) 0 (λ z. omega arith)) in
-    rw (← i .3) (and-yes _ _ (accept-good v) (and-yes _ _ more
-    (and-yes _ _ (lt-ltb _ _ (mask-held names _ (i .0) (i .2))) (and-yes _ _ (guess-pattern s p a b v n e) (i .1)))))
+    rw (← i .4) (and-yes _ _ (accept-good v) (and-yes _ _ more
+    (and-yes _ _ (lt-ltb _ _ (mask-held names _ (i .0) (i .3))) (and-yes _ _ (guess-pattern s p a b v n e) (i .2)))))
 
 counted-inv : (t : Bool) (gs hs : List Guess) → pick t (fine gs) (notLoaded TooMuch 0 0) ≡ fine hs → (t ≡ true) × (gs ≡ hs)
 unfolding pick
@@ -335,7 +304,8 @@ counted-inv true gs hs e = (refl, fine-is e)
 counted-inv false gs hs e = clash (cc)
 
 -- `names` is the bytes of the languages xs, each behind its length byte
-pub guesses-good : (names : List ℕ) (xs : List (List ℕ)) → stringsOf names ≡ xs → (f : ℕ) (s : List ℕ) (gs : List Guess) → guessesOf names f s ≡ fine gs → guessesGood (length xs) gs ≡ true
+pub guesses-good : (names : List ℕ) (xs : List (List ℕ)) → stringsOf names ≡ xs → (f : ℕ) (s : List ℕ) (gs : List Guess)
+    → guessesOf names f s ≡ fine gs → guessesGood (length xs) gs ≡ true
 unfolding guessesOf guessesIn countedGuesses guessesGood
 guesses-good names xs listed f s gs e =
     let w = then-fine _ _ gs e in

@@ -1,6 +1,6 @@
 pub mod FileLaws
+pub mod NameLaws
 pub mod LanguageLaws
 pub mod GuessLaws
-pub mod PartLaws
 pub mod LoadingLaws
 pub mod Accepted

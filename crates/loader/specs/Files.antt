@@ -3,7 +3,7 @@ use Prim.Native.Nat.{ℕ, _+_}
 use mathlib.Core.List.{List, [], _∷_}
 use Rattle.refusals.specs.declared.Refusal.{Refusal}
 use Rattle.refusals.specs.declared.Refusal.the-variants.{LineUnreadable}
-use Rattle.rules_parser.specs.declared.lines.Told.{Told}
+use Rattle.rules_parser.specs.declared.lines.Clause.{Clause}
 use Rattle.rules_parser.specs.declared.files.Item.{Item}
 use Rattle.rules_parser.specs.declared.files.Item.the-variants.{Passed, Tells, Wrong}
 use Rattle.rule_lists.specs.Outcomes.{Loading, fine, notLoaded, andLoad}
@@ -18,7 +18,7 @@ onKept (keeps a) bad k = k a
 onKept (fault c) bad k = bad c
 
 -- what the lines of file f say, the items beginning in line l; "12 line not readable"
-unfoldable pub toldIn : {A : Type 0} → (Told → Kept A) → ℕ → ℕ → List Item → Loading (List A)
+unfoldable pub toldIn : {A : Type 0} → (Clause → Kept A) → ℕ → ℕ → List Item → Loading (List A)
 toldIn meaning f l [] = fine []
 toldIn meaning f l (Passed k n ∷ is) = toldIn meaning f (l + k) is
 toldIn meaning f l (Tells t n ∷ is) =

@@ -14,8 +14,8 @@ use Rattle.pack.specs.Packs as packs
 use Rattle.rules_parser.specs.Fields.{partOf}
 use Rattle.rules_parser.specs.Files.{itemsOf}
 use Rattle.rules_parser.specs.declared.lines.FileKind.the-variants.{Guesses}
-use Rattle.rules_parser.specs.declared.lines.Told.{Told}
-use Rattle.rules_parser.specs.declared.lines.Told.the-variants.{Rule, Include, Guess, Name}
+use Rattle.rules_parser.specs.declared.lines.Clause.{Clause}
+use Rattle.rules_parser.specs.declared.lines.Clause.the-variants.{Rule, Include, Guess, Name}
 use Rattle.rule_lists.specs.Outcomes.{Loading, fine, notLoaded, andLoad}
 use Rattle.loader.specs.Files.{Kept, keeps, fault, toldIn}
 
@@ -34,7 +34,7 @@ unfoldable pub judgedGuess : List ℕ → Bool → List ℕ → List ℕ → Kep
 judgedGuess names v pattern joined =
     pick (ltb 255 (length pattern)) (fault TooMuch) (pick (inForms pattern) (withMask v pattern (namesMask names (cutAt plus joined))) (fault OutsideForms))
 
-unfoldable pub guessOf : List ℕ → List ℕ → Told → Kept packs.Guess
+unfoldable pub guessOf : List ℕ → List ℕ → Clause → Kept packs.Guess
 guessOf names s (Rule a b c d) = fault LineUnreadable
 guessOf names s (Include t) = fault LineUnreadable
 guessOf names s (Guess a b v) = judgedGuess names v (partOf s a) (partOf s b)

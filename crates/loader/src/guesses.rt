@@ -5,10 +5,10 @@ ghost use Rattle.writing.specs.Contracts.{Put, cap};
 ghost use Rattle.loader.specs.Contracts.{guessPut, judgedAs, GuessesAre};
 use languages::Listed;
 use refusals::Refusal;
+use rules_parser::Clause;
 use rules_parser::FileKind;
 use rules_parser::Item;
 use rules_parser::Text;
-use rules_parser::Told;
 
 // The mask of a guessing rule, or its fault.
 pub(crate) enum Judged {
@@ -83,7 +83,7 @@ pub(crate) fn write_guesses(
                 p = next;
             }
             Item::Tells { told, next } => match told {
-                Told::Guess {
+                Clause::Guess {
                     pattern,
                     names: joined,
                     accept,

@@ -6,7 +6,7 @@ ghost use lib.ListN.{length};
 ghost use Rattle.bundles.specs.PlaceContracts.{fileAt};
 ghost use Rattle.rule_lists.specs.Lists.{typePrefix};
 ghost use Rattle.loader.specs.Loading.{languagesPart, langPart, namesOf, guessFile, packFrom, written, AnswerIs, LoadIs};
-ghost use Rattle.loader.specs.Contracts.{typeNumbered, NamesTold, guessesBytes, packedOf};
+ghost use Rattle.loader.specs.Contracts.{typeNumbered, NamesRead, guessesBytes, packedOf};
 ghost use Rattle.bundles.specs.Contracts.{filesOf};
 ghost use Rattle.rule_lists.specs.Contracts.{WrittenIs};
 use crate::guesses::Guessed;
@@ -79,7 +79,7 @@ fn guessing_file(kind: NameType, bundle: &[u8]) -> FileAt
 // The names of a type's languages, each behind its length byte.
 fn load_names(kind: NameType, bundle: &[u8], names: &mut [u8]) -> Names
     requires { ⌜ length (now names) ≡ 832 ⌝ }
-    ensures { λ r. ⌜ NamesTold (namesOf kind (filesOf (now (bundle .entry)))) r (now (names .exit)) ⌝ }
+    ensures { λ r. ⌜ NamesRead (namesOf kind (filesOf (now (bundle .entry)))) r (now (names .exit)) ⌝ }
 {
     match languages_file(kind, bundle) {
         FileAt::At { number, start, end } => {

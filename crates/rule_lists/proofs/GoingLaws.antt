@@ -13,8 +13,8 @@ use Rattle.rules_parser.specs.Fields.{partOf}
 use Rattle.rules_parser.specs.Files.{itemAt}
 use Rattle.rules_parser.specs.declared.fields.Text.{Text}
 use Rattle.rules_parser.specs.declared.lines.FileKind.the-variants.{Rules}
-use Rattle.rules_parser.specs.declared.lines.Told as line-told
-use Rattle.rules_parser.specs.declared.lines.Told.the-variants as told
+use Rattle.rules_parser.specs.declared.lines.Clause as line-told
+use Rattle.rules_parser.specs.declared.lines.Clause.the-variants as told
 use Rattle.rules_parser.specs.declared.files.Item.{Item}
 use Rattle.rules_parser.specs.declared.files.Item.the-variants as item
 use Rattle.rules_parser.proofs.Laws.{passed-goes, passed-in, passed-lines, tells-goes, tells-in, items-start, items-end, items-passed, items-tells, items-wrong}
@@ -65,7 +65,7 @@ Here names s p (row.Include t n) = Goes names s p 1 n (include (partOf s t))
 Here names s p (row.Bad k) = (ls : List (Line Rule)) × (linesAt names s p ≡ badLine k ∷ ls)
 
 module _ (names s : List ℕ) (p : ℕ) (h : p < length s) where
-  told-goes : (t : line-told.Told) (n : ℕ) → itemAt Rules s p ≡ item.Tells t n → Goes names s p 1 n (lineOf names s (item.Tells t n))
+  told-goes : (t : line-told.Clause) (n : ℕ) → itemAt Rules s p ≡ item.Tells t n → Goes names s p 1 n (lineOf names s (item.Tells t n))
   told-goes t n e =
       let a = tells-goes Rules s p t n e in
       record { left = ap (map (lineOf names s)) (items-tells Rules s p t n e); ahead = a; inside = tells-in Rules s p t n e; lines = omega arith }

@@ -12,8 +12,8 @@ use Rattle.rules_parser.proofs.NumberLaws.{item-one}
 use Rattle.rules_parser.specs.Files.{itemAt}
 use Rattle.rules_parser.specs.declared.fields.Text.{Text}
 use Rattle.rules_parser.specs.declared.lines.FileKind.the-variants.{Rules}
-use Rattle.rules_parser.specs.declared.lines.Told.{Told}
-use Rattle.rules_parser.specs.declared.lines.Told.the-variants as told
+use Rattle.rules_parser.specs.declared.lines.Clause.{Clause}
+use Rattle.rules_parser.specs.declared.lines.Clause.the-variants as told
 use Rattle.rules_parser.specs.declared.files.Item.{Item}
 use Rattle.rules_parser.specs.declared.files.Item.the-variants as item
 use Rattle.rule_lines.specs.declared.Fault.{Fault}
@@ -56,9 +56,9 @@ module _ (names s : List ℕ) (p : ℕ) (i : Item) (is : i ≡ itemAt Rules s p)
   unfolding rowIn
   row-wrong h = by-item _ h
 
-  module _ (t : Told) (n : ℕ) (h : i ≡ item.Tells t n) where
-    by-told : (u : Told) → t ≡ u → rowIn names s (item.Tells u n) ≡ rowAt names s p
-    by-told u g = by-item _ (h ∙ ap (λ (x : Told). item.Tells x n) g)
+  module _ (t : Clause) (n : ℕ) (h : i ≡ item.Tells t n) where
+    by-told : (u : Clause) → t ≡ u → rowIn names s (item.Tells u n) ≡ rowAt names s p
+    by-told u g = by-item _ (h ∙ ap (λ (x : Clause). item.Tells x n) g)
 
     pub row-of-rule : (a b c d : Text) (r : Row) → t ≡ told.Rule a b c d → r ≡ rowTold names s a b c d n → r ≡ rowAt names s p
     unfolding rowIn

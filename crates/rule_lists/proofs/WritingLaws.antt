@@ -17,8 +17,8 @@ use Rattle.rules_parser.proofs.NumberLaws.{item-one}
 use Rattle.rules_parser.specs.Files.{itemAt}
 use Rattle.rules_parser.specs.declared.fields.Text.{Text}
 use Rattle.rules_parser.specs.declared.lines.FileKind.the-variants.{Rules}
-use Rattle.rules_parser.specs.declared.lines.Told.{Told}
-use Rattle.rules_parser.specs.declared.lines.Told.the-variants as told
+use Rattle.rules_parser.specs.declared.lines.Clause.{Clause}
+use Rattle.rules_parser.specs.declared.lines.Clause.the-variants as told
 use Rattle.rules_parser.specs.declared.files.Item.{Item}
 use Rattle.rules_parser.specs.declared.files.Item.the-variants as item
 use Rattle.rule_lists.specs.Lines.{ruleIn}
@@ -53,8 +53,8 @@ module _ (s : List ℕ) (place : ℕ) (r : Item) (g : r ≡ itemAt Rules s place
     unfolding itemPut
     row-wrong q = item-put _ q o at none
 
-  module _ (t : Told) (n : ℕ) (q : r ≡ item.Tells t n) where
-    told-put : (x : Told) → t ≡ x → (o′ : List ℕ) (e : ℕ) → Put o o′ at e (itemPut s (item.Tells x n)) → Put o o′ at e (rowPut s place)
+  module _ (t : Clause) (n : ℕ) (q : r ≡ item.Tells t n) where
+    told-put : (x : Clause) → t ≡ x → (o′ : List ℕ) (e : ℕ) → Put o o′ at e (itemPut s (item.Tells x n)) → Put o o′ at e (rowPut s place)
     told-put x u o′ e w = item-put (item.Tells x n) (rw u at q) o′ e w
 
     pub row-rule : (a b c d : Text) → t ≡ told.Rule a b c d → (o′ : List ℕ) (e : ℕ) → Put o o′ at e (rulePut (ruleIn s a b c d)) → Put o o′ at e (rowPut s place)

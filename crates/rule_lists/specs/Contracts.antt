@@ -27,7 +27,7 @@ use Rattle.rule_lists.specs.declared.walk.Collected.the-variants as coll
 use Rattle.rule_lists.specs.Lists.{filesFor, firstCodeOf}
 use Rattle.rule_lists.specs.declared.lines.Row.the-variants as row
 use Rattle.rules_parser.specs.declared.files.Item.the-variants as item
-use Rattle.rules_parser.specs.declared.lines.Told.the-variants as told
+use Rattle.rules_parser.specs.declared.lines.Clause.the-variants as told
 use Rattle.rule_lines.specs.declared.Fault.{Fault}
 use Rattle.rule_lists.specs.declared.lines.Row.{Row}
 use Rattle.rule_lines.specs.declared.Fault.the-variants.{Without, Is}

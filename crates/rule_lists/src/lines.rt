@@ -3,10 +3,10 @@ ghost use mathlib.Core.Path.{_≡_};
 ghost use Rattle.rule_lists.specs.Contracts.{rowTold, rowAt};
 use refusals::Refusal;
 use rule_lines::Fault;
+use rules_parser::Clause;
 use rules_parser::FileKind;
 use rules_parser::Item;
 use rules_parser::Text;
-use rules_parser::Told;
 
 // What stands at the beginning of a line.
 pub(crate) enum Row {
@@ -51,21 +51,21 @@ pub(crate) fn row_at(names: &[u8], s: &[u8], p: usize) -> Row
     match rules_parser::read_item(FileKind::Rules, s, p) {
         Item::Passed { lines, next } => Row::Passed { lines, next },
         Item::Tells { told, next } => match told {
-            Told::Rule {
+            Clause::Rule {
                 pattern,
                 left,
                 right,
                 expression,
             } => row_of(names, s, pattern, left, right, expression, next),
-            Told::Include { name } => Row::Include { name, next },
-            Told::Guess {
+            Clause::Include { name } => Row::Include { name, next },
+            Clause::Guess {
                 pattern: _,
                 names: _,
                 accept: _,
             } => Row::Bad {
                 why: Refusal::LineUnreadable,
             },
-            Told::Name { name: _ } => Row::Bad {
+            Clause::Name { name: _ } => Row::Bad {
                 why: Refusal::LineUnreadable,
             },
         },

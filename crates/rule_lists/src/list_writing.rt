@@ -8,10 +8,10 @@ ghost use Rattle.rule_lists.specs.Lines.{ruleIn};
 ghost use Rattle.rule_lists.specs.TableContracts.{keysOf};
 ghost use Rattle.rule_lists.specs.WritingContracts.{rulePut, rowPut, SomeKept, RowFits, rowAtPut, RowsPut};
 use refusals::Refusal;
+use rules_parser::Clause;
 use rules_parser::FileKind;
 use rules_parser::Item;
 use rules_parser::Text;
-use rules_parser::Told;
 
 // The place behind what was written, or the refusal.
 pub enum Written {
@@ -51,19 +51,19 @@ fn put_row(s: &[u8], place: usize, out: &mut [u8], at: usize) -> usize
     match rules_parser::read_item(FileKind::Rules, s, place) {
         Item::Passed { lines: _, next: _ } => at,
         Item::Tells { told, next: _ } => match told {
-            Told::Rule {
+            Clause::Rule {
                 pattern,
                 left,
                 right,
                 expression,
             } => put_rule(s, pattern, left, right, expression, out, at),
-            Told::Include { name: _ } => at,
-            Told::Guess {
+            Clause::Include { name: _ } => at,
+            Clause::Guess {
                 pattern: _,
                 names: _,
                 accept: _,
             } => at,
-            Told::Name { name: _ } => at,
+            Clause::Name { name: _ } => at,
         },
         Item::Wrong => at,
     }

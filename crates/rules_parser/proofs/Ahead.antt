@@ -8,19 +8,20 @@ use native.Mathlib.Omega.{arith}
 use lib.ListN.{length, getD, take, drop, length-drop, List·getD-eq-default}
 use borrow.Author.Tests.{ltb-true, ltb-false, leb-false, eqb-true}
 use Rattle.base.specs.Pick.{pick}
-use Rattle.rules_parser.specs.Fields.{spanEnd, pairAt}
-use Rattle.rules_parser.specs.Lines.{lineAt}
-use Rattle.rules_parser.specs.Files.{countedOf, closeIn, closeAt, textEnd, nextLine, onClose, commentAt, onLine, itemAt}
+use Rattle.rules_parser.specs as specs
+use specs.Fields.{spanEnd, pairAt}
+use specs.Lines.{lineAt}
+use specs.Files.{countedOf, closeIn, closeAt, textEnd, nextLine, onClose, commentAt, onLine, itemAt}
 use Rattle.rules_parser.proofs.FileLaws.{run-high, counted-high}
-use Rattle.rules_parser.specs.declared.fields.Kind.{Kind}
-use Rattle.rules_parser.specs.declared.fields.Kind.the-variants.{Blank, NotLf}
-use Rattle.rules_parser.specs.declared.lines.FileKind.{FileKind}
-use Rattle.rules_parser.specs.declared.lines.Line.{Line}
-use Rattle.rules_parser.specs.declared.lines.Line.the-variants as line
-use Rattle.rules_parser.specs.declared.files.Close.{Close}
-use Rattle.rules_parser.specs.declared.files.Close.the-variants.{At, Open}
-use Rattle.rules_parser.specs.declared.files.Item.{Item}
-use Rattle.rules_parser.specs.declared.files.Item.the-variants.{Passed, Tells, Wrong}
+use specs.declared.fields.Kind.{Kind}
+use specs.declared.fields.Kind.the-variants.{Blank, NotLf}
+use specs.declared.lines.FileKind.{FileKind}
+use specs.declared.lines.Line.{Line}
+use specs.declared.lines.Line.the-variants as line
+use specs.declared.files.Close.{Close}
+use specs.declared.files.Close.the-variants.{At, Open}
+use specs.declared.files.Item.{Item}
+use specs.declared.files.Item.the-variants.{Passed, Tells, Wrong}
 
 -- what holds of both arms, each under its test
 pub pick-where : {A : Type 0} (P : A → Type 0) (t : Bool) (a b : A) → (t ≡ true → P a) → (t ≡ false → P b) → P (pick t a b)
@@ -80,7 +81,8 @@ Ahead s p Wrong = Unit {0}
 
 comment-ahead : (s : List ℕ) (p : ℕ) → p < length s → Ahead s p (commentAt s p)
 unfolding commentAt closeAt Ahead Closing onClose
-comment-ahead s p h = pick-where (Ahead s p) _ _ _ (λ e. tt) (λ e. on (closeAt s (spanEnd Blank s p + 2)) (close-in s (drop (spanEnd Blank s p + 2) s) (spanEnd Blank s p + 2) 0))
+comment-ahead s p h =
+    pick-where (Ahead s p) _ _ _ (λ e. tt) (λ e. on (closeAt s (spanEnd Blank s p + 2)) (close-in s (drop (spanEnd Blank s p + 2) s) (spanEnd Blank s p + 2) 0))
   where
     on : (c : Close) → Closing s (spanEnd Blank s p + 2) 0 c → Ahead s p (onClose c s)
     on (At r m) w =

@@ -7,18 +7,19 @@ use native.Mathlib.Numerals.{add-one}
 use native.Mathlib.Nat.{add-sub-cancel-left}
 use native.Mathlib.Omega.{arith}
 use lib.Dec.{eqb, leb}
-use lib.ListN.{length, getD, take, drop, drop-of-length-le, length-drop, List·getD-eq-default}
+use lib.ListN.{length, getD, take, drop, drop-of-length-le, length-drop}
 use lib.Seq.{drop-cons, take-all, take-nil}
 use borrow.Author.Tests.{lt-ltb, le-ltb, eq-eqb, ne-eqb}
 use Rattle.base.specs.Pick.{pick}
-use Rattle.rules_parser.specs.Fields.{partOf, passesOf, spanOf, spanEnd, pairAt, text, quotedAt, bareAt, fieldAt, partedAt, endsAt, tailOk}
-use Rattle.rules_parser.specs.declared.fields.Kind.{Kind}
-use Rattle.rules_parser.specs.declared.fields.Kind.the-variants.{Blank, NotBlank, NotQuote, NotLf}
-use Rattle.rules_parser.specs.declared.fields.FieldKind.{FieldKind}
-use Rattle.rules_parser.specs.declared.fields.FieldKind.the-variants.{Quoted, Plain}
-use Rattle.rules_parser.specs.declared.fields.Text.{Text}
-use Rattle.rules_parser.specs.declared.fields.Field.{Field}
-use Rattle.rules_parser.specs.declared.fields.Field.the-variants.{Is, No}
+use Rattle.rules_parser.specs as specs
+use specs.Fields.{partOf, passesOf, spanOf, spanEnd, pairAt, text, quotedAt, bareAt, fieldAt, partedAt, endsAt, tailOk}
+use specs.declared.fields.Kind.{Kind}
+use specs.declared.fields.Kind.the-variants.{Blank, NotBlank, NotQuote, NotLf}
+use specs.declared.fields.FieldKind.{FieldKind}
+use specs.declared.fields.FieldKind.the-variants.{Quoted, Plain}
+use specs.declared.fields.Text.{Text}
+use specs.declared.fields.Field.{Field}
+use specs.declared.fields.Field.the-variants.{Is, No}
 use Rattle.base.proofs.PickLaws.{pick-true, pick-false}
 
 -- ---- kinds of bytes
@@ -40,9 +41,6 @@ module _ (k : Kind) (b : ℕ) (x : Bool) where
   is-not-lf e p = p ∙ rw e refl
 
 pub ruleset kinds = (is-blank, is-not-blank, is-not-quote, is-not-lf)
-
-pub byte-past : (s : List ℕ) (i : ℕ) → length s ≤ i → 0 ≡ getD s i 0
-byte-past s i h = sym (List·getD-eq-default s 0 h)
 
 -- a test of what a call returned
 pub eqb-by : (x y b : ℕ) → x ≡ y → eqb x b ≡ eqb y b
@@ -73,7 +71,8 @@ pub ruleset spans = (span-more, span-stop, span-done)
 
 -- ---- a field, e or q being the end of a run
 module _ (s : List ℕ) (p : ℕ) where
-  pub quoted-is : (e : ℕ) → p < length s → getD s p 0 ≡ 34 → e ≡ spanEnd NotQuote s (p + 1) → e < length s → Is (text (p + 1) (e - (p + 1))) (e + 1) ≡ quotedAt s p
+  pub quoted-is : (e : ℕ) → p < length s → getD s p 0 ≡ 34 → e ≡ spanEnd NotQuote s (p + 1) → e < length s
+      → Is (text (p + 1) (e - (p + 1))) (e + 1) ≡ quotedAt s p
   unfolding quotedAt
   quoted-is e h b q l = sym (pick-true _ _ _ (lt-ltb _ _ h) ∙ pick-true _ _ _ (eq-eqb _ _ b) ∙ rw (← q) (pick-true _ _ _ (lt-ltb _ _ l)))
 
@@ -125,7 +124,21 @@ module _ (s : List ℕ) (p : ℕ) where
   unfolding tailOk
   tail-none q e h = rw (← e) (sym (pick-false _ _ _ (le-ltb q (length s) h)))
 
-pub ruleset fields = (quoted-is, quoted-open, quoted-other, quoted-past, word-is, word-none, field-quoted, field-plain, parted-is, parted-none, ends-is, tail-more, tail-none)
+pub ruleset fields = (
+  quoted-is,
+  quoted-open,
+  quoted-other,
+  quoted-past,
+  word-is,
+  word-none,
+  field-quoted,
+  field-plain,
+  parted-is,
+  parted-none,
+  ends-is,
+  tail-more,
+  tail-none,
+)
 
 -- ---- the part that a text is, as the slice is cut
 module _ (s : List ℕ) (t : Text) where

@@ -10,19 +10,20 @@ use lib.ListN.{length, getD, take, drop, drop-of-length-le, length-drop}
 use lib.Seq.{drop-cons}
 use borrow.Author.Tests.{lt-ltb, le-ltb, le-leb, lt-leb, eq-eqb, ne-eqb}
 use Rattle.base.specs.Pick.{pick}
-use Rattle.rules_parser.specs.Fields.{passesOf, spanOf, spanEnd, pairAt}
-use Rattle.rules_parser.specs.Lines.{lineAt}
-use Rattle.rules_parser.specs.Files.{countedOf, closeIn, closeAt, textEnd, nextLine, restBlank, onClose, commentAt, onLine, itemAt}
-use Rattle.rules_parser.specs.declared.fields.Kind.{Kind}
-use Rattle.rules_parser.specs.declared.fields.Kind.the-variants.{Blank as blanks, NotLf}
-use Rattle.rules_parser.specs.declared.lines.FileKind.{FileKind}
-use Rattle.rules_parser.specs.declared.lines.Told.{Told}
-use Rattle.rules_parser.specs.declared.lines.Line.{Line}
-use Rattle.rules_parser.specs.declared.lines.Line.the-variants as line
-use Rattle.rules_parser.specs.declared.files.Close.{Close}
-use Rattle.rules_parser.specs.declared.files.Close.the-variants.{At, Open}
-use Rattle.rules_parser.specs.declared.files.Item.{Item}
-use Rattle.rules_parser.specs.declared.files.Item.the-variants.{Passed, Tells, Wrong}
+use Rattle.rules_parser.specs as specs
+use specs.Fields.{passesOf, spanOf, spanEnd, pairAt}
+use specs.Lines.{lineAt}
+use specs.Files.{countedOf, closeIn, closeAt, textEnd, nextLine, restBlank, onClose, commentAt, onLine, itemAt}
+use specs.declared.fields.Kind.{Kind}
+use specs.declared.fields.Kind.the-variants.{Blank as blanks, NotLf}
+use specs.declared.lines.FileKind.{FileKind}
+use specs.declared.lines.Clause.{Clause}
+use specs.declared.lines.Line.{Line}
+use specs.declared.lines.Line.the-variants as line
+use specs.declared.files.Close.{Close}
+use specs.declared.files.Close.the-variants.{At, Open}
+use specs.declared.files.Item.{Item}
+use specs.declared.files.Item.the-variants.{Passed, Tells, Wrong}
 use Rattle.base.proofs.PickLaws.{pick-true, pick-false, pick-all}
 
 -- ---- the end of a comment, x being the answer
@@ -36,7 +37,8 @@ pub close-start : (s : List ℕ) (p : ℕ) → closeAt s p ≡ closeIn s (drop p
 unfolding closeAt
 close-start s p = refl
 
-pub close-found : (s : List ℕ) (i n : ℕ) (x : Close) (t : Bool) → i < length s → t ≡ pairAt s i 42 47 → t ≡ true → x ≡ closeIn s (drop i s) i n → At (i + 2) (n + 1) ≡ x
+pub close-found : (s : List ℕ) (i n : ℕ) (x : Close) (t : Bool) → i < length s → t ≡ pairAt s i 42 47 → t ≡ true → x ≡ closeIn s (drop i s) i n
+    → At (i + 2) (n + 1) ≡ x
 close-found s i n x t h e p inv = sym (inv ∙ close-step s i n h ∙ pick-true _ _ _ (sym e ∙ p))
 
 pub close-more : (s : List ℕ) (i n m : ℕ) (x : Close) (t : Bool) → i < length s → t ≡ pairAt s i 42 47 → t ≡ false → m ≡ countedOf n (getD s i 0)
@@ -99,11 +101,13 @@ module _ (s : List ℕ) (p q : ℕ) (sk : q ≡ spanEnd blanks s p) where
   unfolding onClose
   comment-open r h e f = sym (comment-in r h e ∙ rw f refl)
 
-  pub comment-text : (r : Close) (a n : ℕ) (t : Bool) → q < length s → r ≡ closeAt s (q + 2) → r ≡ At a n → t ≡ restBlank s a → t ≡ false → Wrong ≡ commentAt s p
+  pub comment-text : (r : Close) (a n : ℕ) (t : Bool) → q < length s → r ≡ closeAt s (q + 2) → r ≡ At a n → t ≡ restBlank s a → t ≡ false
+      → Wrong ≡ commentAt s p
   unfolding onClose
   comment-text r a n t h e f g i = sym (comment-in r h e ∙ rw f (pick-false _ _ _ (sym g ∙ i)))
 
-  pub comment-ends : (r : Close) (a n m : ℕ) (t : Bool) → q < length s → r ≡ closeAt s (q + 2) → r ≡ At a n → t ≡ restBlank s a → t ≡ true → m ≡ nextLine s a
+  pub comment-ends : (r : Close) (a n m : ℕ) (t : Bool) → q < length s → r ≡ closeAt s (q + 2) → r ≡ At a n → t ≡ restBlank s a → t ≡ true
+      → m ≡ nextLine s a
       → Passed n m ≡ commentAt s p
   unfolding onClose
   comment-ends r a n m t h e f g i j = sym (comment-in r h e ∙ rw f (pick-true _ _ _ (sym g ∙ i) ∙ rw (← j) refl))
@@ -152,7 +156,7 @@ module _ (k : FileKind) (s : List ℕ) (p e : ℕ) (r : Line) (l : p < length s)
   unfolding onLine
   item-opens x f h = h ∙ sym (item-by ∙ rw f refl)
 
-  pub item-tells : (t : Told) (m : ℕ) → r ≡ line.Tells t → m ≡ nextLine s p → Tells t m ≡ itemAt k s p
+  pub item-tells : (t : Clause) (m : ℕ) → r ≡ line.Tells t → m ≡ nextLine s p → Tells t m ≡ itemAt k s p
   unfolding onLine
   item-tells t m f h = sym (item-by ∙ rw (f, h) refl)
 

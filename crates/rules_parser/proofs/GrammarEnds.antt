@@ -10,15 +10,17 @@ use lib.Seq.{take-add, drop-at, length-take-le, take-append-seam}
 use borrow.Author.Tests.{eqb-true, eqb-false, not-false, leb-true, le-leb}
 use Rattle.base.specs.Pick.{pick}
 use Rattle.texts.specs.Parts.{lastIs}
-use Rattle.rules_parser.specs.Fields.{passesOf, spanEnd, pairAt}
-use Rattle.rules_parser.specs.Files.{countedOf, closeIn, textEnd, nextLine, restBlank}
-use Rattle.rules_parser.specs.Grammar.{Every, Other, Blanks, FirstLine, at-end, at-lf, at-cr-lf, Unclosed, lineEnds}
-use Rattle.rules_parser.proofs.FileLaws.{close-step, next-more, next-none, text-cr, text-lf, text-empty, text-last}
-use Rattle.rules_parser.proofs.Ahead.{pick-where}
-use Rattle.rules_parser.proofs.GrammarFields.{Of, Stops, split, spanned, span-is, span-least, place-in, place-more, byte-is, next-is, pair-is, pair-told}
-use Rattle.rules_parser.specs.declared.fields.Kind.the-variants.{Blank, NotLf}
-use Rattle.rules_parser.specs.declared.files.Close.{Close}
-use Rattle.rules_parser.specs.declared.files.Close.the-variants.{At, Open}
+use Rattle.rules_parser.specs as specs
+use specs.Fields.{passesOf, spanEnd, pairAt}
+use specs.Files.{countedOf, closeIn, textEnd, nextLine, restBlank}
+use specs.Grammar.{Every, Other, Blanks, FirstLine, at-end, at-lf, at-cr-lf, Unclosed, lineEnds}
+use Rattle.rules_parser.proofs as own
+use own.FileLaws.{close-step, next-more, next-none, text-cr, text-lf, text-empty, text-last}
+use own.Ahead.{pick-where}
+use own.GrammarFields.{Of, Stops, split, spanned, span-is, span-least, place-in, place-more, byte-is, next-is, pair-is, pair-told}
+use specs.declared.fields.Kind.the-variants.{Blank, NotLf}
+use specs.declared.files.Close.{Close}
+use specs.declared.files.Close.the-variants.{At, Open}
 use Rattle.base.proofs.PickLaws.{pick-true, pick-false}
 
 -- ---- lists
@@ -70,7 +72,8 @@ pub record Cut (s : List ℕ) (p : ℕ) (l left : List ℕ) : Type 0 where
   pub whole : drop p s ≡ l ++ rest
 
 -- at an LF, whichever byte stands before it
-lf-end : (s : List ℕ) (p : ℕ) (l left : List ℕ) → Last l → lastIs 13 l ≡ false → drop p s ≡ l ++ 10 ∷ left → p + length l ≡ spanEnd NotLf s p → p + length l < length s → textEnd s p ≡ p + length l
+lf-end : (s : List ℕ) (p : ℕ) (l left : List ℕ) → Last l → lastIs 13 l ≡ false → drop p s ≡ l ++ 10 ∷ left → p + length l ≡ spanEnd NotLf s p
+    → p + length l < length s → textEnd s p ≡ p + length l
 lf-end s p l left (none z) c e q o = sym (text-empty s p (p + length l) q o (omega (arith, ap length z)))
 lf-end s p l left (some v b z) c e q o =
     let n : length l ≡ length v + 1 = ap length z ∙ length-append v (b ∷ []) in
@@ -134,7 +137,8 @@ lined r = let w = split NotLf r in lined-by r (w .front) (w .rest) (w .whole) (w
 
 -- the line's text, cut off its file
 pub line-text : (s : List ℕ) (p : ℕ) (l r : List ℕ) → p ≤ length s → drop p s ≡ l ++ r → drop p (take (p + length l) s) ≡ l
-line-text s p l r h e = rw (take-add p (length l) s) (drop-at (take p s) (take (length l) (drop p s)) p (length-take-le p s h) ∙ ap (take (length l)) e ∙ take-append-seam l r)
+line-text s p l r h e =
+    rw (take-add p (length l) s) (drop-at (take p s) (take (length l) (drop p s)) p (length-take-le p s h) ∙ ap (take (length l)) e ∙ take-append-seam l r)
 
 -- ---- the end of a comment is the last text of its line
 

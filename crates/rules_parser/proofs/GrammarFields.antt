@@ -12,16 +12,17 @@ use lib.ListN.{length, getD, drop, length-drop, length-append, List·getD-eq-def
 use lib.Seq.{drop-cons, drop-drop, drop-append-seam, drop-append-le, take-append-seam}
 use borrow.Author.Tests.{lt-ltb, le-ltb, le-leb, ltb-true, ltb-false, eq-eqb, ne-eqb, eqb-true, eqb-false, not-true, not-false}
 use Rattle.base.specs.Pick.{pick}
-use Rattle.rules_parser.specs.Fields.{partOf, passesOf, spanOf, spanEnd, pairAt, text, quotedAt, bareAt, fieldAt, partedAt, endsAt, tailOk}
-use Rattle.rules_parser.specs.Grammar.{Shape, Every, BlankByte, NoBlank, Other, Blanks, Gap, Word, InQuotes, CommentLine, Just, Anything, _⨾_}
+use Rattle.rules_parser.specs as specs
+use specs.Fields.{partOf, passesOf, spanOf, spanEnd, pairAt, text, quotedAt, bareAt, fieldAt, partedAt, endsAt, tailOk}
+use specs.Grammar.{Shape, Every, BlankByte, NoBlank, Other, Blanks, Gap, Word, InQuotes, CommentLine, Just, Anything, _⨾_}
 use Rattle.rules_parser.proofs.Ahead.{pick-where}
-use Rattle.rules_parser.specs.declared.fields.Kind.{Kind}
-use Rattle.rules_parser.specs.declared.fields.Kind.the-variants.{Blank, NotBlank, NotQuote, NotLf}
-use Rattle.rules_parser.specs.declared.fields.FieldKind.{FieldKind}
-use Rattle.rules_parser.specs.declared.fields.FieldKind.the-variants.{Quoted, Plain}
-use Rattle.rules_parser.specs.declared.fields.Text.{Text}
-use Rattle.rules_parser.specs.declared.fields.Field.{Field}
-use Rattle.rules_parser.specs.declared.fields.Field.the-variants.{Is, No}
+use specs.declared.fields.Kind.{Kind}
+use specs.declared.fields.Kind.the-variants.{Blank, NotBlank, NotQuote, NotLf}
+use specs.declared.fields.FieldKind.{FieldKind}
+use specs.declared.fields.FieldKind.the-variants.{Quoted, Plain}
+use specs.declared.fields.Text.{Text}
+use specs.declared.fields.Field.{Field}
+use specs.declared.fields.Field.the-variants.{Is, No}
 use Rattle.base.proofs.PickLaws.{pick-true, pick-false, pick-inv}
 
 -- ---- kinds of bytes
@@ -100,7 +101,8 @@ pub record Split (k : Kind) (l : List ℕ) : Type 0 where
 
 split-more : (k : Kind) (b : ℕ) (r : List ℕ) (t : Bool) → passesOf k b ≡ t → Split k r → Split k (b ∷ r)
 unfolding Every Stops
-split-more k b r true e w = record { front = b ∷ w .front; rest = w .rest; whole = ap (λ (l : List ℕ). b ∷ l) (w .whole); every = (of-passes k b e, w .every); stops = w .stops }
+split-more k b r true e w =
+    record { front = b ∷ w .front; rest = w .rest; whole = ap (λ (l : List ℕ). b ∷ l) (w .whole); every = (of-passes k b e, w .every); stops = w .stops }
 split-more k b r false e w = record { front = []; rest = b ∷ r; whole = refl; every = tt; stops = e }
 
 pub split : (k : Kind) (l : List ℕ) → Split k l
@@ -209,7 +211,8 @@ Where P (Is t q) = P t q
 Where P No = Unit {0}
 
 -- the text of w bytes from p on
-met : (k : FieldKind) (s : List ℕ) (p q n : ℕ) (w x r : List ℕ) → drop p s ≡ x ++ drop q s → (a : ℕ) → a ≤ length s → drop a s ≡ w ++ r → n ≡ length w → Written k w x → Met k s p (text a n) q
+met : (k : FieldKind) (s : List ℕ) (p q n : ℕ) (w x r : List ℕ) → drop p s ≡ x ++ drop q s → (a : ℕ) → a ≤ length s → drop a s ≡ w ++ r → n ≡ length w
+    → Written k w x → Met k s p (text a n) q
 met k s p q n w x r e a h d m f =
     let here : partOf s (text a n) ≡ w = rw m (part-here s a w r d) in
     record { written = x; place = e; shape = rw here f; same = λ z. rw here (rw m (part-is s a w r z h d)) }
@@ -266,7 +269,8 @@ pub record Parted (k : FieldKind) (s : List ℕ) (p : ℕ) (t : Text) (q : ℕ) 
 
 pub parted-met : (k : FieldKind) (s : List ℕ) (p : ℕ) → Where (Parted k s p) (partedAt k s p)
 unfolding partedAt Where Of
-parted-met k s p = pick-where (Where (Parted k s p)) _ _ _ (λ h. on (ltb-true _ _ h) (fieldAt k s (spanEnd Blank s p)) (field-met k s (spanEnd Blank s p))) (λ h. tt)
+parted-met k s p =
+    pick-where (Where (Parted k s p)) _ _ _ (λ h. on (ltb-true _ _ h) (fieldAt k s (spanEnd Blank s p)) (field-met k s (spanEnd Blank s p))) (λ h. tt)
   where
     on : p < spanEnd Blank s p → (x : Field) → Where (Met k s (spanEnd Blank s p)) x → Where (Parted k s p) x
     on h (Is t q) m =
@@ -301,7 +305,9 @@ quoted-given s p w r e h =
     record {
       part = text (p + 1) (length w);
       next = p + 1 + length w + 1;
-      is = pick-true _ _ _ (lt-ltb _ _ l) ∙ pick-true _ _ _ (eq-eqb _ _ (byte-is s p 34 (w ++ 34 ∷ r) e)) ∙ rw g (pick-true _ _ _ (lt-ltb _ _ (place-in s _ 34 r d)) ∙ rw m refl);
+      is =
+          pick-true _ _ _ (lt-ltb _ _ l) ∙ pick-true _ _ _ (eq-eqb _ _ (byte-is s p 34 (w ++ 34 ∷ r) e))
+          ∙ rw g (pick-true _ _ _ (lt-ltb _ _ (place-in s _ 34 r d)) ∙ rw m refl);
       here = part-here s (p + 1) w (34 ∷ r) f;
       there = λ z. part-is s (p + 1) w (34 ∷ r) z (omega arith) f;
       place = next-is s (p + 1 + length w) 34 r d;
@@ -324,7 +330,8 @@ word-given s p (b ∷ w) r e n h g =
       place = place-more s p (b ∷ w) r e;
     }
 
-pub field-given : (k : FieldKind) (s : List ℕ) (p : ℕ) (w x r : List ℕ) → drop p s ≡ x ++ r → Written k w x → Follows k r → Given s (fieldAt k s p) w r
+pub field-given : (k : FieldKind) (s : List ℕ) (p : ℕ) (w x r : List ℕ) → drop p s ≡ x ++ r → Written k w x → Follows k r
+    → Given s (fieldAt k s p) w r
 unfolding fieldAt Written Follows
 field-given Quoted s p w x r e h g = quoted-given s p w r (e ∙ rw (h .0, append-assoc w (34 ∷ []) r) refl) (h .1)
 field-given Plain s p w x r e h g = word-given s p w r (e ∙ rw (h .0) refl) (h .1) (h .2) g
@@ -332,11 +339,12 @@ field-given Plain s p w x r e h g = word-given s p w r (e ∙ rw (h .0) refl) (h
 -- a field begins with no blank
 written-stops : (k : FieldKind) (w x r : List ℕ) → Written k w x → Stops Blank (x ++ r)
 unfolding Written Stops Every
-written-stops Quoted w x r h = rw (h .0) (text-ends 34 (plain 34 (omega arith)))
-written-stops Plain [] x r h = absurd (h .1 refl)
-written-stops Plain (b ∷ w) x r h = rw (h .0) (text-ends b (h .2 .0))
+written-stops Quoted w x r (e, h) = rw e (text-ends 34 (plain 34 (omega arith)))
+written-stops Plain [] x r (e, n, h) = absurd (n refl)
+written-stops Plain (b ∷ w) x r (e, n, h) = rw e (text-ends b (h .0))
 
-pub parted-given : (k : FieldKind) (s : List ℕ) (p : ℕ) (g y w x r : List ℕ) → drop p s ≡ g ++ y → Gap g → y ≡ x ++ r → Written k w x → Follows k r → Given s (partedAt k s p) w r
+pub parted-given : (k : FieldKind) (s : List ℕ) (p : ℕ) (g y w x r : List ℕ) → drop p s ≡ g ++ y → Gap g → y ≡ x ++ r → Written k w x → Follows k r
+    → Given s (partedAt k s p) w r
 unfolding partedAt Of
 parted-given k s p [] y w x r e h f i j = absurd (h .1 refl)
 parted-given k s p (b ∷ g) y w x r e h f i j =
@@ -354,8 +362,8 @@ blanks-follow (b ∷ l) h = blank-ends b (h .0)
 
 pub gap-follows : (g y l : List ℕ) → l ≡ g ++ y → Gap g → Follows Plain l
 unfolding Follows Stops Every
-gap-follows [] y l e h = absurd (h .1 refl)
-gap-follows (b ∷ g) y l e h = rw e (blank-ends b (h .0 .0))
+gap-follows [] y l e (h, n) = absurd (n refl)
+gap-follows (b ∷ g) y l e (h, n) = rw e (blank-ends b (h .0))
 
 pub ends-in : (s : List ℕ) (p : ℕ) → Blanks (drop p s) → length s ≤ spanEnd Blank s p
 unfolding Of Stops

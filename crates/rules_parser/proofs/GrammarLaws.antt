@@ -12,23 +12,25 @@ use Rattle.base.specs.Pick.{pick, and}
 use Rattle.letters.specs.Order.{sameText}
 use Rattle.texts.specs.Parts.{prefixOf}
 use Rattle.languages.specs.Names.{languageName, allLetters, isLetter, common}
-use Rattle.rules_parser.specs.Fields.{partOf, spanEnd, pairAt, endsAt}
-use Rattle.rules_parser.specs.Lines.{onField, textAt, ruleTold, lastTwo, fourAt, includeWord, includeAt, ruleAt, guessTold, acceptTold, guessEnd, guessAt, nameTold, nameAt, toldAt, lineAt}
-use Rattle.rules_parser.specs.Grammar.{Shape, _⨾_, Just, Anything, Every, NoBlank, Blanks, Gap, Word, CommentLine, OpeningLine, Said, rule, include, guess, name, saidOf, Printable, TextString, TextWord, RuleLine, IncludeLine, verdict, GuessLine, NameLine, LineSays, is-rule, is-include, is-guess, is-name}
-use Rattle.rules_parser.proofs.Ahead.{pick-where}
-use Rattle.rules_parser.proofs.GrammarFields.{Of, Stops, spanned, span-is, place-in, place-more, text-ends, plain, pair-not, pair-told, Written, Where, Met, field-met, Parted, parted-met, Given, Follows, field-given, parted-given, blanks-follow, gap-follows, ends-in, ends-is, ends-told, pair-behind, tail-is, lead, tail-told}
-use Rattle.rules_parser.specs.declared.fields.Kind.the-variants.{Blank as blanks}
-use Rattle.rules_parser.specs.declared.fields.FieldKind.{FieldKind}
-use Rattle.rules_parser.specs.declared.fields.FieldKind.the-variants.{Quoted, Plain}
-use Rattle.rules_parser.specs.declared.fields.Text.{Text}
-use Rattle.rules_parser.specs.declared.fields.Field.{Field}
-use Rattle.rules_parser.specs.declared.fields.Field.the-variants.{Is, No}
-use Rattle.rules_parser.specs.declared.lines.FileKind.{FileKind}
-use Rattle.rules_parser.specs.declared.lines.FileKind.the-variants.{Languages, Guesses, Rules}
-use Rattle.rules_parser.specs.declared.lines.Told.{Told}
-use Rattle.rules_parser.specs.declared.lines.Told.the-variants.{Rule, Include, Guess, Name}
-use Rattle.rules_parser.specs.declared.lines.Line.{Line}
-use Rattle.rules_parser.specs.declared.lines.Line.the-variants.{Blank, Comment, Opens, Tells, Bad}
+use Rattle.rules_parser.specs as specs
+use specs.Fields.{partOf, spanEnd, pairAt, endsAt}
+use specs.Lines.{onField, textAt, ruleTold, lastTwo, fourAt, includeWord, includeAt, ruleAt, guessTold, acceptTold, guessEnd, guessAt, nameTold, nameAt, toldAt, lineAt}
+use specs.Grammar.{Shape, _⨾_, Just, Anything, Every, NoBlank, Blanks, Gap, Word, CommentLine, OpeningLine, Said, rule, include, guess, name, saidOf, Printable, TextString, TextWord, RuleLine, IncludeLine, verdict, GuessLine, NameLine, LineSays, is-rule, is-include, is-guess, is-name}
+use Rattle.rules_parser.proofs as own
+use own.Ahead.{pick-where}
+use own.GrammarFields.{Of, Stops, spanned, span-is, place-in, place-more, text-ends, plain, pair-not, pair-told, Written, Where, Met, field-met, Parted, parted-met, Given, Follows, field-given, parted-given, blanks-follow, gap-follows, ends-in, ends-is, ends-told, pair-behind, tail-is, lead, tail-told}
+use specs.declared.fields.Kind.the-variants.{Blank as blanks}
+use specs.declared.fields.FieldKind.{FieldKind}
+use specs.declared.fields.FieldKind.the-variants.{Quoted, Plain}
+use specs.declared.fields.Text.{Text}
+use specs.declared.fields.Field.{Field}
+use specs.declared.fields.Field.the-variants.{Is, No}
+use specs.declared.lines.FileKind.{FileKind}
+use specs.declared.lines.FileKind.the-variants.{Languages, Guesses, Rules}
+use specs.declared.lines.Clause.{Clause}
+use specs.declared.lines.Clause.the-variants.{Rule, Include, Guess, Name}
+use specs.declared.lines.Line.{Line}
+use specs.declared.lines.Line.the-variants.{Blank, Comment, Opens, Tells, Bad}
 use Rattle.base.proofs.PickLaws.{pick-true, pick-false, and-yes, and-inv}
 use Rattle.letters.proofs.OrderLaws.{same-is}
 
@@ -52,10 +54,12 @@ prefix-told (x ∷ t) (y ∷ l) e =
     rw h (ap (λ (r : List ℕ). x ∷ r) (prefix-told t l (w .1)))
 
 -- a field, or blanks and a field, in front of what follows
-met-then : {k : FieldKind} {s : List ℕ} {p : ℕ} {t : Text} {q : ℕ} {A B : Shape} → (m : Met k s p t q) → A (m .written) → B (drop q s) → (A ⨾ B) (drop p s)
+met-then : {k : FieldKind} {s : List ℕ} {p : ℕ} {t : Text} {q : ℕ} {A B : Shape} → (m : Met k s p t q) → A (m .written) → B (drop q s)
+    → (A ⨾ B) (drop p s)
 met-then {s} {q} m a b = (m .written, drop q s, m .place, a, b)
 
-parted-then : {k : FieldKind} {s : List ℕ} {p : ℕ} {t : Text} {q : ℕ} {A B : Shape} → (m : Parted k s p t q) → A (m .field .written) → B (drop q s) → (Gap ⨾ A ⨾ B) (drop p s)
+parted-then : {k : FieldKind} {s : List ℕ} {p : ℕ} {t : Text} {q : ℕ} {A B : Shape} → (m : Parted k s p t q) → A (m .field .written) → B (drop q s)
+    → (Gap ⨾ A ⨾ B) (drop p s)
 parted-then {s} m a b = (m .gap, drop (m .from) s, m .place, m .blanks, met-then (m .field) a b)
 
 -- the line from p on, whose first text stands at q
@@ -63,7 +67,8 @@ module _ (s z : List ℕ) (p q : ℕ) (x : List ℕ) (e : drop p s ≡ x ++ drop
   abbrev M : FileKind → Line → Type 0
   M k = Means k (s ++ z) (drop p s)
 
-  on-field : (k : FileKind) (P : Text → ℕ → Type 0) (y : Field) (c : Text → ℕ → Line) → Where P y → ((t : Text) (r : ℕ) → P t r → M k (c t r)) → M k (onField y c)
+  on-field : (k : FileKind) (P : Text → ℕ → Type 0) (y : Field) (c : Text → ℕ → Line) → Where P y → ((t : Text) (r : ℕ) → P t r → M k (c t r))
+      → M k (onField y c)
   unfolding onField Where Means
   on-field k P (Is t r) c m h = h t r m
   on-field k P No c m h = tt
@@ -119,7 +124,8 @@ module _ (s z : List ℕ) (p q : ℕ) (x : List ℕ) (e : drop p s ≡ x ++ drop
       (λ g. rw (m .same z) (is-name (x, drop q s, e, b, met-then {A = Word (partOf s t)} {B = Blanks} m (m .shape) (ends-told s r (leb-true _ _ h))) g)) (λ g. tt)) (λ h. tt)
 
   module _ (not-comment : CommentLine (drop p s) → ⊥) (not-opening : OpeningLine (drop p s) → ⊥) where
-    guess-told : (t₁ t₂ t₃ : Text) (q₁ q₂ q₃ : ℕ) (v : Bool) → Met Plain s q t₁ q₁ → Parted Plain s q₁ t₂ q₂ → Parted Plain s q₂ t₃ q₃ → length s ≤ spanEnd blanks s q₃
+    guess-told : (t₁ t₂ t₃ : Text) (q₁ q₂ q₃ : ℕ) (v : Bool) → Met Plain s q t₁ q₁ → Parted Plain s q₁ t₂ q₂ → Parted Plain s q₂ t₃ q₃
+        → length s ≤ spanEnd blanks s q₃
         → sameText (partOf s t₃) (verdict v) ≡ true → M Guesses (guessTold s t₁ t₂ v)
     unfolding guessTold textAt Means saidOf Written
     guess-told t₁ t₂ t₃ q₁ q₂ q₃ v m₁ m₂ m₃ h g =
@@ -199,20 +205,21 @@ opening-complete k s p (x, y, e, h, (u, v, d, g, o)) =
     pick-false _ _ _ (lt-leb _ _ (w .0)) ∙ pick-false _ _ _ (not-both s _ _ refl (w .1)) ∙ pick-true _ _ _ (w .1)
 
 -- the line is told, and says x in the file f
-pub record Told-as (f : List ℕ) (l : Line) (x : Said) : Type 0 where
-  pub told : Told
+pub record Tells-as (f : List ℕ) (l : Line) (x : Said) : Type 0 where
+  pub told : Clause
   pub is : l ≡ Tells told
   pub same : saidOf f told ≡ x
 
 -- a field that stands there, and what is told behind it
 on-given : {f s w r : List ℕ} {x : Field} {y : Said} {c : Text → ℕ → Line} → Given s x w r
-    → ((t : Text) (q : ℕ) → partOf s t ≡ w → ((z : List ℕ) → partOf (s ++ z) t ≡ w) → drop q s ≡ r → Told-as f (c t q) y) → Told-as f (onField x c) y
+    → ((t : Text) (q : ℕ) → partOf s t ≡ w → ((z : List ℕ) → partOf (s ++ z) t ≡ w) → drop q s ≡ r → Tells-as f (c t q) y)
+    → Tells-as f (onField x c) y
 unfolding onField
 on-given {c} g h =
     let m = h (g .part) (g .next) (g .here) (g .there) (g .place) in
     record { told = m .told; is = rw (g .is) (m .is); same = m .same }
 
-on-true : {f : List ℕ} {y : Said} {t : Bool} {a : Line} (b : Line) → t ≡ true → Told-as f a y → Told-as f (pick t a b) y
+on-true : {f : List ℕ} {y : Said} {t : Bool} {a : Line} (b : Line) → t ≡ true → Tells-as f a y → Tells-as f (pick t a b) y
 on-true b e m = record { told = m .told; is = pick-true _ _ _ e ∙ m .is; same = m .same }
 
 text-good : (s : List ℕ) (t : Text) (w : List ℕ) → partOf s t ≡ w → Printable w → textAt s t ≡ true
@@ -221,7 +228,7 @@ text-good s t w e h = rw e h
 
 module _ (s z : List ℕ) (q : ℕ) (y : List ℕ) (d : drop q s ≡ y) where
   four-complete : (p l r e : List ℕ) → (TextString p ⨾ Gap ⨾ TextString l ⨾ Gap ⨾ TextString r ⨾ Gap ⨾ TextString e ⨾ λ t. Blanks t ⊎ CommentLine t) y
-      → Told-as (s ++ z) (fourAt s q) (rule p l r e)
+      → Tells-as (s ++ z) (fourAt s q) (rule p l r e)
   unfolding fourAt lastTwo ruleTold saidOf Written Follows
   four-complete p l r e (x₁, y₁, d₁, (h₁, t₁), (g₂, w₂, f₂, k₂, (x₂, y₂, d₂, (h₂, t₂), (g₃, w₃, f₃, k₃, (x₃, y₃, d₃, (h₃, t₃), (g₄, w₄, f₄, k₄, (x₄, y₄, d₄, (h₄, t₄), o))))))) =
       on-given (field-given Quoted s q p x₁ y₁ (d ∙ d₁) h₁ tt) λ a₁ q₁ i₁ j₁ n₁.
@@ -232,25 +239,27 @@ module _ (s z : List ℕ) (q : ℕ) (y : List ℕ) (d : drop q s ≡ y) where
       (on-true _ (and-yes _ _ (text-good s a₁ _ i₁ t₁) (and-yes _ _ (text-good s a₂ _ i₂ t₂) (and-yes _ _ (text-good s a₃ _ i₃ t₃) (text-good s a₄ _ i₄ t₄))))
       (record { told = Rule a₁ a₂ a₃ a₄; is = refl; same = rw (j₁ z, j₂ z, j₃ z, j₄ z) refl }))
 
-  include-complete : (n : List ℕ) → (Just includeWord ⨾ Gap ⨾ Word n ⨾ Blanks) y → Told-as (s ++ z) (includeAt s (q + 8)) (include n)
+  include-complete : (n : List ℕ) → (Just includeWord ⨾ Gap ⨾ Word n ⨾ Blanks) y → Tells-as (s ++ z) (includeAt s (q + 8)) (include n)
   unfolding includeAt saidOf Written
   include-complete n (x₁, y₁, d₁, h₁, (g₂, w₂, f₂, k₂, (x₂, y₂, d₂, h₂, o))) =
       let m : drop (q + 8) s ≡ y₁ = place-more s q includeWord y₁ (d ∙ d₁ ∙ ap (λ (l : List ℕ). l ++ y₁) h₁) in
       on-given (parted-given Plain s (q + 8) g₂ w₂ n x₂ y₂ (m ∙ f₂) k₂ d₂ h₂ (blanks-follow y₂ o)) λ a₁ q₁ i₁ j₁ n₁.
       on-true _ (ends-is s q₁ (rw n₁ o)) (record { told = Include a₁; is = refl; same = rw (j₁ z) refl })
 
-  name-complete : (n : List ℕ) → languageName n ≡ true → (Word n ⨾ Blanks) y → Told-as (s ++ z) (nameAt s q) (name n)
+  name-complete : (n : List ℕ) → languageName n ≡ true → (Word n ⨾ Blanks) y → Tells-as (s ++ z) (nameAt s q) (name n)
   unfolding nameAt nameTold saidOf Written
   name-complete n h (x₁, y₁, d₁, h₁, o) =
       on-given (field-given Plain s q n x₁ y₁ (d ∙ d₁) h₁ (blanks-follow y₁ o)) λ a₁ q₁ i₁ j₁ n₁.
       on-true _ (ends-is s q₁ (rw n₁ o)) (on-true _ (rw i₁ h) (record { told = Name a₁; is = refl; same = rw (j₁ z) refl }))
 
-  accepted : (v : Bool) (f : List ℕ) (a b c : Text) (m : Said) → partOf s c ≡ verdict v → Told-as f (guessTold s a b v) m → Told-as f (acceptTold s a b c) m
+  accepted : (v : Bool) (f : List ℕ) (a b c : Text) (m : Said) → partOf s c ≡ verdict v → Tells-as f (guessTold s a b v) m
+      → Tells-as f (acceptTold s a b c) m
   unfolding acceptTold sameText pick and
   accepted true f a b c m e w = rw e w
   accepted false f a b c m e w = rw e w
 
-  guess-complete : (p n : List ℕ) (v : Bool) → (TextWord p ⨾ Gap ⨾ TextWord n ⨾ Gap ⨾ Word (verdict v) ⨾ Blanks) y → Told-as (s ++ z) (guessAt s q) (guess p n v)
+  guess-complete : (p n : List ℕ) (v : Bool) → (TextWord p ⨾ Gap ⨾ TextWord n ⨾ Gap ⨾ Word (verdict v) ⨾ Blanks) y
+      → Tells-as (s ++ z) (guessAt s q) (guess p n v)
   unfolding guessAt guessEnd guessTold saidOf Written
   guess-complete p n v (x₁, y₁, d₁, (h₁, t₁), (g₂, w₂, f₂, k₂, (x₂, y₂, d₂, (h₂, t₂), (g₃, w₃, f₃, k₃, (x₃, y₃, d₃, h₃, o))))) =
       on-given (field-given Plain s q p x₁ y₁ (d ∙ d₁) h₁ (gap-follows g₂ w₂ y₁ f₂ k₂)) λ a₁ q₁ i₁ j₁ n₁.
@@ -267,12 +276,13 @@ told-at k s p x c y e h n f g =
     let q : spanEnd blanks s p ≡ p + length x = span-is s p blanks x (c ∷ y) e h (text-ends c n) in
     rw q (pick-false _ _ _ (lt-leb _ _ (place-in s (p + length x) c y (place-more s p x (c ∷ y) e))) ∙ pick-false _ _ _ f ∙ pick-false _ _ _ g)
 
-told-other : (k : FileKind) (s : List ℕ) (p : ℕ) (x : List ℕ) (c : ℕ) (y : List ℕ) → drop p s ≡ x ++ c ∷ y → Blanks x → NoBlank c → (c ≡ 47 → ⊥) → lineAt k s p ≡ toldAt k s (p + length x)
+told-other : (k : FileKind) (s : List ℕ) (p : ℕ) (x : List ℕ) (c : ℕ) (y : List ℕ) → drop p s ≡ x ++ c ∷ y → Blanks x → NoBlank c → (c ≡ 47 → ⊥)
+    → lineAt k s p ≡ toldAt k s (p + length x)
 told-other k s p x c y e h n o =
     let d = place-more s p x (c ∷ y) e in
     told-at k s p x c y e h n (pair-not s (p + length x) 47 47 c y d o) (pair-not s (p + length x) 47 42 c y d o)
 
-told-by : {f : List ℕ} {l m : Line} {x : Said} → l ≡ m → Told-as f m x → Told-as f l x
+told-by : {f : List ℕ} {l m : Line} {x : Said} → l ≡ m → Tells-as f m x → Tells-as f l x
 told-by e w = record { told = w .told; is = e ∙ w .is; same = w .same }
 
 -- a name begins with a letter
@@ -287,7 +297,7 @@ name-first c w h e =
     false≢true (sym (slash-name w) ∙ and-inv _ _ (and-inv _ _ g .1) .1)
 
 module _ (s z : List ℕ) (p : ℕ) where
-  rule-complete : (a l r e : List ℕ) → RuleLine a l r e (drop p s) → Told-as (s ++ z) (lineAt Rules s p) (rule a l r e)
+  rule-complete : (a l r e : List ℕ) → RuleLine a l r e (drop p s) → Tells-as (s ++ z) (lineAt Rules s p) (rule a l r e)
   unfolding toldAt ruleAt prefixOf and
   rule-complete a l r e (x, y, d, h, (x₁, y₁, d₁, (h₁, t₁), o)) =
       let v : List ℕ = (a ++ 34 ∷ []) ++ y₁ in
@@ -297,7 +307,7 @@ module _ (s z : List ℕ) (p : ℕ) where
       told-by (told-other Rules s p x 34 v (d ∙ ap (λ (v : List ℕ). x ++ v) m) h (plain 34 (omega arith)) (λ n. omega arith) ∙ pick-false _ _ _ (lt-leb _ _ (place-in s _ 34 v (j ∙ m))) ∙ pick-false _ _ _ f)
       (four-complete s z (p + length x) y j a l r e (x₁, y₁, d₁, (h₁, t₁), o))
 
-  include-said : (n : List ℕ) → IncludeLine n (drop p s) → Told-as (s ++ z) (lineAt Rules s p) (include n)
+  include-said : (n : List ℕ) → IncludeLine n (drop p s) → Tells-as (s ++ z) (lineAt Rules s p) (include n)
   unfolding toldAt ruleAt prefixOf and
   include-said n (x, y, d, h, (x₁, y₁, d₁, h₁, o)) =
       let m : y ≡ includeWord ++ y₁ = d₁ ∙ ap (λ (v : List ℕ). v ++ y₁) h₁ in
@@ -307,32 +317,34 @@ module _ (s z : List ℕ) (p : ℕ) where
       told-by (told-other Rules s p x 35 v (d ∙ ap (λ (v : List ℕ). x ++ v) m) h (plain 35 (omega arith)) (λ n. omega arith) ∙ pick-false _ _ _ (lt-leb _ _ (place-in s _ 35 v (j ∙ m))) ∙ pick-true _ _ _ f)
       (include-complete s z (p + length x) y j n (x₁, y₁, d₁, h₁, o))
 
-  name-said : (n : List ℕ) → NameLine n (drop p s) → languageName n ≡ true → Told-as (s ++ z) (lineAt Languages s p) (name n)
+  name-said : (n : List ℕ) → NameLine n (drop p s) → languageName n ≡ true → Tells-as (s ++ z) (lineAt Languages s p) (name n)
   unfolding toldAt Every
-  name-said [] (x, y, d, h, (x₁, y₁, d₁, h₁, o)) g = absurd (h₁ .1 refl)
-  name-said (c ∷ n) (x, y, d, h, (x₁, y₁, d₁, h₁, o)) g =
-      let m : y ≡ c ∷ n ++ y₁ = d₁ ∙ ap (λ (v : List ℕ). v ++ y₁) (h₁ .0) in
-      told-by (told-other Languages s p x c (n ++ y₁) (d ∙ ap (λ (v : List ℕ). x ++ v) m) h (h₁ .2 .0) (name-first c n g))
-      (name-complete s z (p + length x) y (place-more s p x y d) (c ∷ n) g (x₁, y₁, d₁, h₁, o))
+  name-said [] (x, y, d, h, (x₁, y₁, d₁, (e, i, j), o)) g = absurd (i refl)
+  name-said (c ∷ n) (x, y, d, h, (x₁, y₁, d₁, (e, i, j), o)) g =
+      let m : y ≡ c ∷ n ++ y₁ = d₁ ∙ ap (λ (v : List ℕ). v ++ y₁) e in
+      told-by (told-other Languages s p x c (n ++ y₁) (d ∙ ap (λ (v : List ℕ). x ++ v) m) h (j .0) (name-first c n g))
+      (name-complete s z (p + length x) y (place-more s p x y d) (c ∷ n) g (x₁, y₁, d₁, (e, i, j), o))
 
   -- a line that the pair does not begin
-  unpaired : (a b : ℕ) (x : List ℕ) (c : ℕ) (y : List ℕ) → 0 < b → drop p s ≡ x ++ c ∷ y → Blanks x → ((Blanks ⨾ Just (a ∷ b ∷ []) ⨾ Anything) (drop p s) → ⊥)
+  unpaired : (a b : ℕ) (x : List ℕ) (c : ℕ) (y : List ℕ) → 0 < b → drop p s ≡ x ++ c ∷ y → Blanks x
+      → ((Blanks ⨾ Just (a ∷ b ∷ []) ⨾ Anything) (drop p s) → ⊥)
       → (t : Bool) → pairAt s (p + length x) a b ≡ t → t ≡ false
   unpaired a b x c y l d h n false e = refl
   unpaired a b x c y l d h n true e =
       absurd (n (x, c ∷ y, d, h, (a ∷ b ∷ [], drop (p + length x + 2) s, sym (place-more s p x (c ∷ y) d) ∙ pair-told s (p + length x) a b l e, refl, tt)))
 
-  guess-said : (a n : List ℕ) (v : Bool) → GuessLine a n v (drop p s) → (CommentLine (drop p s) → ⊥) → (OpeningLine (drop p s) → ⊥) → Told-as (s ++ z) (lineAt Guesses s p) (guess a n v)
+  guess-said : (a n : List ℕ) (v : Bool) → GuessLine a n v (drop p s) → (CommentLine (drop p s) → ⊥) → (OpeningLine (drop p s) → ⊥)
+      → Tells-as (s ++ z) (lineAt Guesses s p) (guess a n v)
   unfolding toldAt Every
-  guess-said [] n v (x, y, d, h, (x₁, y₁, d₁, (h₁, t₁), o)) f g = absurd (h₁ .1 refl)
-  guess-said (c ∷ a) n v (x, y, d, h, (x₁, y₁, d₁, (h₁, t₁), o)) f g =
-      let m : y ≡ c ∷ a ++ y₁ = d₁ ∙ ap (λ (v : List ℕ). v ++ y₁) (h₁ .0) in
-      let i : drop p s ≡ x ++ c ∷ (a ++ y₁) = d ∙ ap (λ (v : List ℕ). x ++ v) m in
-      told-by (told-at Guesses s p x c (a ++ y₁) i h (h₁ .2 .0) (unpaired 47 47 x c (a ++ y₁) (omega arith) i h f _ refl) (unpaired 47 42 x c (a ++ y₁) (omega arith) i h g _ refl))
-      (guess-complete s z (p + length x) y (place-more s p x y d) (c ∷ a) n v (x₁, y₁, d₁, (h₁, t₁), o))
+  guess-said [] n v (x, y, d, h, (x₁, y₁, d₁, ((e, i, j), t₁), o)) f g = absurd (i refl)
+  guess-said (c ∷ a) n v (x, y, d, h, (x₁, y₁, d₁, ((e, i, j), t₁), o)) f g =
+      let m : y ≡ c ∷ a ++ y₁ = d₁ ∙ ap (λ (v : List ℕ). v ++ y₁) e in
+      let k : drop p s ≡ x ++ c ∷ (a ++ y₁) = d ∙ ap (λ (v : List ℕ). x ++ v) m in
+      told-by (told-at Guesses s p x c (a ++ y₁) k h (j .0) (unpaired 47 47 x c (a ++ y₁) (omega arith) k h f _ refl) (unpaired 47 42 x c (a ++ y₁) (omega arith) k h g _ refl))
+      (guess-complete s z (p + length x) y (place-more s p x y d) (c ∷ a) n v (x₁, y₁, d₁, ((e, i, j), t₁), o))
 
 -- what the grammar says of a line is told so; z is what follows it in its file
-pub says-complete : {k : FileKind} (s z : List ℕ) (p : ℕ) (l : List ℕ) {x : Said} → drop p s ≡ l → LineSays k l x → Told-as (s ++ z) (lineAt k s p) x
+pub says-complete : {k : FileKind} (s z : List ℕ) (p : ℕ) (l : List ℕ) {x : Said} → drop p s ≡ l → LineSays k l x → Tells-as (s ++ z) (lineAt k s p) x
 says-complete s z p l e (is-rule w) = rule-complete s z p _ _ _ _ (rw e w)
 says-complete s z p l e (is-include w) = include-said s z p _ (rw e w)
 says-complete s z p l e (is-guess w f g) = guess-said s z p _ _ _ (rw e w) (rw e f) (rw e g)
@@ -341,8 +353,8 @@ says-complete s z p l e (is-name w h) = name-said s z p _ (rw e w) h
 -- a line says one thing
 pub one-saying : (k : FileKind) (l : List ℕ) (x y : Said) → LineSays k l x → LineSays k l y → x ≡ y
 one-saying k l x y v w =
-    let a : Told-as (l ++ []) (lineAt k l 0) x = says-complete l [] 0 l refl v in
-    let b : Told-as (l ++ []) (lineAt k l 0) y = says-complete l [] 0 l refl w in
+    let a : Tells-as (l ++ []) (lineAt k l 0) x = says-complete l [] 0 l refl v in
+    let b : Tells-as (l ++ []) (lineAt k l 0) y = says-complete l [] 0 l refl w in
     let e : Tells (a .told) ≡ Tells (b .told) = sym (a .is) ∙ b .is in
     let f : a .told ≡ b .told = cc in
     sym (a .same) ∙ ap (saidOf (l ++ [])) f ∙ b .same

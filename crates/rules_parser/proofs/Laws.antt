@@ -8,19 +8,22 @@ use lib.ListN.{length}
 use borrow.Author.Tests.{lt-ltb, le-ltb, ltb-true}
 use Rattle.languages.specs.Names.{languageName}
 use Rattle.rule.specs.Matching.{ruleText}
-use Rattle.rules_parser.specs.Fields.{partOf}
-use Rattle.rules_parser.specs.Files.{itemAt, onNext, itemsFrom, itemsOf}
-use Rattle.rules_parser.proofs.Ahead.{Ahead, item-ahead}
-use Rattle.rules_parser.proofs.Sound.{Says, says}
-use Rattle.rules_parser.specs.declared.fields.Text.{Text}
-use Rattle.rules_parser.specs.declared.lines.FileKind.{FileKind}
-use Rattle.rules_parser.specs.declared.lines.FileKind.the-variants.{Languages, Guesses, Rules}
-use Rattle.rules_parser.specs.declared.lines.Told.{Told}
-use Rattle.rules_parser.specs.declared.lines.Told.the-variants.{Rule, Guess, Name}
-use Rattle.rules_parser.specs.declared.files.Item.{Item}
-use Rattle.rules_parser.specs.declared.files.Item.the-variants.{Passed, Tells, Wrong}
+use Rattle.rules_parser.specs as specs
+use specs.Fields.{partOf}
+use specs.Files.{itemAt, onNext, itemsFrom, itemsOf}
+use Rattle.rules_parser.proofs as own
+use own.Ahead.{Ahead, item-ahead}
+use own.Sound.{Good, told-good}
+use specs.Grammar.{saidOf}
+use specs.declared.fields.Text.{Text}
+use specs.declared.lines.FileKind.{FileKind}
+use specs.declared.lines.FileKind.the-variants.{Languages, Guesses, Rules}
+use specs.declared.lines.Clause.{Clause}
+use specs.declared.lines.Clause.the-variants.{Rule, Guess, Name}
+use specs.declared.files.Item.{Item}
+use specs.declared.files.Item.the-variants.{Passed, Tells, Wrong}
 use Rattle.base.proofs.PickLaws.{pick-true, pick-false, pick-cong}
-use Rattle.rules_parser.specs.Contracts.{itemsAt}
+use specs.Contracts.{itemsAt}
 
 -- ---- an item goes on, within the file
 
@@ -41,7 +44,7 @@ module _ (k : FileKind) (s : List ℕ) (p l n : ℕ) (e : itemAt k s p ≡ Passe
   pub passed-lines : l ≤ n - p
   passed-lines = omega (arith, passed .3)
 
-module _ (k : FileKind) (s : List ℕ) (p : ℕ) (t : Told) (n : ℕ) (e : itemAt k s p ≡ Tells t n) where
+module _ (k : FileKind) (s : List ℕ) (p : ℕ) (t : Clause) (n : ℕ) (e : itemAt k s p ≡ Tells t n) where
   tells : (p < n) × (n ≤ length s)
   unfolding Ahead
   tells = subst (Ahead s p) e (item-ahead k s p)
@@ -66,7 +69,8 @@ same-items : (f g : ℕ) (k : FileKind) (s : List ℕ) (p : ℕ) → length s - 
 unfolding itemsFrom Ahead onNext
 same-items zero g k s p h i = sym (past-end g k s p (omega arith))
 same-items (suc f) zero k s p h i = past-end (suc f) k s p (omega arith)
-same-items (suc f) (suc g) k s p h i = pick-cong _ _ _ _ _ (λ e. on (ltb-true _ _ e) (itemAt k s p) (item-ahead k s p) (λ m. same-items f g k s m)) (λ e. refl)
+same-items (suc f) (suc g) k s p h i =
+    pick-cong _ _ _ _ _ (λ e. on (ltb-true _ _ e) (itemAt k s p) (item-ahead k s p) (λ m. same-items f g k s m)) (λ e. refl)
   where
     on : p < length s → (x : Item) → Ahead s p x → ((m : ℕ) → length s - m ≤ f → length s - m ≤ g → itemsFrom f k s m ≡ itemsFrom g k s m)
         → onNext x (itemsFrom f k s) ≡ onNext x (itemsFrom g k s)
@@ -92,7 +96,7 @@ items-passed k s p l n e =
     let b = passed-in k s p l n e in
     items-here k s p (omega arith) ∙ rw e (ap (λ (r : List Item). Passed l n ∷ r) (same-items _ _ k s n (omega arith) (omega arith)))
 
-pub items-tells : (k : FileKind) (s : List ℕ) (p : ℕ) (t : Told) (n : ℕ) → itemAt k s p ≡ Tells t n → itemsAt k s p ≡ Tells t n ∷ itemsAt k s n
+pub items-tells : (k : FileKind) (s : List ℕ) (p : ℕ) (t : Clause) (n : ℕ) → itemAt k s p ≡ Tells t n → itemsAt k s p ≡ Tells t n ∷ itemsAt k s n
 unfolding onNext
 items-tells k s p t n e =
     let a = tells-goes k s p t n e in
@@ -107,30 +111,30 @@ pub ruleset reading = (items-start, items-end, items-passed, items-tells, items-
 
 -- ---- what a told line guarantees
 
+good : (k : FileKind) (s : List ℕ) (p : ℕ) (t : Clause) (n : ℕ) → itemAt k s p ≡ Tells t n → Good (saidOf s t)
+good k s p t n e = told-good k s p t n (omega (arith, tells-goes k s p t n e, tells-in k s p t n e)) e
+
 module _ (s : List ℕ) (p : ℕ) (a b c d : Text) (n : ℕ) (e : itemAt Rules s p ≡ Tells (Rule a b c d) n) where
-  rule-says : Says s (Rule a b c d)
-  rule-says = says Rules s p (Rule a b c d) n e
+  texts : (ruleText (partOf s a) ≡ true) × (ruleText (partOf s b) ≡ true) × (ruleText (partOf s c) ≡ true) × (ruleText (partOf s d) ≡ true)
+  unfolding Good saidOf
+  texts = good Rules s p (Rule a b c d) n e
 
   pub rule-pattern : ruleText (partOf s a) ≡ true
-  unfolding Says
-  rule-pattern = rule-says .0
+  rule-pattern = texts .0
 
   pub rule-left : ruleText (partOf s b) ≡ true
-  unfolding Says
-  rule-left = rule-says .1
+  rule-left = texts .1
 
   pub rule-right : ruleText (partOf s c) ≡ true
-  unfolding Says
-  rule-right = rule-says .2
+  rule-right = texts .2
 
   pub rule-expression : ruleText (partOf s d) ≡ true
-  unfolding Says
-  rule-expression = rule-says .3
+  rule-expression = texts .3
 
 pub guess-pattern : (s : List ℕ) (p : ℕ) (a b : Text) (v : Bool) (n : ℕ) → itemAt Guesses s p ≡ Tells (Guess a b v) n → ruleText (partOf s a) ≡ true
-unfolding Says
-guess-pattern s p a b v n e = says Guesses s p (Guess a b v) n e
+unfolding Good saidOf
+guess-pattern s p a b v n e = good Guesses s p (Guess a b v) n e
 
 pub name-language : (s : List ℕ) (p : ℕ) (t : Text) (n : ℕ) → itemAt Languages s p ≡ Tells (Name t) n → languageName (partOf s t) ≡ true
-unfolding Says
-name-language s p t n e = says Languages s p (Name t) n e
+unfolding Good saidOf
+name-language s p t n e = good Languages s p (Name t) n e

@@ -7,6 +7,7 @@ pub mod Laws
 pub mod GrammarFields
 pub mod GrammarLaws
 pub mod GrammarEnds
+pub mod GrammarItems
 pub mod GrammarFiles
 pub mod LineExamples
 pub mod NumberLaws

@@ -7,11 +7,12 @@ use Rattle.letters.specs.Order.{sameText}
 use Rattle.texts.specs.Parts.{prefixOf}
 use Rattle.languages.specs.Names.{isLetter, allLetters, languageName}
 use Rattle.rule.specs.Matching.{plainCode, plainIn, ruleText}
-use Rattle.rules_parser.specs.Fields.{partOf, passesOf, spanOf, spanEnd, pairAt, quotedAt, bareAt, fieldAt, partedAt, endsAt, tailOk}
-use Rattle.rules_parser.specs.Lines.{onField, textAt, ruleTold, lastTwo, fourAt, includeAt, ruleAt, guessTold, acceptTold, guessEnd, guessAt, nameTold, nameAt, toldAt, lineAt}
-use Rattle.rules_parser.specs.Files.{countedOf, closeIn, closeAt, textEnd, nextLine, restBlank, onClose, commentAt, onLine, itemAt, onNext, itemsFrom, itemsOf}
-use Rattle.rules_parser.specs.Grammar.{saidOf, foundOf}
-use Rattle.rules_parser.specs.LineExamples.{bytes, comments, lines, AllFound}
+use Rattle.rules_parser.specs as specs
+use specs.Fields.{partOf, passesOf, spanOf, spanEnd, pairAt, quotedAt, bareAt, fieldAt, partedAt, endsAt, tailOk}
+use specs.Lines.{onField, textAt, ruleTold, lastTwo, fourAt, includeAt, ruleAt, guessTold, acceptTold, guessEnd, guessAt, nameTold, nameAt, toldAt, lineAt}
+use specs.Files.{countedOf, closeIn, closeAt, textEnd, nextLine, restBlank, onClose, commentAt, onLine, itemAt, onNext, itemsFrom, itemsOf}
+use specs.Grammar.{saidOf, foundOf}
+use specs.LineExamples.{bytes, comments, lines, AllFound}
 
 -- what the examples compute with
 computing : Unit {0}
@@ -28,4 +29,5 @@ comments-found = (refl, (refl, (refl, (refl, (refl, (refl, (refl, (refl, tt)))))
 
 pub lines-found : AllFound lines
 unfolding computing lines
-lines-found = (refl, (refl, (refl, (refl, (refl, (refl, (refl, (refl, (refl, (refl, (refl, (refl, (refl, (refl, (refl, (refl, (refl, tt)))))))))))))))))
+lines-found =
+    (refl, (refl, (refl, (refl, (refl, (refl, (refl, (refl, (refl, (refl, (refl, (refl, (refl, (refl, (refl, (refl, (refl, tt)))))))))))))))))

@@ -12,17 +12,18 @@ use Rattle.letters.specs.Order.{sameText}
 use Rattle.texts.specs.Parts.{prefixOf}
 use Rattle.languages.specs.Names.{languageName}
 use Rattle.rule.specs.Matching.{ruleText}
-use Rattle.rules_parser.specs.Fields.{partOf, spanEnd, pairAt}
-use Rattle.rules_parser.specs.Lines.{onField, textAt, fourAt, includeWord, includeAt, ruleAt, trueWord, falseWord, guessTold, acceptTold, guessAt, nameTold, nameAt, toldAt, lineAt}
-use Rattle.rules_parser.specs.declared.fields.Kind.the-variants.{Blank as blanks}
-use Rattle.rules_parser.specs.declared.fields.Text.{Text}
-use Rattle.rules_parser.specs.declared.fields.Field.{Field}
-use Rattle.rules_parser.specs.declared.fields.Field.the-variants.{Is, No}
-use Rattle.rules_parser.specs.declared.lines.FileKind.{FileKind}
-use Rattle.rules_parser.specs.declared.lines.FileKind.the-variants.{Languages, Guesses, Rules}
-use Rattle.rules_parser.specs.declared.lines.Told.the-variants.{Name}
-use Rattle.rules_parser.specs.declared.lines.Line.{Line}
-use Rattle.rules_parser.specs.declared.lines.Line.the-variants.{Blank, Comment, Opens, Tells, Bad}
+use Rattle.rules_parser.specs as specs
+use specs.Fields.{partOf, spanEnd, pairAt}
+use specs.Lines.{onField, textAt, fourAt, includeWord, includeAt, ruleAt, trueWord, falseWord, guessTold, acceptTold, guessAt, nameTold, nameAt, toldAt, lineAt}
+use specs.declared.fields.Kind.the-variants.{Blank as blanks}
+use specs.declared.fields.Text.{Text}
+use specs.declared.fields.Field.{Field}
+use specs.declared.fields.Field.the-variants.{Is, No}
+use specs.declared.lines.FileKind.{FileKind}
+use specs.declared.lines.FileKind.the-variants.{Languages, Guesses, Rules}
+use specs.declared.lines.Clause.the-variants.{Name}
+use specs.declared.lines.Line.{Line}
+use specs.declared.lines.Line.the-variants.{Blank, Comment, Opens, Tells, Bad}
 use Rattle.base.proofs.PickLaws.{pick-true, pick-false}
 
 -- ---- tests of a text, x being the part that it is and t what a call said of it
@@ -115,7 +116,8 @@ module _ (k : FileKind) (s : List ℕ) (p q : ℕ) (e : q ≡ spanEnd blanks s p
   unfolding lineAt
   line-opens t u h f g i j = rw (← e) (sym (pick-false _ _ _ (lt-leb _ _ h) ∙ pick-false _ _ _ (sym f ∙ g) ∙ pick-true _ _ _ (sym i ∙ j)))
 
-  pub line-told : (t u : Bool) (x : Line) → q < length s → t ≡ pairAt s q 47 47 → t ≡ false → u ≡ pairAt s q 47 42 → u ≡ false → x ≡ toldAt k s q → x ≡ lineAt k s p
+  pub line-told : (t u : Bool) (x : Line) → q < length s → t ≡ pairAt s q 47 47 → t ≡ false → u ≡ pairAt s q 47 42 → u ≡ false → x ≡ toldAt k s q
+      → x ≡ lineAt k s p
   unfolding lineAt
   line-told t u x h f g i j z = z ∙ rw (← e) (sym (pick-false _ _ _ (lt-leb _ _ h) ∙ pick-false _ _ _ (sym f ∙ g) ∙ pick-false _ _ _ (sym i ∙ j)))
 

@@ -5,11 +5,12 @@ use mathlib.Core.List.{List, [], _∷_}
 use Prim.Native.Nat.{ℕ, suc}
 use lib.Dec.{eqb}
 use lib.ListN.{getD}
-use Rattle.rules_parser.specs.Numbers.{acceptNumber, toldNumbers, itemNumbers}
-use Rattle.rules_parser.specs.declared.fields.Text.{Text}
-use Rattle.rules_parser.specs.declared.lines.Told.the-variants.{Rule, Include, Guess, Name}
-use Rattle.rules_parser.specs.declared.files.Item.{Item}
-use Rattle.rules_parser.specs.declared.files.Item.the-variants.{Passed, Tells, Wrong}
+use Rattle.rules_parser.specs as specs
+use specs.Numbers.{acceptNumber, toldNumbers, itemNumbers}
+use specs.declared.fields.Text.{Text}
+use specs.declared.lines.Clause.the-variants.{Rule, Include, Guess, Name}
+use specs.declared.files.Item.{Item}
+use specs.declared.files.Item.the-variants.{Passed, Tells, Wrong}
 
 -- the text at a place of the numbers, and the item that they are of
 unfoldable textBy : List ℕ → ℕ → Text

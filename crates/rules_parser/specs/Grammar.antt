@@ -14,8 +14,8 @@ use Rattle.rules_parser.specs.Fields.{partOf}
 use Rattle.rules_parser.specs.Lines.{includeWord, trueWord, falseWord}
 use Rattle.rules_parser.specs.declared.lines.FileKind.{FileKind}
 use Rattle.rules_parser.specs.declared.lines.FileKind.the-variants.{Languages, Guesses, Rules}
-use Rattle.rules_parser.specs.declared.lines.Told.{Told}
-use Rattle.rules_parser.specs.declared.lines.Told.the-variants.{Rule, Include, Guess, Name}
+use Rattle.rules_parser.specs.declared.lines.Clause.{Clause}
+use Rattle.rules_parser.specs.declared.lines.Clause.the-variants.{Rule, Include, Guess, Name}
 use Rattle.rules_parser.specs.declared.files.Item.{Item}
 use Rattle.rules_parser.specs.declared.files.Item.the-variants.{Passed, Tells, Wrong}
 
@@ -193,7 +193,7 @@ pub data Reads (k : FileKind) : List ℕ → List FoundItem → Type 0 where
 
 -- ---- what the reader gives, in the grammar's words: the bytes of the places, f being the file
 
-unfoldable pub saidOf : List ℕ → Told → Said
+unfoldable pub saidOf : List ℕ → Clause → Said
 saidOf f (Rule a b c d) = rule (partOf f a) (partOf f b) (partOf f c) (partOf f d)
 saidOf f (Include t) = include (partOf f t)
 saidOf f (Guess a b v) = guess (partOf f a) (partOf f b) v

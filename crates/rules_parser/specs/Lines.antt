@@ -16,7 +16,7 @@ use Rattle.rules_parser.specs.declared.fields.Field.{Field}
 use Rattle.rules_parser.specs.declared.fields.Field.the-variants.{Is, No}
 use Rattle.rules_parser.specs.declared.lines.FileKind.{FileKind}
 use Rattle.rules_parser.specs.declared.lines.FileKind.the-variants.{Languages, Guesses, Rules}
-use Rattle.rules_parser.specs.declared.lines.Told.the-variants.{Rule, Include, Guess, Name}
+use Rattle.rules_parser.specs.declared.lines.Clause.the-variants.{Rule, Include, Guess, Name}
 use Rattle.rules_parser.specs.declared.lines.Line.{Line}
 use Rattle.rules_parser.specs.declared.lines.Line.the-variants.{Blank, Comment, Opens, Tells, Bad}
 

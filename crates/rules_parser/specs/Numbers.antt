@@ -5,8 +5,8 @@ use mathlib.Core.List.{List, [], _∷_}
 use Rattle.refusals.specs.Numbers.{numberOf}
 use Rattle.refusals.specs.declared.Refusal.the-variants.{LineUnreadable}
 use Rattle.rules_parser.specs.declared.fields.Text.{Text}
-use Rattle.rules_parser.specs.declared.lines.Told.{Told}
-use Rattle.rules_parser.specs.declared.lines.Told.the-variants.{Rule, Include, Guess, Name}
+use Rattle.rules_parser.specs.declared.lines.Clause.{Clause}
+use Rattle.rules_parser.specs.declared.lines.Clause.the-variants.{Rule, Include, Guess, Name}
 use Rattle.rules_parser.specs.declared.files.Item.{Item}
 use Rattle.rules_parser.specs.declared.files.Item.the-variants.{Passed, Tells, Wrong}
 
@@ -16,7 +16,7 @@ acceptNumber false = 0
 acceptNumber true = 1
 
 -- what a line says: a number for its kind, which is ours, and the place and length of each of its texts
-unfoldable pub toldNumbers : Told → List ℕ
+unfoldable pub toldNumbers : Clause → List ℕ
 toldNumbers (Rule p l r e) = 1 ∷ p .start ∷ p .len ∷ l .start ∷ l .len ∷ r .start ∷ r .len ∷ e .start ∷ e .len ∷ []
 toldNumbers (Include n) = 2 ∷ n .start ∷ n .len ∷ []
 toldNumbers (Guess p n accept) = 3 ∷ p .start ∷ p .len ∷ n .start ∷ n .len ∷ acceptNumber accept ∷ []

@@ -1,6 +1,5 @@
 // The fields of a line. A slice ends where the line's text ends, and places count from the slice's start.
 ghost use mathlib.Core.Path.{_≡_};
-ghost use lib.ListN.{getD};
 ghost use Rattle.rules_parser.specs.Fields.{passesOf, spanEnd, pairAt, quotedAt, bareAt, fieldAt, partedAt, partOf, endsAt, tailOk};
 
 // What a run of bytes consists of.
@@ -45,13 +44,6 @@ pub fn part(s: &[u8], text: Text) -> &[u8]
     }
 }
 
-// The byte at p, and 0 past the end.
-pub(crate) fn byte_at(s: &[u8], p: usize) -> u8
-    ensures { λ r. ⌜ r ≡ getD (now (s .entry)) p 0 ⌝ }
-{
-    if p < s.len() { s[p] } else { 0 }
-}
-
 fn passes(k: Kind, b: u8) -> bool
     ensures { λ r. ⌜ r ≡ passesOf k b ⌝ }
 {
@@ -84,7 +76,7 @@ pub(crate) fn pair(s: &[u8], p: usize, a: u8, b: u8) -> bool
 {
     if p < s.len() {
         if s[p] == a {
-            byte_at(s, p + 1) == b
+            strings::byte_at(s, p + 1) == b as u32
         } else {
             false
         }

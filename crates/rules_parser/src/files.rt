@@ -4,9 +4,9 @@ ghost use Prim.Native.Nat.{_^_, _<_};
 ghost use Rattle.rules_parser.specs.Files.{countedOf, closeAt, textEnd, nextLine, restBlank, commentAt, itemAt};
 ghost use Rattle.rules_parser.specs.Numbers.{itemNumbers};
 use crate::fields::Kind;
+use crate::lines::Clause;
 use crate::lines::FileKind;
 use crate::lines::Line;
-use crate::lines::Told;
 
 // The place behind the end of a comment, and how many lines it takes.
 pub(crate) enum Close {
@@ -17,7 +17,7 @@ pub(crate) enum Close {
 // What stands at the beginning of a line: nothing to keep for some lines, what the line says, or no line at all (12).
 pub enum Item {
     Passed { lines: usize, next: usize },
-    Tells { told: Told, next: usize },
+    Tells { told: Clause, next: usize },
     Wrong,
 }
 

@@ -7,5 +7,5 @@ pub use fields::Text;
 pub use fields::part;
 pub use files::Item;
 pub use files::read_item;
+pub use lines::Clause;
 pub use lines::FileKind;
-pub use lines::Told;

@@ -15,7 +15,7 @@ pub enum FileKind {
 }
 
 // What a line says: the four strings of a rule, an include's file name, a guessing rule, a language name.
-pub enum Told {
+pub enum Clause {
     Rule {
         pattern: Text,
         left: Text,
@@ -39,7 +39,7 @@ pub(crate) enum Line {
     Blank,
     Comment,
     Opens,
-    Tells { told: Told },
+    Tells { told: Clause },
     Bad,
 }
 
@@ -59,7 +59,7 @@ fn rule_told(s: &[u8], pattern: Text, left: Text, right: Text, expression: Text)
             if text_good(s, right) {
                 if text_good(s, expression) {
                     return Line::Tells {
-                        told: Told::Rule {
+                        told: Clause::Rule {
                             pattern,
                             left,
                             right,
@@ -117,7 +117,7 @@ fn include(s: &[u8], p: usize) -> Line
         Field::Is { text: name, next } => {
             if crate::fields::ends(s, next) {
                 Line::Tells {
-                    told: Told::Include { name },
+                    told: Clause::Include { name },
                 }
             } else {
                 Line::Bad
@@ -149,7 +149,7 @@ fn guess_told(s: &[u8], pattern: Text, names: Text, accept: bool) -> Line
     if text_good(s, pattern) {
         if text_good(s, names) {
             return Line::Tells {
-                told: Told::Guess {
+                told: Clause::Guess {
                     pattern,
                     names,
                     accept,
@@ -214,7 +214,7 @@ fn name_told(s: &[u8], name: Text) -> Line
 {
     if languages::is_language_name(crate::fields::part(s, name)) {
         Line::Tells {
-            told: Told::Name { name },
+            told: Clause::Name { name },
         }
     } else {
         Line::Bad

@@ -1,7 +1,8 @@
-use Rattle.loader.proofs.GuessLaws.{guess-put}
+use Rattle.loader.proofs as own
+use own.GuessLaws.{guess-put}
 use borrow.Author.Needs.{needs}
-use Rattle.loader.proofs.guesses.put_guess.Statement.{statement}
-use Rattle.loader.proofs.guesses.put_guess.Tie as tie
+use own.guesses.put_guess.Statement.{statement}
+use own.guesses.put_guess.Tie as tie
 
 pub put-guess-spec : {M : Type 1} → statement M
 put-guess-spec =

@@ -1,8 +1,9 @@
 use Prim.Native.Nat.{_-_}
 use lib.ListN.{length}
-use Rattle.loader.proofs.GuessLaws.{Writing, writing-laws}
-use Rattle.loader.proofs.guesses.write_guesses.Statement.{statement}
-use Rattle.loader.proofs.guesses.write_guesses.Tie as tie
+use Rattle.loader.proofs as own
+use own.GuessLaws.{Writing, writes}
+use own.guesses.write_guesses.Statement.{statement}
+use own.guesses.write_guesses.Tie as tie
 
 abbrev Inv-loop : tie.InvT-loop
 Inv-loop s file names out₀ at place₀ count₀ p₀ line₀ out place count p line = Writing names s file out₀ at out place count p line
@@ -12,9 +13,9 @@ abbrev μ-loop : tie.MeasureT-loop
 
 pub write-guesses-spec : {M : Type 1} → statement M
 write-guesses-spec =
-    tie.close (tie.spec Inv-loop μ-loop (λ c. search writing-laws) (λ c κs. search writing-laws) (λ c. search writing-laws)
-    (λ c. search writing-laws) (λ c. search writing-laws) (λ c. search writing-laws) (λ c. search writing-laws) (λ c. search writing-laws)
-    (λ c κs. search writing-laws) (λ c κs. search writing-laws) (λ c κs. search writing-laws) (λ c. search writing-laws)
-    (λ c κs. search writing-laws) (λ c. search writing-laws) (λ c. search writing-laws) (λ c. search writing-laws) (λ c. search writing-laws)
-    (λ c. search writing-laws) (λ c. search writing-laws) (λ c. search writing-laws) (λ c. search writing-laws) (λ c. search writing-laws)
-    (λ c. search writing-laws) (λ c. search writing-laws) (λ c. search writing-laws) (λ c. search writing-laws) (λ c. search writing-laws))
+    tie.close (tie.spec Inv-loop μ-loop (λ c. search writes) (λ c κs. search writes) (λ c. search writes)
+    (λ c. search writes) (λ c. search writes) (λ c. search writes) (λ c. search writes) (λ c. search writes)
+    (λ c κs. search writes) (λ c κs. search writes) (λ c κs. search writes) (λ c. search writes)
+    (λ c κs. search writes) (λ c. search writes) (λ c. search writes) (λ c. search writes) (λ c. search writes)
+    (λ c. search writes) (λ c. search writes) (λ c. search writes) (λ c. search writes) (λ c. search writes)
+    (λ c. search writes) (λ c. search writes) (λ c. search writes) (λ c. search writes) (λ c. search writes))

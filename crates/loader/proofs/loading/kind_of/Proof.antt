@@ -1,7 +1,7 @@
-use borrow.Author.Needs.{needs}
-use Rattle.loader.proofs.PartLaws.{kind-laws}
-use Rattle.loader.proofs.loading.kind_of.Statement.{statement}
-use Rattle.loader.proofs.loading.kind_of.Tie as tie
+use Rattle.loader.proofs as own
+use own.LoadingLaws.{types}
+use own.loading.kind_of.Statement.{statement}
+use own.loading.kind_of.Tie as tie
 
 pub kind-of-spec : {M : Type 1} → statement M
-kind-of-spec = tie.close (tie.spec (λ c. search (kind-laws, needs)) (λ c. search (kind-laws, needs)) (λ c. search (kind-laws, needs)) (λ c. search (kind-laws, needs)))
+kind-of-spec = tie.close (tie.spec (λ c. search types) (λ c. search types) (λ c. search types) (λ c. search types))

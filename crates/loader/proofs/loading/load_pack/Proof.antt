@@ -1,9 +1,10 @@
-use Rattle.loader.proofs.LoadingLaws.{answer-laws}
-use Rattle.loader.proofs.loading.load_pack.Statement.{statement}
-use Rattle.loader.proofs.loading.load_pack.Tie as tie
+use Rattle.loader.proofs as own
+use own.LoadingLaws.{answers}
+use own.loading.load_pack.Statement.{statement}
+use own.loading.load_pack.Tie as tie
 
 pub load-pack-spec : {M : Type 1} → statement M
 load-pack-spec =
-    tie.close (tie.spec (λ c. search answer-laws) (λ c κs. search answer-laws) (λ c. search answer-laws) (λ c κs. search answer-laws)
-    (λ c. search answer-laws) (λ c κs. search answer-laws) (λ c. search answer-laws) (λ c. search answer-laws) (λ c. search answer-laws)
-    (λ c. search answer-laws))
+    tie.close (tie.spec (λ c. search answers) (λ c κs. search answers) (λ c. search answers) (λ c κs. search answers)
+    (λ c. search answers) (λ c κs. search answers) (λ c. search answers) (λ c. search answers) (λ c. search answers)
+    (λ c. search answers))

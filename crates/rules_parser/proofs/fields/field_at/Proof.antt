@@ -1,7 +1,8 @@
-use Rattle.rules_parser.proofs.FieldLaws.{fields}
+use Rattle.rules_parser.proofs as own
+use own.FieldLaws.{fields}
 use borrow.Author.Needs.{needs}
-use Rattle.rules_parser.proofs.fields.field_at.Statement.{statement}
-use Rattle.rules_parser.proofs.fields.field_at.Tie as tie
+use own.fields.field_at.Statement.{statement}
+use own.fields.field_at.Tie as tie
 
 pub field-at-spec : {M : Type 1} → statement M
 field-at-spec =

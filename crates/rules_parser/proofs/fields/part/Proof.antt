@@ -1,7 +1,8 @@
 use borrow.Author.Needs.{needs}
-use Rattle.rules_parser.proofs.FieldLaws.{parts}
-use Rattle.rules_parser.proofs.fields.part.Statement.{statement}
-use Rattle.rules_parser.proofs.fields.part.Tie as tie
+use Rattle.rules_parser.proofs as own
+use own.FieldLaws.{parts}
+use own.fields.part.Statement.{statement}
+use own.fields.part.Tie as tie
 
 pub part-spec : {M : Type 1} → statement M
 part-spec =

@@ -1,7 +1,8 @@
-use Rattle.rules_parser.proofs.FieldLaws.{kinds}
+use Rattle.rules_parser.proofs as own
+use own.FieldLaws.{kinds}
 use borrow.Author.Needs.{needs}
-use Rattle.rules_parser.proofs.fields.passes.Statement.{statement}
-use Rattle.rules_parser.proofs.fields.passes.Tie as tie
+use own.fields.passes.Statement.{statement}
+use own.fields.passes.Tie as tie
 use Rattle.base.proofs.PickLaws.{cases}
 
 pub passes-spec : {M : Type 1} → statement M

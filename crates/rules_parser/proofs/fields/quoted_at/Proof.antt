@@ -1,7 +1,8 @@
-use Rattle.rules_parser.proofs.FieldLaws.{span-low, fields}
+use Rattle.rules_parser.proofs as own
+use own.FieldLaws.{span-low, fields}
 use borrow.Author.Needs.{needs}
-use Rattle.rules_parser.proofs.fields.quoted_at.Statement.{statement}
-use Rattle.rules_parser.proofs.fields.quoted_at.Tie as tie
+use own.fields.quoted_at.Statement.{statement}
+use own.fields.quoted_at.Tie as tie
 
 pub quoted-at-spec : {M : Type 1} → statement M
 quoted-at-spec =

@@ -3,9 +3,10 @@ use Prim.Native.Nat.{_-_}
 use mathlib.Core.Path.{_≡_}
 use Rattle.rules_parser.specs.Fields.{spanEnd}
 use borrow.Author.Needs.{needs}
-use Rattle.rules_parser.proofs.FieldLaws.{spans}
-use Rattle.rules_parser.proofs.fields.span.Statement.{statement}
-use Rattle.rules_parser.proofs.fields.span.Tie as tie
+use Rattle.rules_parser.proofs as own
+use own.FieldLaws.{spans}
+use own.fields.span.Statement.{statement}
+use own.fields.span.Tie as tie
 
 abbrev Inv-loop : tie.InvT-loop
 Inv-loop s p k i₀ i = spanEnd k s p ≡ spanEnd k s i

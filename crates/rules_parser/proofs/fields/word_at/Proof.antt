@@ -1,7 +1,8 @@
-use Rattle.rules_parser.proofs.FieldLaws.{fields}
+use Rattle.rules_parser.proofs as own
+use own.FieldLaws.{fields}
 use borrow.Author.Needs.{needs}
-use Rattle.rules_parser.proofs.fields.word_at.Statement.{statement}
-use Rattle.rules_parser.proofs.fields.word_at.Tie as tie
+use own.fields.word_at.Statement.{statement}
+use own.fields.word_at.Tie as tie
 
 pub word-at-spec : {M : Type 1} → statement M
 word-at-spec = tie.close (tie.spec (λ c κs. search needs) (λ c. search needs) (λ c. search fields) (λ c. search fields))

@@ -2,10 +2,11 @@ use lib.ListN.{length, drop}
 use mathlib.Core.Path.{_≡_}
 use Prim.Native.Nat.{_≤_, _-_}
 use Rattle.rules_parser.specs.Files.{closeAt, closeIn}
-use Rattle.rules_parser.proofs.FileLaws.{closes}
+use Rattle.rules_parser.proofs as own
+use own.FileLaws.{closes}
 use borrow.Author.Needs.{needs}
-use Rattle.rules_parser.proofs.files.close_at.Statement.{statement}
-use Rattle.rules_parser.proofs.files.close_at.Tie as tie
+use own.files.close_at.Statement.{statement}
+use own.files.close_at.Tie as tie
 
 abbrev Inv-loop : tie.InvT-loop
 Inv-loop s p i₀ n₀ i n = (n ≤ i) × (closeAt s p ≡ closeIn s (drop i s) i n)

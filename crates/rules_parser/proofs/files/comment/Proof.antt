@@ -1,7 +1,8 @@
-use Rattle.rules_parser.proofs.FileLaws.{comments}
+use Rattle.rules_parser.proofs as own
+use own.FileLaws.{comments}
 use borrow.Author.Needs.{needs}
-use Rattle.rules_parser.proofs.files.comment.Statement.{statement}
-use Rattle.rules_parser.proofs.files.comment.Tie as tie
+use own.files.comment.Statement.{statement}
+use own.files.comment.Tie as tie
 
 pub comment-spec : {M : Type 1} → statement M
 comment-spec =

@@ -1,8 +1,9 @@
-use Rattle.rules_parser.proofs.NumberLaws.{item-told}
-use Rattle.rules_parser.proofs.FileLaws.{text-in, items}
+use Rattle.rules_parser.proofs as own
+use own.NumberLaws.{item-told}
+use own.FileLaws.{text-in, items}
 use borrow.Author.Needs.{needs}
-use Rattle.rules_parser.proofs.files.read_item.Statement.{statement}
-use Rattle.rules_parser.proofs.files.read_item.Tie as tie
+use own.files.read_item.Statement.{statement}
+use own.files.read_item.Tie as tie
 
 pub read-item-spec : {M : Type 1} → statement M
 read-item-spec =

@@ -1,7 +1,8 @@
-use Rattle.rules_parser.proofs.FileLaws.{ends}
+use Rattle.rules_parser.proofs as own
+use own.FileLaws.{ends}
 use borrow.Author.Needs.{needs}
-use Rattle.rules_parser.proofs.files.text_end.Statement.{statement}
-use Rattle.rules_parser.proofs.files.text_end.Tie as tie
+use own.files.text_end.Statement.{statement}
+use own.files.text_end.Tie as tie
 
 pub text-end-spec : {M : Type 1} → statement M
 text-end-spec =

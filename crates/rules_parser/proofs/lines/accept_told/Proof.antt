@@ -1,7 +1,8 @@
-use Rattle.rules_parser.proofs.LineLaws.{texts}
+use Rattle.rules_parser.proofs as own
+use own.LineLaws.{texts}
 use borrow.Author.Needs.{needs}
-use Rattle.rules_parser.proofs.lines.accept_told.Statement.{statement}
-use Rattle.rules_parser.proofs.lines.accept_told.Tie as tie
+use own.lines.accept_told.Statement.{statement}
+use own.lines.accept_told.Tie as tie
 
 pub accept-told-spec : {M : Type 1} → statement M
 accept-told-spec =

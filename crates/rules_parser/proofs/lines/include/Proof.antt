@@ -1,21 +1,13 @@
 use Rattle.rules_parser.specs.Lines.{includeAt}
-use Rattle.rules_parser.proofs.LineLaws.{in-order}
+use Rattle.rules_parser.proofs as own
+use own.LineLaws.{in-order}
 use borrow.Author.Needs.{needs}
-use Rattle.rules_parser.proofs.lines.include.Statement.{statement}
-use Rattle.rules_parser.proofs.lines.include.Tie as tie
+use own.lines.include.Statement.{statement}
+use own.lines.include.Tie as tie
 use Rattle.base.proofs.PickLaws.{cases}
 
-returns : tie.Need-returns
-unfolding includeAt
-returns c = search (in-order, cases)
-
-returns-2 : tie.Need-returns-2
-unfolding includeAt
-returns-2 c = search (in-order, cases)
-
-returns-3 : tie.Need-returns-3
-unfolding includeAt
-returns-3 c = search (in-order, cases)
-
 pub include-spec : {M : Type 1} → statement M
-include-spec = tie.close (tie.spec (λ c κs. search needs) (λ c. search needs) (λ c κs. search needs) (λ c. search needs) returns returns-2 returns-3)
+unfolding includeAt
+include-spec =
+    tie.close (tie.spec (λ c κs. search needs) (λ c. search needs) (λ c κs. search needs) (λ c. search needs) (λ c. search (in-order, cases))
+    (λ c. search (in-order, cases)) (λ c. search (in-order, cases)))

@@ -1,7 +1,8 @@
-use Rattle.rules_parser.proofs.LineLaws.{any-line}
+use Rattle.rules_parser.proofs as own
+use own.LineLaws.{any-line}
 use borrow.Author.Needs.{needs}
-use Rattle.rules_parser.proofs.lines.read_line.Statement.{statement}
-use Rattle.rules_parser.proofs.lines.read_line.Tie as tie
+use own.lines.read_line.Statement.{statement}
+use own.lines.read_line.Tie as tie
 
 pub read-line-spec : {M : Type 1} → statement M
 read-line-spec =

@@ -1,7 +1,8 @@
-use Rattle.rules_parser.proofs.LineLaws.{rules}
+use Rattle.rules_parser.proofs as own
+use own.LineLaws.{rules}
 use borrow.Author.Needs.{needs}
-use Rattle.rules_parser.proofs.lines.rule_line.Statement.{statement}
-use Rattle.rules_parser.proofs.lines.rule_line.Tie as tie
+use own.lines.rule_line.Statement.{statement}
+use own.lines.rule_line.Tie as tie
 
 pub rule-line-spec : {M : Type 1} → statement M
 rule-line-spec =
