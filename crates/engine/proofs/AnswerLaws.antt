@@ -307,7 +307,8 @@ module _ {s : List ℕ} {table : List (List ℕ)} {q : Request} {name : Text} (w
         unfolding speltFine callFor stepsAt startAt stepsOf stepsBy spelledBy
         spelled-is = rw (ec, start-is)
 
-        pub opened-told : {a : AnswerEnd} {ans : Spelled} {o o′ : List ℕ} → SpeltWhole (speltFine s call name) o o′ 0 a → ans ≡ answeredBy a (length o′)
+        pub opened-told : {a : AnswerEnd} {ans : Spelled} {o o′ : List ℕ}
+            → SpeltWhole (speltFine s call name) o o′ 0 a → ans ≡ answeredBy a (length o′)
             → SpellIs (outcomeOn s q name) o ans o′
         opened-told h ea = rw (on-pack ∙ pick-true _ _ _ y ∙ ap outcomeOf (sym spelled-is)) (answer-told (speltFine s call name) h ea)
 
