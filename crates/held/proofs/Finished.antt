@@ -1,17 +1,16 @@
 -- Laws of the finished list: under each first character it has what is held there, its first characters do not fall, and it has as many
 -- rules as stay. Assumes nothing.
 use mathlib.Core.Path.{_≡_, refl, sym, ap, ap₂, _∙_}
-use mathlib.Core.Bool.{Bool, true, false, false≢true}
+use mathlib.Core.Bool.{true, false, false≢true}
 use mathlib.Core.List.{List, [], _∷_, _++_, append-nil}
 use Prim.Native.Nat.{ℕ, zero, suc, _+_, _*_, _/_, _≤_, _<_}
 use native.Mathlib.Decide.{ℕ-discrete}
 use native.Mathlib.Omega.{arith}
 use lib.ListN.{length, length-append}
 use borrow.Author.Tests.{eqb-true, ne-eqb, eq-eqb}
-use Rattle.base.specs.Pick.{pick}
-use Rattle.held.specs.Met.{Met, end, rule, file, Map, noRules, bringsNone, add, extend, held, spread, codes, finished, entries}
-use Rattle.held.specs.Contracts.{noted, kept, staysIn, All, KeysApart, Each, Within, brings}
-use Rattle.held.proofs.Laws.{or-left, or-right, held-brings}
+use Rattle.held.specs.Met.{Met, end, rule, file, Map, noRules, bringsNone, add, extend, heldAfter, spread, codes, finished, entries}
+use Rattle.held.specs.Contracts.{noted, kept, keptRules, staysIn, All, KeysApart, Each, Within, brings}
+use Rattle.held.proofs.Laws.{or-left, or-right, pick-by, held-brings}
 use Rattle.held.proofs.Places.{noted-apart, noted-all}
 use Rattle.held.proofs.Kept.{under, under-append, kept-held}
 use Rattle.base.proofs.PickLaws.{pick-true, pick-false, pick-all}
@@ -24,8 +23,7 @@ nil-some (r ∷ l) e = omega arith
 module _ {R : Type 0} (first : R → ℕ) where
   -- every rule's first character is c
   abbrev Only : ℕ → List R → Type 0
-  Only c [] = Unit {0}
-  Only c (r ∷ rs) = (first r ≡ c) × Only c rs
+  Only c l = All (λ r. first r ≡ c) l
 
   -- first characters do not fall, and none is below c
   abbrev pub From : ℕ → List R → Type 0
@@ -43,12 +41,12 @@ module _ {R : Type 0} (first : R → ℕ) where
   under-there c r l n = pick-false _ _ _ (ne-eqb (first r) c n)
 
   under-same : (c : ℕ) (l : List R) → Only c l → under first c l ≡ l
-  unfolding under
+  unfolding under All
   under-same c [] o = refl
   under-same c (r ∷ l) o = under-here c r l (o .0) ∙ ap (λ (l : List R). r ∷ l) (under-same c l (o .1))
 
   under-other : (c e : ℕ) (l : List R) → (c ≡ e → ⊥) → Only c l → under first e l ≡ []
-  unfolding under
+  unfolding under All
   under-other c e [] n o = refl
   under-other c e (r ∷ l) n o = under-there e r l (λ p. n (sym (o .0) ∙ p)) ∙ under-other c e l n (o .1)
 
@@ -57,27 +55,36 @@ module _ {R : Type 0} (first : R → ℕ) where
   under-low c b [] h f = refl
   under-low c b (r ∷ l) h f = let w = f .0 in under-there c r l (λ p. omega arith) ∙ under-low c (first r) l (omega arith) (f .1)
 
-  -- a rule is held under its own first character
-  only-append : (c : ℕ) (a b : List R) → Only c a → Only c b → Only c (a ++ b)
-  only-append c [] b x y = y
-  only-append c (r ∷ a) b x y = (x .0, only-append c a b (x .1) y)
+  -- what every rule is that is met, every rule is that is held, under its first character
+  all-append : (P : R → Type 0) (a b : List R) → All P a → All P b → All P (a ++ b)
+  unfolding All
+  all-append P [] b x y = y
+  all-append P (r ∷ a) b x y = (x .0, all-append P a b (x .1) y)
 
-  pick-only : (c : ℕ) (t : Bool) (a b : List R) → (t ≡ true → Only c a) → (t ≡ false → Only c b) → Only c (pick t a b)
-  unfolding pick
-  pick-only c true a b p q = p refl
-  pick-only c false a b p q = q refl
+  held-all : (P : ℕ → R → Type 0) (t : Met R) (m : Map R) → Each (λ r. P (first r) r) t → ((c : ℕ) → All (P c) (m c)) → (c : ℕ) → All (P c) (heldAfter first m t c)
+  unfolding heldAfter add extend noRules Each All
+  held-all P end m e o c = o c
+  held-all P (rule r t) m e o c = held-all P t (add first m r) (e .1) (λ d. pick-by (All (P d)) _ _ _ (λ p. all-append (P d) (m d) (r ∷ []) (o d) (rw (eqb-true (first r) d p) at (e .0), tt)) (λ p. o d)) c
+  held-all P (file i t) m e o c =
+      let w = held-all P i noRules (e .0) (λ d. tt) in
+      held-all P t (extend m (heldAfter first noRules i)) (e .1) (λ d. pick-all (All (P d)) _ _ _ (o d) (w d)) c
 
-  held-only : (t : Met R) (m : Map R) → ((c : ℕ) → Only c (m c)) → (c : ℕ) → Only c (held first m t c)
-  unfolding held add extend noRules
-  held-only end m o c = o c
-  held-only (rule r t) m o c = held-only t (add first m r) (λ d. pick-only d _ _ _ (λ p. only-append d (m d) (r ∷ []) (o d) (eqb-true _ _ p, tt)) (λ p. o d)) c
-  held-only (file i t) m o c = let w = held-only i noRules (λ d. tt) in held-only t (extend m (held first noRules i)) (λ d. pick-only d _ _ _ (λ p. o d) (λ p. w d)) c
+  pub each-of : (P : R → Type 0) → ((r : R) → P r) → (t : Met R) → Each P t
+  unfolding Each
+  each-of P h end = tt
+  each-of P h (rule r t) = (h r, each-of P h t)
+  each-of P h (file i t) = (each-of P h i, each-of P h t)
+
+  held-only : (t : Met R) (c : ℕ) → Only c (heldAfter first noRules t c)
+  unfolding noRules All
+  held-only t c = held-all (λ c r. first r ≡ c) t noRules (each-of _ (λ r. refl) t) (λ d. tt) c
 
   from-below : (a b : ℕ) (l : List R) → a ≤ b → From b l → From a l
   from-below a b [] h f = tt
   from-below a b (r ∷ l) h f = let w = f .0 in (omega arith, f .1)
 
   from-append : (a : ℕ) (l rest : List R) → Only a l → From a rest → From a (l ++ rest)
+  unfolding All
   from-append a [] rest o f = f
   from-append a (r ∷ l) rest o f = let e = o .0 in (omega arith, rw e (from-append a l rest (o .1) f))
 
@@ -102,13 +109,22 @@ module _ {R : Type 0} (first : R → ℕ) where
     spread-from (suc k) a = from-append a (m a) (spread m k (suc a)) (o a) (from-below a (suc a) (spread m k (suc a)) (omega arith) (spread-from k (suc a)))
 
   -- "by first character and then file order"
-  pub finished-under : (t : Met R) (c : ℕ) → c < codes → under first c (finished first t) ≡ held first noRules t c
-  unfolding finished noRules
-  finished-under t c h = spread-under (held first noRules t) (held-only t noRules (λ d. tt)) codes 0 c (omega arith) (omega arith)
+  pub finished-under : (t : Met R) (c : ℕ) → c < codes → under first c (finished first t) ≡ heldAfter first noRules t c
+  unfolding finished
+  finished-under t c h = spread-under (heldAfter first noRules t) (held-only t) codes 0 c (omega arith) (omega arith)
 
   pub finished-from : (t : Met R) → From 0 (finished first t)
-  unfolding finished noRules
-  finished-from t = spread-from (held first noRules t) (held-only t noRules (λ d. tt)) codes 0
+  unfolding finished
+  finished-from t = spread-from (heldAfter first noRules t) (held-only t) codes 0
+
+  spread-all : (P : R → Type 0) (m : Map R) → ((c : ℕ) → All P (m c)) → (k a : ℕ) → All P (spread m k a)
+  unfolding spread All
+  spread-all P m h zero a = tt
+  spread-all P m h (suc k) a = all-append P (m a) _ (h a) (spread-all P m h k (suc a))
+
+  pub finished-all : (P : R → Type 0) (t : Met R) → Each P t → All P (finished first t)
+  unfolding finished noRules All
+  finished-all P t e = spread-all P (heldAfter first noRules t) (held-all (λ c. P) t noRules e (λ d. tt)) codes 0
 
   -- ---- a list by its first characters
 
@@ -117,7 +133,7 @@ module _ {R : Type 0} (first : R → ℕ) where
   spread-same m w zero a h = refl
   spread-same m w (suc k) a h = ap₂ _++_ (h a (omega arith) (omega arith)) (spread-same m w k (suc a) (λ c x y. h c (omega arith) (omega arith)))
 
-  abbrev pub Sorted : List R → ℕ → ℕ → List R
+  abbrev Sorted : List R → ℕ → ℕ → List R
   Sorted l k a = spread (λ c. under first c l) k a
 
   sorted-nil : (k a : ℕ) → Sorted [] k a ≡ []
@@ -159,15 +175,10 @@ module _ {R : Type 0} (first : R → ℕ) where
 
   -- ---- how many rules stay, and how many numbers are noted
 
-  all-behind : (P : R → Type 0) (l : List R) (r : R) → All P l → P r → All P (l ++ (r ∷ []))
-  unfolding All
-  all-behind P [] r a p = (p, tt)
-  all-behind P (x ∷ l) r a p = (a .0, all-behind P l r (a .1) p)
-
   kept-all : (P : R → Type 0) (vs : List ℕ) (t : Met R) (n : ℕ) (l : List R) → Each P t → All P l → All P (kept first vs n l t)
-  unfolding kept Each
+  unfolding kept Each All
   kept-all P vs end n l e a = a
-  kept-all P vs (rule r t) n l e a = kept-all P vs t n _ (e .1) (pick-all (All P) (staysIn (first r) n vs) _ _ (all-behind P l r a (e .0)) a)
+  kept-all P vs (rule r t) n l e a = kept-all P vs t n _ (e .1) (pick-all (All P) (staysIn (first r) n vs) _ _ (all-append P l (r ∷ []) a (e .0, tt)) a)
   kept-all P vs (file i t) n l e a = kept-all P vs t _ _ (e .1) (kept-all P vs i (n + 1) l (e .0) a)
 
   each-brings : (Q : ℕ → Type 0) (t : Met R) → ((c : ℕ) → brings first c t ≡ true → Q c) → Each (λ r. Q (first r)) t
@@ -183,15 +194,20 @@ module _ {R : Type 0} (first : R → ℕ) where
   each-both P Q S (file i t) h p q = (each-both P Q S i h (p .0) (q .0), each-both P Q S t h (p .1) (q .1))
 
   -- numbers of characters that grow, something being held of each
-  apart-spread : (m : Map R) (k a b : ℕ) (vs : List ℕ) → b ≤ a + k → KeysApart a vs → All (λ v. (v / 512 < b) × (bringsNone (m (v / 512)) ≡ false)) vs → length vs ≤ length (spread m k a)
+  record Noted (m : Map R) (b v : ℕ) : Type 0 where
+    low : v / 512 < b
+    some : bringsNone (m (v / 512)) ≡ false
+
+  apart-spread : (m : Map R) (k a b : ℕ) (vs : List ℕ) → b ≤ a + k → KeysApart a vs → All (Noted m b) vs → length vs ≤ length (spread m k a)
   unfolding spread KeysApart All
   apart-spread m zero a b [] h p q = omega arith
-  apart-spread m zero a b (v ∷ vs) h p q = absurd (omega (arith, p .0, q .0 .0))
+  apart-spread m zero a b (v ∷ vs) h p q = let x = q .0 in absurd (omega (arith, p .0, x .low))
   apart-spread m (suc k) a b [] h p q = omega arith
   apart-spread m (suc k) a b (v ∷ vs) h p q = elim (ℕ-discrete (v / 512) a) [
     | yes e ↦
         let w = apart-spread m k (suc a) b vs (omega arith) (rw e at (p .1)) (q .1) in
-        let s : bringsNone (m a) ≡ false = rw e at (q .0 .1) in
+        let x = q .0 in
+        let s : bringsNone (m a) ≡ false = rw e at (x .some) in
         omega (arith, nil-some (m a) s, length-append (m a) (spread m k (suc a)))
     | no e ↦
         let w = apart-spread m k (suc a) b (v ∷ vs) (omega arith) (omega (arith, p .0), p .1) q in
@@ -200,25 +216,25 @@ module _ {R : Type 0} (first : R → ℕ) where
 
   module _ (t : Met R) (short : entries t ≤ 256) where
     -- the finished list, by the rules that stay
-    pub finished-kept : finished first t ≡ Sorted (kept first (noted first 0 0 [] t) 0 [] t) codes 0
+    pub finished-kept : finished first t ≡ Sorted (keptRules first t) codes 0
     unfolding finished
-    finished-kept = spread-same (held first noRules t) (λ c. under first c (kept first (noted first 0 0 [] t) 0 [] t)) codes 0 (λ c x y. sym (kept-held first c t short))
+    finished-kept = spread-same (heldAfter first noRules t) (λ c. under first c (keptRules first t)) codes 0 (λ c x y. sym (kept-held first c t short))
 
     module _ (within : Within first t) where
-      pub kept-within : All (λ r. first r < codes) (kept first (noted first 0 0 [] t) 0 [] t)
+      pub kept-within : All (λ r. first r < codes) (keptRules first t)
       unfolding All
       kept-within = kept-all (λ r. first r < codes) _ t 0 [] within tt
 
       -- as many rules stay as the finished list has
-      pub length-kept : length (kept first (noted first 0 0 [] t) 0 [] t) ≡ length (finished first t)
+      pub length-kept : length (keptRules first t) ≡ length (finished first t)
       length-kept = sym (ap length finished-kept ∙ sorted-length _ codes kept-within)
 
       -- no more numbers are noted
       pub length-noted : length (noted first 0 0 [] t) ≤ length (finished first t)
       unfolding All KeysApart finished
       length-noted =
-          apart-spread (held first noRules t) codes 0 codes (noted first 0 0 [] t) (omega arith) (noted-apart first t 0 0 [] (omega arith) (omega arith) tt)
+          apart-spread (heldAfter first noRules t) codes 0 codes (noted first 0 0 [] t) (omega arith) (noted-apart first t 0 0 [] (omega arith) (omega arith) tt)
           (noted-all first _ t 0 0 [] (omega arith) (omega arith)
-          (each-both (λ r. first r < codes) (λ r. bringsNone (held first noRules t (first r)) ≡ false) _ t
-          (λ r x y k l. let e : (512 * first r + k) / 512 ≡ first r = omega arith in rw e (x, y)) within
-          (each-brings (λ c. bringsNone (held first noRules t c) ≡ false) t (λ c b. held-brings first c t noRules b))) tt)
+          (each-both (λ r. first r < codes) (λ r. bringsNone (heldAfter first noRules t (first r)) ≡ false) _ t
+          (λ r x y k l. let e : (512 * first r + k) / 512 ≡ first r = omega arith in record { low = rw e x; some = rw e y }) within
+          (each-brings (λ c. bringsNone (heldAfter first noRules t c) ≡ false) t (λ c b. held-brings first c t noRules b))) tt)

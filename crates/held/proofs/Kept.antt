@@ -10,11 +10,11 @@ use native.Mathlib.Omega.{arith}
 use lib.Dec.{eqb, leb, ltb}
 use borrow.Author.Tests.{lt-ltb, le-ltb, le-leb, lt-leb, eq-eqb, ne-eqb, eqb-true}
 use Rattle.base.specs.Pick.{pick}
-use Rattle.held.specs.Met.{Met, end, rule, file, noRules, held, entries}
-use Rattle.held.specs.Contracts.{noteIn, staysIn, noted, kept, brings, lastEntry, from}
+use Rattle.held.specs.Met.{Met, end, rule, file, noRules, heldAfter, entries}
+use Rattle.held.specs.Contracts.{noteIn, staysIn, noted, kept, keptRules, brings, lastEntry, from}
 use Rattle.held.proofs.Laws.{or-true, or-left, or-right}
 use Rattle.held.proofs.Entry.{held-from}
-use Rattle.base.proofs.PickLaws.{pick-true, pick-false}
+use Rattle.base.proofs.PickLaws.{pick-true, pick-false, pick-map}
 
 -- ---- what the first table tells of c: the entry and one, or 0
 
@@ -111,13 +111,9 @@ under first c [] = []
 under first c (r ∷ rs) = pick (eqb (first r) c) (r ∷ under first c rs) (under first c rs)
 
 pub under-append : {R : Type 0} (first : R → ℕ) (c : ℕ) (a b : List R) → under first c (a ++ b) ≡ under first c a ++ under first c b
-unfolding under pick
+unfolding under
 under-append first c [] b = refl
-under-append {R} first c (r ∷ a) b = go (eqb (first r) c) (under-append first c a b)
-  where
-    go : (t : Bool) → under first c (a ++ b) ≡ under first c a ++ under first c b → pick t (r ∷ under first c (a ++ b)) (under first c (a ++ b)) ≡ pick t (r ∷ under first c a) (under first c a) ++ under first c b
-    go true q = ap (λ (l : List R). r ∷ l) q
-    go false q = q
+under-append {R} first c (r ∷ a) b = ap (λ (l : List R). pick (eqb (first r) c) (r ∷ l) l) (under-append first c a b) ∙ sym (pick-map (λ (l : List R). l ++ under first c b) _ _ _)
 
 module _ {R : Type 0} (first : R → ℕ) (c : ℕ) where
   note-told : (r : R) (own : ℕ) (vs : List ℕ) → own < 512 → pick (eqb (first r) c) (max (told c vs - 1) own) (told c vs - 1) ≡ told c (noteIn (first r) own vs) - 1
@@ -193,7 +189,7 @@ module _ {R : Type 0} (first : R → ℕ) (c : ℕ) where
       ∙ append-assoc (under first c rs) (from first c l (n + 1) i) (from first c l (n + 1 + entries i) t)
 
   -- THE LAW of the tables: of each first character the rules that stay are those that are held
-  pub kept-held : (t : Met R) → entries t ≤ 256 → under first c (kept first (noted first 0 0 [] t) 0 [] t) ≡ held first noRules t c
+  pub kept-held : (t : Met R) → entries t ≤ 256 → under first c (keptRules first t) ≡ heldAfter first noRules t c
   unfolding under told
   kept-held t h =
       kept-from (lastEntry first c 0 0 0 t) (noted first 0 0 [] t) t 0 [] (λ p m.

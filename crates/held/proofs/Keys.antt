@@ -1,6 +1,5 @@
 -- The numbers 4096 c + j in order lead through the rules that stay in the order of the finished list. Assumes nothing.
 use mathlib.Core.Path.{_≡_, refl, sym, ap, ap₂, _∙_}
-use mathlib.Core.Bool.{Bool, true, false}
 use mathlib.Core.List.{List, [], _∷_, _++_, append-nil, append-assoc}
 use Prim.Native.Nat.{ℕ, zero, suc, _+_, _*_, _/_, _%_, _≤_, _<_}
 use native.Mathlib.Decide.{decLt, ℕ-discrete}
@@ -10,11 +9,11 @@ use lib.ListN.{length}
 use borrow.Author.Tests.{lt-ltb, le-ltb}
 use Rattle.base.specs.Pick.{pick}
 use Rattle.held.specs.Met.{Met, Map, spread, codes, finished, entries, bytesOfAll}
-use Rattle.held.specs.Contracts.{noted, kept, insertNumber, keysFrom, atPlace, keyBytes, All, Bounded, Rising, Within}
-use Rattle.held.proofs.Places.{all-insert, rising-insert, insert-length, bounded-insert}
+use Rattle.held.specs.Contracts.{keptRules, insertNumber, keysFrom, atPlace, keyBytes, All, Rising, Within}
+use Rattle.held.proofs.Places.{all-insert, rising-insert}
 use Rattle.held.proofs.Kept.{under, under-append}
 use Rattle.held.proofs.Finished.{From, under-there, sorted-is, finished-kept, kept-within}
-use Rattle.base.proofs.PickLaws.{pick-true, pick-false}
+use Rattle.base.proofs.PickLaws.{pick-true, pick-false, pick-cong, pick-map}
 
 abbrev char : ℕ → ℕ
 char k = k / 4096
@@ -67,6 +66,11 @@ module _ (c j : ℕ) (small : j < 4096) where
     ])
   ]
 
+pub key-append : {R : Type 0} (f : R → List ℕ) (all : List R) (a b : List ℕ) → keyBytes f all (a ++ b) ≡ keyBytes f all a ++ keyBytes f all b
+unfolding keyBytes
+key-append f all [] b = refl
+key-append f all (k ∷ a) b = ap (λ (l : List ℕ). atPlace f all (k % 4096) ++ l) (key-append f all a b) ∙ sym (append-assoc (atPlace f all (k % 4096)) (keyBytes f all a) (keyBytes f all b))
+
 module _ {R : Type 0} (first : R → ℕ) where
   -- the numbers as they are met, places going from j on
   keysMet : ℕ → List R → List ℕ
@@ -89,43 +93,28 @@ module _ {R : Type 0} (first : R → ℕ) where
   -- and lead to the rules of that character
   met-bytes : (f : R → List ℕ) (all : List R) (c j : ℕ) (rs : List R) → j + length rs ≤ 4096 → ((i : ℕ) → atPlace f all (j + i) ≡ atPlace f rs i)
       → keyBytes f all (under char c (keysMet j rs)) ≡ bytesOfAll f (under first c rs)
-  unfolding keysMet under keyBytes bytesOfAll atPlace pick
+  unfolding keysMet under keyBytes bytesOfAll atPlace
   met-bytes f all c j [] h p = refl
   met-bytes f all c j (r ∷ rs) h p =
       let e : char (4096 * first r + j) ≡ first r = omega arith in
       let q : (4096 * first r + j) % 4096 ≡ j = omega arith in
       let z : j + 0 ≡ j = omega arith in
       let g : atPlace f all j ≡ f r = rw z at (p 0) in
-      rw e (go (eqb (first r) c) (ap (atPlace f all) q ∙ g)
-      (met-bytes f all c (suc j) rs (omega arith) (λ i. let s : suc j + i ≡ j + suc i = omega arith in rw s (p (suc i)))))
-    where
-      go : (b : Bool) → atPlace f all ((4096 * first r + j) % 4096) ≡ f r → keyBytes f all (under char c (keysMet (suc j) rs)) ≡ bytesOfAll f (under first c rs)
-          → keyBytes f all (pick b ((4096 * first r + j) ∷ under char c (keysMet (suc j) rs)) (under char c (keysMet (suc j) rs))) ≡ bytesOfAll f (pick b (r ∷ under first c rs) (under first c rs))
-      go true x y = ap₂ _++_ x y
-      go false x y = y
+      let y = met-bytes f all c (suc j) rs (omega arith) (λ i. let s : suc j + i ≡ j + suc i = omega arith in rw s (p (suc i))) in
+      rw e (pick-map (keyBytes f all) _ _ _ ∙ pick-cong (eqb (first r) c) _ _ _ _ (λ x. ap₂ _++_ (ap (atPlace f all) q ∙ g) y) (λ x. y) ∙ sym (pick-map (bytesOfAll f) _ _ _))
 
-  -- numbers in order, below their bound and as many as the rules
-  pub rising-keys : (j : ℕ) (ks : List ℕ) (rs : List R) → Rising 0 ks → Rising 0 (keysFrom first j ks rs)
+  -- numbers in order, and below their bound
+  rising-keys : (j : ℕ) (ks : List ℕ) (rs : List R) → Rising 0 ks → Rising 0 (keysFrom first j ks rs)
   unfolding keysFrom
   rising-keys j ks [] o = o
   rising-keys j ks (r ∷ rs) o = rising-keys (suc j) _ rs (rising-insert 0 (4096 * first r + j) ks (omega arith) o)
 
-  pub bounded-keys : (j : ℕ) (ks : List ℕ) (rs : List R) → j + length rs ≤ 4096 → All (λ r. first r < codes) rs → Bounded (4096 * codes) ks → Bounded (4096 * codes) (keysFrom first j ks rs)
+  bounded-keys : (j : ℕ) (ks : List ℕ) (rs : List R) → j + length rs ≤ 4096 → All (λ r. first r < codes) rs → All (λ k. k < 4096 * codes) ks → All (λ k. k < 4096 * codes) (keysFrom first j ks rs)
   unfolding keysFrom All
   bounded-keys j ks [] h w b = b
-  bounded-keys j ks (r ∷ rs) h w b = let p = w .0 in bounded-keys (suc j) _ rs (omega arith) (w .1) (bounded-insert (4096 * codes) (4096 * first r + j) ks (omega arith) b)
-
-  pub length-keys : (j : ℕ) (ks : List ℕ) (rs : List R) → length (keysFrom first j ks rs) ≡ length ks + length rs
-  unfolding keysFrom
-  length-keys j ks [] = omega arith
-  length-keys j ks (r ∷ rs) = omega (arith, length-keys (suc j) (insertNumber (4096 * first r + j) ks) rs, insert-length (4096 * first r + j) ks)
+  bounded-keys j ks (r ∷ rs) h w b = let p = w .0 in bounded-keys (suc j) _ rs (omega arith) (w .1) (all-insert _ (4096 * first r + j) ks (omega arith) b)
 
   -- ---- the rules in order
-
-  key-append : (f : R → List ℕ) (all : List R) (a b : List ℕ) → keyBytes f all (a ++ b) ≡ keyBytes f all a ++ keyBytes f all b
-  unfolding keyBytes
-  key-append f all [] b = refl
-  key-append f all (k ∷ a) b = ap (λ (l : List ℕ). atPlace f all (k % 4096) ++ l) (key-append f all a b) ∙ sym (append-assoc (atPlace f all (k % 4096)) (keyBytes f all a) (keyBytes f all b))
 
   bytes-append : (f : R → List ℕ) (a b : List R) → bytesOfAll f (a ++ b) ≡ bytesOfAll f a ++ bytesOfAll f b
   unfolding bytesOfAll
@@ -145,11 +134,11 @@ module _ {R : Type 0} (first : R → ℕ) where
 
   -- THE LAW of the order: who walks the numbers writes the finished list
   pub finished-keys : (f : R → List ℕ) (t : Met R) → entries t ≤ 256 → Within first t
-      → let rs = kept first (noted first 0 0 [] t) 0 [] t in
+      → let rs = keptRules first t in
       length rs ≤ 4096 → keyBytes f rs (keysFrom first 0 [] rs) ≡ bytesOfAll f (finished first t)
-  unfolding Rising All Bounded
+  unfolding Rising All
   finished-keys f t short within h =
-      let rs = kept first (noted first 0 0 [] t) 0 [] t in
+      let rs = keptRules first t in
       let ks = keysFrom first 0 [] rs in
       let z : (i : ℕ) → 0 + i ≡ i = λ i. omega arith in
       ap (keyBytes f rs) (sym (sorted-is char ks codes 0 (rising-from 0 0 ks (omega arith) (rising-keys 0 [] rs tt))

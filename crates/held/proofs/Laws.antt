@@ -5,7 +5,7 @@ use mathlib.Core.List.{List, [], _∷_, _++_}
 use mathlib.Core.Logic.{_⊎_, inl, inr, ⊎-elim}
 use Prim.Native.Nat.{ℕ}
 use Rattle.base.specs.Pick.{pick}
-use Rattle.held.specs.Met.{Met, end, rule, file, Map, noRules, bringsNone, add, extend, held}
+use Rattle.held.specs.Met.{Met, end, rule, file, Map, noRules, bringsNone, add, extend, heldAfter}
 use Rattle.base.proofs.PickLaws.{pick-true, pick-false}
 use Rattle.held.specs.Contracts.{eitherOf, brings, since}
 
@@ -24,6 +24,10 @@ unfolding eitherOf
 or-true true b e = inl refl
 or-true false b e = inr e
 
+pub either : (b : Bool) → (b ≡ true) ⊎ (b ≡ false)
+either true = inl refl
+either false = inr refl
+
 pub or-left : (a b : Bool) → a ≡ true → eitherOf a b ≡ true
 unfolding eitherOf
 or-left a b p = rw p refl
@@ -33,21 +37,21 @@ unfolding eitherOf
 or-right true b p = refl
 or-right false b p = p
 
-pick-some : {R : Type 0} (t : Bool) (a b : List R) → (t ≡ true → bringsNone a ≡ false) → (t ≡ false → bringsNone b ≡ false) → bringsNone (pick t a b) ≡ false
+pub pick-by : {A : Type 0} (P : A → Type 0) (t : Bool) (a b : A) → (t ≡ true → P a) → (t ≡ false → P b) → P (pick t a b)
 unfolding pick
-pick-some true a b p q = p refl
-pick-some false a b p q = q refl
+pick-by P true a b p q = p refl
+pick-by P false a b p q = q refl
 
 module _ {R : Type 0} (first : R → ℕ) (c : ℕ) where
   -- where c is not met nothing of c changes
-  pub held-same : (t : Met R) (m : Map R) → brings first c t ≡ false → held first m t c ≡ m c
-  unfolding held brings add extend noRules bringsNone pick
+  held-same : (t : Met R) (m : Map R) → brings first c t ≡ false → heldAfter first m t c ≡ m c
+  unfolding heldAfter brings add extend noRules bringsNone pick
   held-same end m e = refl
   held-same (rule r t) m e = let w = or-false _ _ e in held-same t (add first m r) (w .1) ∙ rw (w .0) refl
   held-same (file i t) m e =
       let w = or-false _ _ e in
-      let q : held first noRules i c ≡ [] = held-same i noRules (w .0) in
-      held-same t (extend m (held first noRules i)) (w .1) ∙ rw q refl
+      let q : heldAfter first noRules i c ≡ [] = held-same i noRules (w .0) in
+      held-same t (extend m (heldAfter first noRules i)) (w .1) ∙ rw q refl
 
   pub since-same : (t : Met R) (now : List R) → brings first c t ≡ false → since first c now t ≡ now
   unfolding since brings pick
@@ -57,30 +61,32 @@ module _ {R : Type 0} (first : R → ℕ) (c : ℕ) where
       let w = or-false _ _ e in
       rw (w .0) (ap (λ (l : List R). since first c l t) (since-same i now (w .0)) ∙ since-same t now (w .1))
 
+  abbrev Some : List R → Type 0
+  Some l = bringsNone l ≡ false
+
   -- what is there is not taken away
-  held-some : (t : Met R) (m : Map R) → bringsNone (m c) ≡ false → bringsNone (held first m t c) ≡ false
-  unfolding held add extend
+  held-some : (t : Met R) (m : Map R) → bringsNone (m c) ≡ false → bringsNone (heldAfter first m t c) ≡ false
+  unfolding heldAfter add extend
   held-some end m e = e
-  held-some (rule r t) m e = held-some t (add first m r) (pick-some _ _ _ (λ p. behind-some (m c) r) (λ p. e))
-  held-some (file i t) m e = held-some t (extend m (held first noRules i)) (pick-some _ _ _ (λ p. e) (λ p. p))
+  held-some (rule r t) m e = held-some t (add first m r) (pick-by Some _ _ _ (λ p. behind-some (m c) r) (λ p. e))
+  held-some (file i t) m e = held-some t (extend m (heldAfter first noRules i)) (pick-by Some _ _ _ (λ p. e) (λ p. p))
 
   -- a file that brings c holds some of it
-  pub held-brings : (t : Met R) (m : Map R) → brings first c t ≡ true → bringsNone (held first m t c) ≡ false
-  unfolding held brings add extend
+  pub held-brings : (t : Met R) (m : Map R) → brings first c t ≡ true → bringsNone (heldAfter first m t c) ≡ false
+  unfolding heldAfter brings add extend
   held-brings end m e = absurd (false≢true e)
   held-brings (rule r t) m e =
       ⊎-elim (λ p. held-some t (add first m r) (rw (pick-true _ _ _ p) (behind-some (m c) r))) (λ p. held-brings t (add first m r) p) (or-true _ _ e)
   held-brings (file i t) m e =
-      ⊎-elim (λ p. let q = held-brings i noRules p in held-some t (extend m (held first noRules i)) (rw (pick-false _ _ _ q) q)) (λ p. held-brings t (extend m (held first noRules i)) p) (or-true _ _ e)
+      ⊎-elim (λ p. let q = held-brings i noRules p in held-some t (extend m (heldAfter first noRules i)) (rw (pick-false _ _ _ q) q)) (λ p. held-brings t (extend m (heldAfter first noRules i)) p) (or-true _ _ e)
 
   -- THE LAW: what is held under c are the rules of c met since the last entry into a file that brings c
-  pub held-since : (t : Met R) (m : Map R) → held first m t c ≡ since first c (m c) t
-  unfolding held since add extend noRules bringsNone
+  pub held-since : (t : Met R) (m : Map R) → heldAfter first m t c ≡ since first c (m c) t
+  unfolding heldAfter since add extend noRules bringsNone
   held-since end m = refl
   held-since (rule r t) m = held-since t (add first m r)
   held-since (file i t) m =
-      held-since t (extend m (held first noRules i)) ∙ ap (λ (l : List R). since first c l t) (go (brings first c i) refl (held-since i noRules))
-    where
-      go : (b : Bool) → brings first c i ≡ b → held first noRules i c ≡ since first c [] i → extend m (held first noRules i) c ≡ since first c (pick (brings first c i) [] (m c)) i
-      go true p ih = pick-false _ _ _ (held-brings i noRules p) ∙ ih ∙ rw (pick-true _ [] (m c) p) refl
-      go false p ih = pick-true _ _ _ (ap bringsNone (held-same i noRules p)) ∙ sym (since-same i (m c) p) ∙ rw (pick-false _ [] (m c) p) refl
+      let q : extend m (heldAfter first noRules i) c ≡ since first c (pick (brings first c i) [] (m c)) i =
+      ⊎-elim (λ p. pick-false _ _ _ (held-brings i noRules p) ∙ held-since i noRules ∙ rw (pick-true _ [] (m c) p) refl)
+      (λ p. pick-true _ _ _ (ap bringsNone (held-same i noRules p)) ∙ sym (since-same i (m c) p) ∙ rw (pick-false _ [] (m c) p) refl) (either (brings first c i)) in
+      held-since t (extend m (heldAfter first noRules i)) ∙ ap (λ (l : List R). since first c l t) q

@@ -4,5 +4,4 @@ pub mod Places
 pub mod Kept
 pub mod Finished
 pub mod Keys
-pub mod Reading
 pub mod Examples

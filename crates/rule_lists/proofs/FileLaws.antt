@@ -5,6 +5,7 @@ use mathlib.Core.Logic.{⊎-elim}
 use mathlib.Core.List.{List, [], _∷_, _++_}
 use Prim.Native.Nat.{ℕ, _-_, _%_, _≤_}
 use native.Mathlib.Omega.{arith}
+use borrow.Author.Needs.{needs}
 use lib.ListN.{length, take, drop}
 use borrow.Author.Tests.{leb-true, le-leb}
 use Rattle.refusals.specs.declared.Refusal.{Refusal}
@@ -22,10 +23,9 @@ use Rattle.bundles.proofs.Laws.{missing-is, found-is}
 use Rattle.held.specs.Met.{Met, entries, finished, bytesOfAll}
 use Rattle.held.specs.Files.{FileRead, wasRead, readListed}
 use Rattle.held.specs.Files as files
-use Rattle.held.specs.Contracts.{keyBytes}
-use Rattle.held.proofs.Finished.{From, finished-from, length-kept}
+use Rattle.held.specs.Contracts.{keyBytes, All}
+use Rattle.held.proofs.Finished.{From, finished-from, finished-all, length-kept}
 use Rattle.held.proofs.Keys.{finished-keys}
-use Rattle.held.proofs.Reading.{listed-entries}
 use Rattle.rule_lists.specs.Outcomes.{Loading, fine, notLoaded, andLoad}
 use Rattle.rule_lists.specs.Lines.{linesOf}
 use Rattle.rule_lists.specs.TableContracts.{KeptIs, keysOf}
@@ -36,10 +36,10 @@ use Rattle.rule_lists.specs.Lists.{listIn, listNamed, firstCodeOf, files
 use Rattle.rule_lists.specs.declared.walk.Collected.{Collected}
 use Rattle.rule_lists.specs.declared.walk.Collected.the-variants as collected
 use Rattle.rule_lists.specs.declared.list_writing.Written.the-variants.{Done, Refused}
-use Rattle.rule_lists.proofs.TableLaws.{kept-rows, keys-rows}
+use Rattle.rule_lists.proofs.TableLaws.{kept-rows, keys-from}
 use Rattle.rule_lines.proofs.Laws.{good-short}
 use Rattle.rule_lists.proofs.FollowLaws.{found-stands}
-use Rattle.rule_lists.proofs.WalkLaws.{GoodRead, each-read, each-finished, within-all}
+use Rattle.rule_lists.proofs.WalkLaws.{GoodRead, each-read, within-all}
 use Rattle.base.proofs.PickLaws.{pick-inv, and-yes}
 use Rattle.bundles.specs.Contracts.{filesOf}
 use Rattle.pack_bytes.specs.Contracts.{textPut}
@@ -61,6 +61,11 @@ unfolding bytesOfAll
 rules-short names [] bytes.none = refl
 rules-short names (r ∷ rs) (bytes.more h e) = ap₂ _++_ (rule-short names r h) (rules-short names rs e)
 
+each-all : {P : Rule → Type 0} (rs : List Rule) → All P rs → bytes.Each P rs
+unfolding All
+each-all [] a = bytes.none
+each-all (r ∷ rs) a = bytes.more (a .0) (each-all rs (a .1))
+
 -- ---- what is told of a file
 
 counted-fine : (x : FileRead Rule) (t : Met Rule) → countedRules x ≡ fine t → (x ≡ wasRead t) × (length (finished firstCodeOf t) ≤ 4096)
@@ -68,24 +73,35 @@ unfolding countedRules
 counted-fine (wasRead u) t e = ⊎-elim (λ w. let q : u ≡ t = cc (w .1) in (ap wasRead q, rw q at (leb-true (length (finished firstCodeOf u)) 4096 (w .0)))) (λ w. clash (cc (w .1))) (pick-inv _ (fine u) (notLoaded TooMuch 0 0) (fine t) e)
 counted-fine (files.notRead c l f) t e = clash (cc)
 
+-- what was collected
+pub record Collects (bundle : List ℕ) (x : Loading (Met Rule)) (rows : List ℕ) (n : ℕ) : Type 0 where
+  pub what : Met Rule
+  pub is : x ≡ fine what
+  pub short : entries what ≤ 256
+  pub few : n ≤ 4096
+  pub kept : KeptIs bundle rows n (keptAs what)
+
 module _ {bundle : List ℕ} where
-  collect-done : {x : Loading (Met Rule)} {g : Collected} {rows : List ℕ} {n : ℕ} → CollectIs bundle x g rows → g ≡ collected.Rules n → (t : Met Rule) × (x ≡ fine t) × (n ≤ 4096) × KeptIs bundle rows n (keptAs t)
-  collect-done {n = n} (collects.all {t} {n = m} few h) e = let q : m ≡ n = cc in (t, refl, rw q at few, rw q at h)
+  collect-done : {x : Loading (Met Rule)} {g : Collected} {rows : List ℕ} {n : ℕ} → CollectIs bundle x g rows → g ≡ collected.Rules n → Collects bundle x rows n
+  collect-done {n = n} (collects.all {t} {n = m} short few h) e = let q : m ≡ n = cc in record { what = t; is = refl; short = short; few = rw q at few; kept = rw q at h }
   collect-done collects.refused e = clash (cc)
 
   collect-stop : {x : Loading (Met Rule)} {g : Collected} {rows : List ℕ} {c : Refusal} {l f : ℕ} → CollectIs bundle x g rows → g ≡ collected.Refused c l f → x ≡ notLoaded c l f
-  collect-stop (collects.all few h) e = clash (cc)
+  collect-stop (collects.all short few h) e = clash (cc)
   collect-stop collects.refused e = cc
 
   module _ {x : Loading (Met Rule)} {g : Collected} {rows : List ℕ} {n : ℕ} (v : CollectIs bundle x g rows) (e : g ≡ collected.Rules n) where
     pub list-few : n ≤ 4096
-    list-few = collect-done v e .2
+    list-few = collect-done v e .few
 
     pub list-kept : SomeKept bundle rows n
-    list-kept = let w = collect-done v e in record { some = (keptAs (w .0), w .3) }
+    list-kept = record { some = (_, collect-done v e .kept) }
 
 -- the list that was read
-module _ (names : List ℕ) (fs : List File) (k : ℕ) (s : List ℕ) (t : Met Rule) (e : countedRules (readListed (filesFor names fs) k (linesOf names s)) ≡ fine t) where
+abbrev counted : List ℕ → List File → ℕ → List ℕ → Loading (Met Rule)
+counted names fs k s = countedRules (readListed (filesFor names fs) k (linesOf names s))
+
+module _ (names : List ℕ) (fs : List File) (k : ℕ) (s : List ℕ) (t : Met Rule) (e : counted names fs k s ≡ fine t) where
   read : readListed (filesFor names fs) k (linesOf names s) ≡ wasRead t
   read = counted-fine _ t e .0
 
@@ -93,24 +109,18 @@ module _ (names : List ℕ) (fs : List File) (k : ℕ) (s : List ℕ) (t : Met R
   few-finished = counted-fine _ t e .1
 
   good-finished : bytes.Each (GoodRead names) (finished firstCodeOf t)
-  good-finished = each-finished (GoodRead names) firstCodeOf t (each-read names fs k s t read)
-
-  short : entries t ≤ 256
-  short = listed-entries _ k _ t read
-
-  all : length (keptAs t) ≡ length (finished firstCodeOf t)
-  unfolding keptAs
-  all = length-kept firstCodeOf t short (within-all t)
+  good-finished = each-all _ (finished-all firstCodeOf (GoodRead names) t (each-read names fs k s t read))
 
   -- rows that are kept, written by their keys, are the finished list
-  list-bytes : (bundle rows : List ℕ) (n : ℕ) → KeptIs bundle rows n (keptAs t) → countBytes n ++ keyBytes rulePut (keptAs t) (keysOf rows n 0 []) ≡ listBytes (finished firstCodeOf t)
+  list-bytes : (bundle rows : List ℕ) (n : ℕ) → entries t ≤ 256 → KeptIs bundle rows n (keptAs t) → countBytes n ++ keyBytes rulePut (keptAs t) (keysOf rows n 0 []) ≡ listBytes (finished firstCodeOf t)
   unfolding listBytes keptAs
-  list-bytes bundle rows n h =
+  list-bytes bundle rows n short h =
+      let all = length-kept firstCodeOf t short (within-all t) in
       let size : n ≡ length (finished firstCodeOf t) = omega (arith, h .count, all, few-finished) in
       let kept : length (keptAs t) ≡ n = all ∙ sym size in
       let few : n ≤ 4096 = omega (arith, few-finished) in
       ap₂ _++_ (ap countBytes size)
-      (ap (keyBytes rulePut (keptAs t)) (ap (λ (m : ℕ). keysOf rows m 0 []) (sym kept) ∙ keys-rows bundle rows (keptAs t) (kept-rows h few))
+      (ap (keyBytes rulePut (keptAs t)) (ap (λ (m : ℕ). keysOf rows m 0 []) (sym kept) ∙ keys-from bundle rows 0 [] (keptAs t) (kept-rows h few))
       ∙ finished-keys firstCodeOf rulePut t short (within-all t) (omega (arith, kept)) ∙ rules-short names (finished firstCodeOf t) good-finished)
 
 module _ (bundle names wanted : List ℕ) (f : FileAt) (w : fileNumbers f ≡ fileAt bundle wanted) where
@@ -119,7 +129,7 @@ module _ (bundle names wanted : List ℕ) (f : FileAt) (w : fileNumbers f ≡ fi
   list-missing q o at = rw (missing-is bundle wanted f w q) refl
 
   module _ (k a b : ℕ) (q : f ≡ At k a b) where
-    list-found : listNamed names (filesOf bundle) wanted ≡ andLoad (countedRules (readListed (filesFor names (filesOf bundle)) k (linesOf names (take (b - a) (drop a bundle))))) (λ t. fine (finished firstCodeOf t))
+    list-found : listNamed names (filesOf bundle) wanted ≡ andLoad (counted names (filesOf bundle) k (take (b - a) (drop a bundle))) (λ t. fine (finished firstCodeOf t))
     unfolding listNamed listIn
     list-found = ap (listIn names (filesOf bundle)) (found-is bundle wanted f w k a b q)
 
@@ -128,16 +138,13 @@ module _ (bundle names wanted : List ℕ) (f : FileAt) (w : fileNumbers f ≡ fi
       unfolding WrittenIs andLoad readFrom readListed
       list-refused c l i e o o′ at = rw (list-found, collect-stop {c = c} v e) refl
 
-      module _ (n : ℕ) (e : g ≡ collected.Rules n) where
-        told : (t : Met Rule) × (countedRules (readListed (filesFor names (filesOf bundle)) k (linesOf names (take (b - a) (drop a bundle)))) ≡ fine t) × (n ≤ 4096) × KeptIs bundle rows n (keptAs t)
-        unfolding readFrom readListed
-        told = collect-done v e
+      pub list-told : (n : ℕ) → g ≡ collected.Rules n → (o o′ : List ℕ) (at p : ℕ) → RowsPut bundle rows n o at p o′ → WrittenIs listBytes (listNamed names (filesOf bundle) wanted) o o′ at (Done p)
+      unfolding WrittenIs andLoad readFrom readListed
+      list-told n e o o′ at p u =
+          let w = collect-done v e in
+          rw (list-found, w .is) (p, refl, rw (list-bytes names (filesOf bundle) k _ (w .what) (w .is) bundle rows n (w .short) (w .kept)) at (u .is _ (w .kept)))
 
-        pub list-told : (o o′ : List ℕ) (at p : ℕ) → RowsPut bundle rows n o at p o′ → WrittenIs listBytes (listNamed names (filesOf bundle) wanted) o o′ at (Done p)
-        unfolding WrittenIs andLoad
-        list-told o o′ at p u = rw (list-found, told .1) (p, refl, rw (list-bytes _ _ k _ (told .0) (told .1) bundle rows n (told .3)) at (u .is (keptAs (told .0)) (told .3)))
-
-pub ruleset file-laws = (list-missing, found-stands, list-refused, list-kept, list-few, list-told)
+pub ruleset file-laws = (list-missing, found-stands, list-refused, list-kept, list-few, list-told, needs)
 
 -- ---- what every list has
 
@@ -145,14 +152,14 @@ ordered-from : (c : ℕ) (rs : List Rule) → From firstCodeOf c rs → orderedB
 unfolding orderedByCode firstCodeOf
 ordered-from c [] h = refl
 ordered-from c (x ∷ []) h = refl
-ordered-from c (x ∷ y ∷ l) h = and-yes _ _ (le-leb _ _ (h .1 .0)) (ordered-from (firstCodeOf x) (y ∷ l) (h .1))
+ordered-from c (x ∷ y ∷ l) h = let w = h .1 in and-yes _ _ (le-leb _ _ (w .0)) (ordered-from (firstCodeOf x) (y ∷ l) w)
 
 pub record GoodList (names : List ℕ) (rs : List Rule) : Type 0 where
   pub each : bytes.Each (GoodRead names) rs
   pub few : length rs ≤ 4096
   pub order : orderedByCode rs ≡ true
 
-found-good : (names : List ℕ) (fs : List File) (k : ℕ) (s : List ℕ) (rs : List Rule) (x : Loading (Met Rule)) → countedRules (readListed (filesFor names fs) k (linesOf names s)) ≡ x → andLoad x (λ t. fine (finished firstCodeOf t)) ≡ fine rs → GoodList names rs
+found-good : (names : List ℕ) (fs : List File) (k : ℕ) (s : List ℕ) (rs : List Rule) (x : Loading (Met Rule)) → counted names fs k s ≡ x → andLoad x (λ t. fine (finished firstCodeOf t)) ≡ fine rs → GoodList names rs
 unfolding andLoad
 found-good names fs k s rs (fine t) e h =
     let same : finished firstCodeOf t ≡ rs = cc in

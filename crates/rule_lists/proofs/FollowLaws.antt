@@ -1,10 +1,10 @@
 -- Laws of reading an included file: one for each way out of `follow`. Assumes nothing.
-use mathlib.Core.Path.{_≡_, refl, sym, ap, _∙_}
+use mathlib.Core.Path.{_≡_, refl, ap, _∙_}
 use mathlib.Core.List.{List}
-use Prim.Native.Nat.{ℕ, zero, suc, _+_, _-_, _*_, _≤_, _<_}
+use Prim.Native.Nat.{ℕ, suc, _+_, _-_, _*_, _≤_, _<_}
 use native.Mathlib.Omega.{arith}
+use borrow.Author.Needs.{needs}
 use borrow.Author.Tests.{le-leb, lt-leb}
-use Rattle.base.specs.Pick.{pick}
 use Rattle.base.proofs.Arms.{clash}
 use Rattle.base.proofs.PickLaws.{pick-true, pick-false}
 use Rattle.refusals.specs.declared.Refusal.{Refusal}
@@ -71,4 +71,4 @@ module _ (bundle names name : List ℕ) (at : IncludeAt) (task : Task) (st : Sta
 pub found-stands : (bundle name : List ℕ) (r : FileAt) → fileNumbers r ≡ fileAt bundle name → (k a b left : ℕ) → r ≡ At k a b → InBundle bundle (record { file = k; start = a; end = b; left = left })
 found-stands bundle name r f k a b left e = record { order = found-order bundle name r f k a b e; within = found-within bundle name r f k a b e }
 
-pub ruleset follow-laws = (follow-deep, follow-many, more-ready, follow-less, follow-missing, found-stands, follow-in)
+pub ruleset follow-laws = (follow-deep, follow-many, more-ready, follow-less, follow-missing, found-stands, follow-in, needs)

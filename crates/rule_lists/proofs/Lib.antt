@@ -1,4 +1,5 @@
 pub mod FollowLaws
+pub mod CodeLaws
 pub mod FileLaws
 pub mod GoingLaws
 pub mod LineLaws

@@ -1,8 +1,9 @@
 -- A law for each way that the functions of `lists` can go. Assumes nothing.
 use mathlib.Core.Path.{_≡_, refl, ap, _∙_}
 use mathlib.Core.List.{List, [], _∷_, _++_, append-nil}
-use Prim.Native.Nat.{ℕ, suc, _+_, _-_, _≤_, _<_}
+use Prim.Native.Nat.{ℕ, suc, _+_, _-_, _≤_}
 use native.Mathlib.Omega.{arith}
+use borrow.Author.Needs.{needs}
 use lib.ListN.{length, getD, take, drop, length-take, length-append}
 use mir.Syntax.{w8}
 use mir.Val.{Fits}
@@ -45,11 +46,7 @@ told-done f (notLoaded c l k) o o′ at p r w q = clash (cc)
 told-refused : {A : Type 0} (f : A → List ℕ) (x : Loading A) (o o′ : List ℕ) (at : ℕ) (c : Refusal) (l k : ℕ) (r : Written) → WrittenIs f x o o′ at r → r ≡ Refused c l k → x ≡ notLoaded c l k
 unfolding WrittenIs
 told-refused f (fine a) o o′ at c l k r w q = let e = w .1 in clash (cc)
-told-refused f (notLoaded d m j) o o′ at c l k r w q =
-    let code : d ≡ c = cc in
-    let line : m ≡ l = cc in
-    let file : j ≡ k = cc in
-    rw (code, line, file) refl
+told-refused f (notLoaded d m j) o o′ at c l k r w q = cc
 
 -- ---- one part, and then another
 
@@ -73,32 +70,12 @@ told-stop f h x m o o₁ at r c l i v q = rw (told-refused f x o o₁ at c l i r
 
 -- ---- a name of three parts
 
-module _ (o o′ : List ℕ) (at r : ℕ) where
-  module _ (kind : NameType) where
-    pub put-ash : kind ≡ Ashkenazi → Put o o′ at r (97 ∷ 115 ∷ 104 ∷ []) → Put o o′ at r (typePrefix kind)
-    unfolding typePrefix
-    put-ash e v = rw e v
+module _ (o o′ : List ℕ) (at r : ℕ) (x : List ℕ) (v : Put o o′ at r x) where
+  pub put-as-type : (k k′ : NameType) → k ≡ k′ → x ≡ typePrefix k′ → Put o o′ at r (typePrefix k)
+  put-as-type k k′ p e = rw (p, ← e) v
 
-    pub put-gen : kind ≡ Generic → Put o o′ at r (103 ∷ 101 ∷ 110 ∷ []) → Put o o′ at r (typePrefix kind)
-    unfolding typePrefix
-    put-gen e v = rw e v
-
-    pub put-sep : kind ≡ Sephardic → Put o o′ at r (115 ∷ 101 ∷ 112 ∷ []) → Put o o′ at r (typePrefix kind)
-    unfolding typePrefix
-    put-sep e v = rw e v
-
-  module _ (l : ListKind) where
-    pub put-rules : l ≡ list.Rules → Put o o′ at r rulesPart → Put o o′ at r (listPart l)
-    unfolding listPart
-    put-rules e v = rw e v
-
-    pub put-approx : l ≡ list.Approx → Put o o′ at r approxPart → Put o o′ at r (listPart l)
-    unfolding listPart
-    put-approx e v = rw e v
-
-    pub put-exact : l ≡ list.Exact → Put o o′ at r exactPart → Put o o′ at r (listPart l)
-    unfolding listPart
-    put-exact e v = rw e v
+  pub put-as-list : (l l′ : ListKind) → l ≡ l′ → x ≡ listPart l′ → Put o o′ at r (listPart l)
+  put-as-list l l′ p e = rw (p, ← e) v
 
 type-three : (k : NameType) → length (typePrefix k) ≡ 3
 unfolding typePrefix
@@ -164,11 +141,11 @@ module _ (names : List ℕ) (fs : List File) where
   abbrev One : List ℕ → List ℕ → List ℕ → ℕ → Written → Type 0
   One w o o′ at r = WrittenIs listBytes (listNamed names fs w) o o′ at r
 
-  list-then : (w : List ℕ) (ws : List (List ℕ)) (o o₁ o₂ : List ℕ) (at p : ℕ) (r s : Written) → One w o o₁ at r → r ≡ Done p → Lists ws o₁ o₂ p s → Lists (w ∷ ws) o o₂ at s
+  pub list-then : (w : List ℕ) (ws : List (List ℕ)) (o o₁ o₂ : List ℕ) (at p : ℕ) (r s : Written) → One w o o₁ at r → r ≡ Done p → Lists ws o₁ o₂ p s → Lists (w ∷ ws) o o₂ at s
   unfolding listsOf bytesOfAll
   list-then w ws o o₁ o₂ at p r s v q u = told-then listBytes (bytesOfAll listBytes) (bytesOfAll listBytes) _∷_ (λ rs ls. refl) (listNamed names fs w) (listsOf names fs ws) o o₁ o₂ at p r s v q u
 
-  list-last : (w : List ℕ) (o o′ : List ℕ) (at : ℕ) (r : Written) → One w o o′ at r → Lists (w ∷ []) o o′ at r
+  pub list-last : (w : List ℕ) (o o′ : List ℕ) (at : ℕ) (r : Written) → One w o o′ at r → Lists (w ∷ []) o o′ at r
   unfolding listsOf andLoad WrittenIs bytesOfAll
   list-last w o o′ at r v = by (listNamed names fs w) v
     where
@@ -176,7 +153,7 @@ module _ (names : List ℕ) (fs : List File) where
       by (fine rs) v = (v .0, v .1, rw (append-nil (listBytes rs)) (v .2))
       by (notLoaded c l f) v = v
 
-  list-stop : (w : List ℕ) (ws : List (List ℕ)) (o o₁ : List ℕ) (at : ℕ) (r : Written) (c : Refusal) (l i : ℕ) → One w o o₁ at r → r ≡ Refused c l i → Lists (w ∷ ws) o o₁ at (Refused c l i)
+  pub list-stop : (w : List ℕ) (ws : List (List ℕ)) (o o₁ : List ℕ) (at : ℕ) (r : Written) (c : Refusal) (l i : ℕ) → One w o o₁ at r → r ≡ Refused c l i → Lists (w ∷ ws) o o₁ at (Refused c l i)
   unfolding listsOf
   list-stop w ws o o₁ at r c l i v q = told-stop listBytes (bytesOfAll listBytes) (listNamed names fs w) _ o o₁ at r c l i v q
 
@@ -186,28 +163,6 @@ module _ (names : List ℕ) (fs : List File) where
 
   lists-stop : (ws us : List (List ℕ)) (o o₁ : List ℕ) (at : ℕ) (r : Written) (c : Refusal) (l i : ℕ) → Lists ws o o₁ at r → r ≡ Refused c l i → Lists (ws ++ us) o o₁ at (Refused c l i)
   lists-stop ws us o o₁ at r c l i v q = rw (lists-append ws us) (told-stop (bytesOfAll listBytes) (bytesOfAll listBytes) (listsOf names fs ws) _ o o₁ at r c l i v q)
-
-  -- ---- the lists of a language
-
-  module _ (kind : NameType) (lang o o₁ o₂ : List ℕ) (at p : ℕ) (r s : Written) where
-    abbrev Named : ListKind → List ℕ
-    Named l = listName (record { kind = kind; list = l }) lang
-
-    pub two-all : One (Named list.Approx) o o₁ at r → r ≡ Done p → One (Named list.Exact) o₁ o₂ p s → Lists (twoOf (typePrefix kind) lang) o o₂ at s
-    unfolding twoOf listName listPart
-    two-all v q u = list-then _ _ o o₁ o₂ at p r s v q (list-last _ o₁ o₂ p s u)
-
-    pub two-stop : (c : Refusal) (l i : ℕ) → One (Named list.Approx) o o₁ at r → r ≡ Refused c l i → Lists (twoOf (typePrefix kind) lang) o o₁ at (Refused c l i)
-    unfolding twoOf listName listPart
-    two-stop c l i v q = list-stop _ _ o o₁ at r c l i v q
-
-    pub three-all : One (Named list.Rules) o o₁ at r → r ≡ Done p → Lists (twoOf (typePrefix kind) lang) o₁ o₂ p s → Lists (threeOf (typePrefix kind) lang) o o₂ at s
-    unfolding threeOf listName listPart
-    three-all v q u = list-then _ _ o o₁ o₂ at p r s v q u
-
-    pub three-stop : (c : Refusal) (l i : ℕ) → One (Named list.Rules) o o₁ at r → r ≡ Refused c l i → Lists (threeOf (typePrefix kind) lang) o o₁ at (Refused c l i)
-    unfolding threeOf listName listPart
-    three-stop c l i v q = list-stop _ _ o o₁ at r c l i v q
 
   -- ---- string by string: what is left of the names, from a place on, is written behind what was
 
@@ -246,8 +201,8 @@ module _ (names : List ℕ) (fs : List File) where
 pub string-short : (names : List ℕ) (from a e : ℕ) (r : Next) → r ≡ stringAt names from → r ≡ next.Whole a e → ((i : ℕ) → Fits w8 (getD names i 0)) → length (take (e - a) (drop a names)) ≤ 255
 string-short names from a e r p q b = omega (arith, b from .fits, string-whole names from a e r p q, length-take (e - a) (drop a names))
 
-pub ruleset name-laws = (put-ash, put-gen, put-sep, put-rules, put-approx, put-exact, name-fits, name-told)
+pub ruleset name-laws = (put-as-type, put-as-list, name-fits, name-told, needs)
 
-pub ruleset list-laws = (two-all, two-stop, three-all, three-stop)
+pub ruleset list-laws = (list-then, list-last, list-stop, needs)
 
-pub ruleset all-laws = (part-order, part-fits, walk-less, string-short, listing-start, listing-next, listing-stop, listing-done)
+pub ruleset all-laws = (part-order, part-fits, walk-less, string-short, listing-start, listing-next, listing-stop, listing-done, needs)

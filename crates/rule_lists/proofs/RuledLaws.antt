@@ -4,15 +4,17 @@ use mathlib.Core.Bool.{Bool, true, false}
 use mathlib.Core.List.{List}
 use Prim.Native.Nat.{ℕ, _≤_}
 use native.Mathlib.Omega.{arith}
+use borrow.Author.Needs.{needs}
 use Rattle.rule_lines.specs.Rules.{Rule}
 use Rattle.held.specs.Contracts.{staysIn}
-use Rattle.rule_lists.specs.TableContracts.{Notes, StaysIs, Keeps, SpotIs}
+use Rattle.rule_lists.specs.TableContracts.{Notes, StaysIs, AddsRow, SpotIs}
 use Rattle.rule_lists.specs.Contracts.{Known, ruled, stateOf, StateHolds, Ready, RuledIs}
 use Rattle.rule_lists.specs.declared.tables.Spot.{Spot}
 use Rattle.rule_lists.specs.declared.walk.Task.{Task}
 use Rattle.rule_lists.specs.declared.walk.Task.the-variants.{Survey, Collect}
 use Rattle.rule_lists.specs.declared.walk.State.{State}
-use Rattle.rule_lists.proofs.TableLaws.{keep-is}
+use Rattle.rule_lists.proofs.TableLaws.{add-is}
+use Rattle.base.proofs.Arms.{clash}
 use Rattle.base.proofs.PickLaws.{pick-true, pick-false}
 use Rattle.rule_lists.specs.Lists.{firstCodeOf}
 
@@ -25,23 +27,23 @@ module _ (bundle : List ℕ) (task : Task) (own : ℕ) (st : State) (spot : Spot
   unfolding ruled firstCodeOf
   ruled-survey e m lasts′ o = record {
     followed = refl;
-    noted = λ q. let z : _≡_ {A = ℕ} 0 1 = cc in let no-way : ⊥ = omega arith in absurd no-way;
+    noted = λ q. clash (cc);
     holds = λ a r h s. rw e (record { noted = rw (s .first) at (o .is (a .lasts) (h .noted)); kept = h .kept });
   }
 
   module _ (e : task ≡ Collect) (x : Bool) (y : StaysIs lasts (st .noted) (spot .code) (st .followed) x) where
-    stays-by : (a : Known) (r : Rule) → StateHolds bundle lasts rows st a → SpotIs bundle (spot .code) (spot .start) (spot .end) (spot .place) r
+    stays-by : (a : Known) (r : Rule) → StateHolds bundle lasts rows st a → SpotIs bundle spot r
         → x ≡ staysIn (firstCodeOf r) (st .followed) (a .lasts)
     unfolding firstCodeOf
     stays-by a r h s = rw (s .first) at (y .is (a .lasts) (h .noted))
 
-    pub ruled-kept : x ≡ true → (k : ℕ) (rows′ : List ℕ) → Keeps rows (st .kept) spot k rows′
+    pub ruled-kept : x ≡ true → (k : ℕ) (rows′ : List ℕ) → AddsRow rows (st .kept) spot k rows′
         → RuledIs bundle task own st spot lasts rows (stateOf (st .followed) (st .noted) k) lasts rows′
     unfolding ruled
     ruled-kept t k rows′ o = record {
       followed = refl;
       noted = λ q. refl;
-      holds = λ a r h s. rw (e, pick-true _ _ _ (sym (stays-by a r h s) ∙ t)) (record { noted = h .noted; kept = keep-is bundle rows rows′ (st .kept) k spot (a .rules) r o (h .kept) s });
+      holds = λ a r h s. rw (e, pick-true _ _ _ (sym (stays-by a r h s) ∙ t)) (record { noted = h .noted; kept = add-is bundle rows rows′ (st .kept) k spot (a .rules) r o (h .kept) s });
     }
 
     pub ruled-passed : x ≡ false → RuledIs bundle task own st spot lasts rows (stateOf (st .followed) (st .noted) (st .kept)) lasts rows
@@ -52,4 +54,4 @@ module _ (bundle : List ℕ) (task : Task) (own : ℕ) (st : State) (spot : Spot
       holds = λ a r h s. rw (e, pick-false _ _ _ (sym (stays-by a r h s) ∙ t)) (record { noted = h .noted; kept = h .kept });
     }
 
-pub ruleset ruled-laws = (ready-whole, ruled-survey, ruled-kept, ruled-passed)
+pub ruleset ruled-laws = (ready-whole, ruled-survey, ruled-kept, ruled-passed, needs)

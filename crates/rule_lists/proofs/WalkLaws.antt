@@ -1,35 +1,31 @@
 -- What a walk over a listed file leaves, and what holds of every rule that is read. Assumes nothing.
 use mathlib.Core.Path.{_≡_, refl, ap, subst, _∙_}
 use mathlib.Core.Bool.{Bool, true, false}
-use mathlib.Core.List.{List, [], _∷_, _++_}
+use mathlib.Core.List.{List, [], _∷_}
 use Prim.Native.Nat.{ℕ, zero, suc, _+_, _-_, _≤_, _<_}
-use native.Mathlib.Decide.{decLt, ℕ-discrete}
+use native.Mathlib.Decide.{decLt}
 use native.Mathlib.Omega.{arith}
+use borrow.Author.Needs.{needs}
 use lib.Dec.{leb}
-use lib.ListN.{length, take, drop}
-use borrow.Author.Tests.{le-leb, lt-leb, leb-true}
+use lib.ListN.{length}
+use borrow.Author.Tests.{le-leb, lt-leb}
 use Rattle.base.specs.Pick.{pick}
 use Rattle.refusals.specs.declared.Refusal.{Refusal}
 use Rattle.refusals.specs.declared.Refusal.the-variants.{FileMissing, IncludeTooDeep, TooMuch}
-use Rattle.letters.specs.Utf8.{within, lowSecond, highSecond, code2, code3, code4, decode2, decode3, decode4, decodeBytes, decodeAt}
-use Rattle.letters.specs.declared.utf8.Step.{Step}
-use Rattle.letters.specs.declared.utf8.Step.the-variants.{Char, Ill, End}
-use Rattle.rule.specs.Matching.{codeIn, firstCode}
 use Rattle.rule_lines.specs.Rules.{Rule, ruleFault, ruleGood}
 use Rattle.rule_lines.proofs.Laws.{Texts, texts-good}
-use Rattle.pack_bytes.specs.Contracts as bytes
 use Rattle.bundles.specs.Bundles.{File, Found, missing, found, fileNamed}
 use Rattle.rules_parser.specs.declared.lines.FileKind.the-variants.{Rules}
 use Rattle.rules_parser.proofs.Laws.{items-start, items-end, rule-pattern, rule-left, rule-right, rule-expression}
-use Rattle.held.specs.Met.{Met, end, rule, file, entries, codes, Map, noRules, add, extend, held, spread, finished}
+use Rattle.held.specs.Met.{Met, end, rule, file, entries, codes, finished}
 use Rattle.held.specs.Files.{Line, passed, is-rule, include, badLine, FileRead, wasRead, notRead, before, onRead, onContent, readLines, follow, readListed}
 use Rattle.held.specs.Contracts.{noted, kept, Each, Within}
-use Rattle.held.proofs.Finished.{length-kept, length-noted}
-use Rattle.rule_lists.specs.Outcomes as outcome
+use Rattle.held.proofs.Finished.{length-kept, length-noted, each-of}
 use Rattle.rule_lines.specs.declared.Fault.the-variants.{Without}
 use Rattle.rule_lists.specs.Lines.{linesOf}
 use Rattle.rule_lists.specs.TableContracts.{RowReads, KeptIs}
-use Rattle.rule_lists.specs.Contracts.{Known, known, ruled, tally, stateOf, Room, StateHolds, Ready, Told, Walks, keptAs, CollectIs, all, refused, rowAt}
+use Rattle.rule_lists.specs.Contracts.{Known, known, ruled, tally, stateOf, Room, StateHolds, Ready, ComesTo, Walks, keptAs, CollectIs, all, refused, rowAt}
+use Rattle.rule_lists.proofs.CodeLaws.{first-under}
 use Rattle.rule_lists.proofs.TableLaws.{noted-none, kept-none}
 use Rattle.rule_lists.proofs.GoingLaws.{linesAt, Here, here, WasRead, told-done, told-refused}
 use Rattle.base.proofs.Arms.{clash}
@@ -40,50 +36,7 @@ use Rattle.rule_lists.specs.declared.walk.State.{State}
 use Rattle.rule_lists.specs.declared.walk.Walked.{Walked}
 use Rattle.rule_lists.specs.declared.walk.Walked.the-variants.{Done, Refused}
 use Rattle.rule_lists.specs.declared.walk.Collected.the-variants as collected
-use Rattle.base.proofs.PickLaws.{pick-true, pick-false, and-inv}
 use Rattle.rule_lists.specs.Lists.{firstCodeOf, contentIn, filesFor, countedRules}
-use Rattle.bundles.specs.Contracts.{filesOf}
-
--- ---- a first character is one of Unicode's
-
-Under : Step → Type 0
-Under (Char c n) = c < codes
-Under Ill = Unit {0}
-Under End = Unit {0}
-
-pick-under : (t : Bool) (a b : Step) → (t ≡ true → Under a) → Under b → Under (pick t a b)
-unfolding pick
-pick-under true a b p q = p refl
-pick-under false a b p q = q
-
--- the second byte behind F4 keeps it below 0x110000
-four-under : (a b c d : ℕ) → within 0xF0 0xF4 a ≡ true → within (lowSecond a) (highSecond a) b ≡ true → code4 a b c d < codes
-unfolding within lowSecond highSecond code4 pick
-four-under a b c d e h = elim (ℕ-discrete a 0xF4) [
-  | yes p ↦
-      let w : within 0x80 0x8F b ≡ true = rw p at h in
-      let v = and-inv (leb 0x80 b) (leb b 0x8F) w in
-      omega (arith, leb-true 0x80 b (v .0), leb-true b 0x8F (v .1))
-  | no p ↦ let v = and-inv (leb 0xF0 a) (leb a 0xF4) e in omega (arith, leb-true 0xF0 a (v .0), leb-true a 0xF4 (v .1))
-]
-
-bytes-under : (a b c d : ℕ) → Under (decodeBytes a b c d)
-unfolding Under decodeBytes decode2 decode3 decode4 code2 code3
-bytes-under a b c d =
-    pick-under _ _ _ (λ e. omega (arith, leb-true a 0x7F e))
-    (pick-under _ _ _ (λ e. pick-under _ _ _ (λ f. omega arith) tt)
-    (pick-under _ _ _ (λ e. pick-under _ _ _ (λ f. pick-under _ _ _ (λ g. omega arith) tt) tt)
-    (pick-under _ _ _ (λ e. pick-under _ _ _ (λ f. pick-under _ _ _ (λ g. pick-under _ _ _ (λ h. four-under a b c d e f) tt) tt) tt) tt)))
-
-code-under : (x : Step) → Under x → codeIn x < codes
-unfolding Under codeIn
-code-under (Char c n) h = h
-code-under Ill h = omega arith
-code-under End h = omega arith
-
-pub first-under : (r : Rule) → firstCodeOf r < codes
-unfolding firstCodeOf firstCode decodeAt Under
-first-under r = code-under _ (pick-under _ _ _ (λ e. bytes-under _ _ _ _) tt)
 
 -- ---- every rule that is read
 
@@ -164,35 +117,6 @@ module _ (names : List ℕ) where
     unfolding readListed Sound
     each-read f s t e = subst Sound e (sound-lines _ (sound-follow 8) f 1 0 (linesOf names s) (lines-good names s))
 
--- ---- every rule of the finished list
-
-each-append : {P : Rule → Type 0} (a b : List Rule) → bytes.Each P a → bytes.Each P b → bytes.Each P (a ++ b)
-each-append [] b p q = q
-each-append (x ∷ a) b (bytes.more h p) q = bytes.more h (each-append a b p q)
-
-each-pick : {P : Rule → Type 0} (t : Bool) (a b : List Rule) → bytes.Each P a → bytes.Each P b → bytes.Each P (pick t a b)
-unfolding pick
-each-pick true a b p q = p
-each-pick false a b p q = q
-
-module _ (P : Rule → Type 0) (first : Rule → ℕ) where
-  each-held : (t : Met Rule) (m : Map Rule) → Each P t → ((c : ℕ) → bytes.Each P (m c)) → (c : ℕ) → bytes.Each P (held first m t c)
-  unfolding held add extend noRules Each
-  each-held end m e h c = h c
-  each-held (rule r t) m e h c = each-held t (add first m r) (e .1) (λ d. each-pick _ _ _ (each-append (m d) (r ∷ []) (h d) (bytes.more (e .0) bytes.none)) (h d)) c
-  each-held (file i t) m e h c =
-      let w = each-held i noRules (e .0) (λ d. bytes.none) in
-      each-held t (extend m (held first noRules i)) (e .1) (λ d. each-pick _ _ _ (h d) (w d)) c
-
-  each-spread : (m : Map Rule) (k c : ℕ) → ((d : ℕ) → bytes.Each P (m d)) → bytes.Each P (spread m k c)
-  unfolding spread
-  each-spread m zero c h = bytes.none
-  each-spread m (suc k) c h = each-append (m c) _ (h c) (each-spread m k (suc c) h)
-
-  pub each-finished : (t : Met Rule) → Each P t → bytes.Each P (finished first t)
-  unfolding finished noRules
-  each-finished t e = each-spread (held first noRules t) codes 0 (each-held t noRules e (λ d. bytes.none))
-
 -- ---- what two walks leave
 
 tally-survey : (t : Met Rule) (own n : ℕ) (vs : List ℕ) (rs : List Rule) → tally Survey own n (known vs rs) t ≡ known (noted firstCodeOf own n vs t) rs
@@ -208,16 +132,12 @@ tally-collect (rule r t) own n vs rs = tally-collect t own n vs _
 tally-collect (file i t) own n vs rs = ap (λ (a : Known). tally Collect own (n + 1 + entries i) a t) (tally-collect i (n + 1) (n + 1) vs rs) ∙ tally-collect t own (n + 1 + entries i) vs _
 
 pub within-all : (t : Met Rule) → Within firstCodeOf t
-unfolding Each
-within-all end = tt
-within-all (rule r t) = (first-under r, within-all t)
-within-all (file i t) = (within-all i, within-all t)
+within-all t = each-of firstCodeOf (λ r. firstCodeOf r < codes) first-under t
+
+abbrev lastsOf : Met Rule → List ℕ
+lastsOf t = noted firstCodeOf 0 0 [] t
 
 -- where more than 4,096 are kept or noted, the list is refused
-counts : (t : Met Rule) → entries t ≤ 256 → (length (noted firstCodeOf 0 0 [] t) ≤ length (finished firstCodeOf t)) × (length (keptAs t) ≡ length (finished firstCodeOf t))
-unfolding keptAs
-counts t h = (length-noted firstCodeOf t h (within-all t), length-kept firstCodeOf t h (within-all t))
-
 module _ {bundle : List ℕ} where
   pub ready-survey : {lasts rows : List ℕ} → Room lasts rows → Ready bundle Survey (stateOf 0 0 0) lasts rows
   ready-survey {lasts} {rows} r = record {
@@ -232,15 +152,15 @@ module _ {bundle : List ℕ} where
   refuses c l g rows′ e = rw e refused
 
   too-many : {x : FileRead Rule} (t : Met Rule) (rows′ : List ℕ) → x ≡ wasRead t → 4096 < length (finished firstCodeOf t) → CollectIs bundle (countedRules x) (collected.Refused TooMuch 0 0) rows′
-  unfolding countedRules
-  too-many t rows′ e h = rw (e, pick-false (leb (length (finished firstCodeOf t)) 4096) (outcome.fine t) (outcome.notLoaded TooMuch 0 0) (lt-leb _ 4096 h)) refused
+  unfolding countedRules pick
+  too-many t rows′ e h = rw (e, lt-leb _ 4096 h) refused
 
-  all-kept : {x : FileRead Rule} (t : Met Rule) (n : ℕ) (rows′ : List ℕ) → x ≡ wasRead t → length (finished firstCodeOf t) ≤ 4096 → n ≤ 4096 → KeptIs bundle rows′ n (keptAs t) → CollectIs bundle (countedRules x) (collected.Rules n) rows′
-  unfolding countedRules
-  all-kept t n rows′ e h few k = rw (e, pick-true (leb (length (finished firstCodeOf t)) 4096) (outcome.fine t) (outcome.notLoaded TooMuch 0 0) (le-leb _ 4096 h)) (all few k)
+  all-kept : {x : FileRead Rule} (t : Met Rule) (n : ℕ) (rows′ : List ℕ) → x ≡ wasRead t → length (finished firstCodeOf t) ≤ 4096 → entries t ≤ 256 → n ≤ 4096 → KeptIs bundle rows′ n (keptAs t) → CollectIs bundle (countedRules x) (collected.Rules n) rows′
+  unfolding countedRules pick
+  all-kept t n rows′ e h short few k = rw (e, le-leb _ 4096 h) (all short few k)
 
   module _ {x : FileRead Rule} {lasts rows lasts₁ rows₁ : List ℕ} {w : Walked} (room : Room lasts rows) (one : Walks bundle Survey (stateOf 0 0 0) x lasts rows w lasts₁ rows₁) where
-    told-one : Told bundle Survey 0 (stateOf 0 0 0) (known [] []) x w lasts₁ rows₁
+    told-one : ComesTo bundle Survey 0 (stateOf 0 0 0) (known [] []) x w lasts₁ rows₁
     unfolding ready-survey
     told-one = one .told (known [] []) (ready-survey room .some .1)
 
@@ -251,17 +171,21 @@ module _ {bundle : List ℕ} where
       met : WasRead bundle Survey 0 (stateOf 0 0 0) (known [] []) lasts₁ rows₁ x st
       met = told-done told-one e
 
-      holds : StateHolds bundle lasts₁ rows₁ st (known (noted firstCodeOf 0 0 [] (met .all)) [])
+      holds : StateHolds bundle lasts₁ rows₁ st (known (lastsOf (met .all)) [])
       holds = rw (tally-survey (met .all) 0 0 [] []) at (met .holds)
 
-      sizes : (length (noted firstCodeOf 0 0 [] (met .all)) ≤ length (finished firstCodeOf (met .all))) × (length (keptAs (met .all)) ≡ length (finished firstCodeOf (met .all)))
-      sizes = counts (met .all) (omega (arith, met .followed, one .followed st e))
+      short : entries (met .all) ≤ 256
+      short = omega (arith, met .followed, one .followed st e)
+
+      sizes : (length (lastsOf (met .all)) ≤ length (finished firstCodeOf (met .all))) × (length (keptAs (met .all)) ≡ length (finished firstCodeOf (met .all)))
+      unfolding keptAs
+      sizes = (length-noted firstCodeOf (met .all) short (within-all (met .all)), length-kept firstCodeOf (met .all) short (within-all (met .all)))
 
       pub stop-noted : {rows′ : List ℕ} → 4096 < st .noted → CollectIs bundle (countedRules x) (collected.Refused TooMuch 0 0) rows′
       stop-noted {rows′} h = too-many (met .all) rows′ (met .is) (omega (arith, holds .noted .count, sizes .0))
 
       module _ (few : st .noted ≤ 4096) where
-        start-two : StateHolds bundle lasts₁ rows₁ (stateOf 0 (st .noted) 0) (known (noted firstCodeOf 0 0 [] (met .all)) [])
+        start-two : StateHolds bundle lasts₁ rows₁ (stateOf 0 (st .noted) 0) (known (lastsOf (met .all)) [])
         start-two = record { noted = holds .noted; kept = kept-none bundle rows₁ (holds .kept .size) }
 
         pub ready-collect : Ready bundle Collect (stateOf 0 (st .noted) 0) lasts₁ rows₁
@@ -277,12 +201,12 @@ module _ {bundle : List ℕ} where
             kept-is =
                 let u = told-done (two .told _ start-two) i in
                 let q : u .all ≡ met .all = cc (u .is, met .is) in
-                rw q at (rw (tally-collect (u .all) 0 0 (noted firstCodeOf 0 0 [] (met .all)) []) at (u .holds)) .kept
+                rw q at (rw (tally-collect (u .all) 0 0 (lastsOf (met .all)) []) at (u .holds)) .kept
 
             pub stop-kept : {rows′ : List ℕ} → 4096 < st₂ .kept → CollectIs bundle (countedRules x) (collected.Refused TooMuch 0 0) rows′
             stop-kept {rows′} h = too-many (met .all) rows′ (met .is) (omega (arith, kept-is .count, sizes .1))
 
             pub collects : st₂ .kept ≤ 4096 → CollectIs bundle (countedRules x) (collected.Rules (st₂ .kept)) rows₂
-            collects h = all-kept (met .all) _ rows₂ (met .is) (omega (arith, kept-is .count, sizes .1)) h kept-is
+            collects h = all-kept (met .all) _ rows₂ (met .is) (omega (arith, kept-is .count, sizes .1)) short h kept-is
 
-pub ruleset collect-laws = (ready-survey, stop-first, stop-noted, ready-collect, stop-second, stop-kept, collects)
+pub ruleset collect-laws = (ready-survey, stop-first, stop-noted, ready-collect, stop-second, stop-kept, collects, needs)

@@ -1,10 +1,10 @@
 -- A law for each way that the functions of `writing` can go. Assumes nothing.
 use mathlib.Core.Path.{_≡_, sym, ap, _∙_}
-use mathlib.Core.Bool.{Bool}
-use mathlib.Core.List.{List, [], _∷_, _++_, append-nil, append-assoc}
+use mathlib.Core.List.{List, [], _∷_, _++_, append-nil}
 use Prim.Native.Nat.{ℕ, _+_, _*_, _%_, _≤_, _<_}
 use native.Mathlib.Numerals.{add-one}
 use native.Mathlib.Omega.{arith}
+use borrow.Author.Needs.{needs}
 use lib.ListN.{length, getD, take}
 use lib.Seq.{getD-take, take-suc}
 use Rattle.writing.specs.Contracts.{Put, cap}
@@ -12,6 +12,7 @@ use Rattle.writing.proofs.Laws.{slice-room, put-none, put-then, put-long, put-p
 use Rattle.rule_lines.specs.Rules.{Rule}
 use Rattle.pack_bytes.specs.Bytes.{countBytes}
 use Rattle.held.specs.Contracts.{atPlace, keyBytes}
+use Rattle.held.proofs.Keys.{key-append}
 use Rattle.rules_parser.specs.Fields.{partOf}
 use Rattle.rules_parser.proofs.NumberLaws.{item-one}
 use Rattle.rules_parser.specs.Files.{itemAt}
@@ -41,45 +42,18 @@ module _ (s : List ℕ) (place : ℕ) (r : Item) (g : r ≡ itemAt Rules s place
   unfolding rowPut
   item-put x q o′ e w = let same : x ≡ itemAt Rules s place = sym q ∙ g in rw same at w
 
+  pub row-rule : (t : Clause) (n : ℕ) → r ≡ item.Tells t n → (a b c d : Text) → t ≡ told.Rule a b c d → (o′ : List ℕ) (e : ℕ) → Put o o′ at e (rulePut (ruleIn s a b c d)) → Put o o′ at e (rowPut s place)
+  unfolding itemPut
+  row-rule t n q a b c d u o′ e w = item-put (item.Tells (told.Rule a b c d) n) (rw u at q) o′ e w
+
   module _ (h : length o * 1 < cap) (k : at ≤ cap) where
-    none : Put o o at at []
-    none = put-none o at (slice-room o h) k
+    pub row-none : (x : Item) → r ≡ x → [] ≡ itemPut s x → Put o o at at (rowPut s place)
+    row-none x q e = item-put x q o at (rw (← e) (put-none o at (slice-room o h) k))
 
-    pub row-passed : (l n : ℕ) → r ≡ item.Passed l n → Put o o at at (rowPut s place)
-    unfolding itemPut
-    row-passed l n q = item-put _ q o at none
-
-    pub row-wrong : r ≡ item.Wrong → Put o o at at (rowPut s place)
-    unfolding itemPut
-    row-wrong q = item-put _ q o at none
-
-  module _ (t : Clause) (n : ℕ) (q : r ≡ item.Tells t n) where
-    told-put : (x : Clause) → t ≡ x → (o′ : List ℕ) (e : ℕ) → Put o o′ at e (itemPut s (item.Tells x n)) → Put o o′ at e (rowPut s place)
-    told-put x u o′ e w = item-put (item.Tells x n) (rw u at q) o′ e w
-
-    pub row-rule : (a b c d : Text) → t ≡ told.Rule a b c d → (o′ : List ℕ) (e : ℕ) → Put o o′ at e (rulePut (ruleIn s a b c d)) → Put o o′ at e (rowPut s place)
-    unfolding itemPut
-    row-rule a b c d u o′ e w = told-put _ u o′ e w
-
-    module _ (h : length o * 1 < cap) (k : at ≤ cap) where
-      pub row-include : (a : Text) → t ≡ told.Include a → Put o o at at (rowPut s place)
-      unfolding itemPut
-      row-include a u = told-put _ u o at (none h k)
-
-      pub row-guess : (a b : Text) (v : Bool) → t ≡ told.Guess a b v → Put o o at at (rowPut s place)
-      unfolding itemPut
-      row-guess a b v u = told-put _ u o at (none h k)
-
-      pub row-name : (a : Text) → t ≡ told.Name a → Put o o at at (rowPut s place)
-      unfolding itemPut
-      row-name a u = told-put _ u o at (none h k)
+    pub row-other : (t : Clause) (n : ℕ) → r ≡ item.Tells t n → (x : Clause) → t ≡ x → [] ≡ itemPut s (item.Tells x n) → Put o o at at (rowPut s place)
+    row-other t n q x u e = row-none (item.Tells x n) (rw u at q) e
 
 -- ---- a list: rows by keys
-
-key-snoc : (f : Rule → List ℕ) (rs : List Rule) (ks : List ℕ) (k : ℕ) → keyBytes f rs (ks ++ (k ∷ [])) ≡ keyBytes f rs ks ++ atPlace f rs (k % 4096)
-unfolding keyBytes
-key-snoc f rs [] k = append-nil _
-key-snoc f rs (x ∷ ks) k = ap (λ (l : List ℕ). atPlace f rs (x % 4096) ++ l) (key-snoc f rs ks k) ∙ sym (append-assoc (atPlace f rs (x % 4096)) (keyBytes f rs ks) (atPlace f rs (k % 4096)))
 
 -- what is written of a line that is a rule
 reads-put : (s : List ℕ) (place : ℕ) (r : Rule) → RowReads s place r → rowPut s place ≡ rulePut r
@@ -92,10 +66,10 @@ pub record Putting (bundle rows keys : List ℕ) (n i : ℕ) (o₀ : List ℕ) (
   pub small : at ≤ cap
   pub is : (rs : List Rule) → KeptIs bundle rows n rs → Put o₀ o at₀ at (keyBytes rulePut rs (take i keys))
 
-module _ (bundle rows keys : List ℕ) (n : ℕ) (few : n ≤ 4096) (held : take n keys ≡ keysOf rows n 0 []) (size : length keys ≡ 4096) where
+module _ (bundle rows keys : List ℕ) (n : ℕ) (few : n ≤ 4096) (sorted : take n keys ≡ keysOf rows n 0 []) (size : length keys ≡ 4096) where
   key-row : (i : ℕ) → i < n → getD keys i 0 % 4096 < n
   key-row i h =
-      let e : getD (keysOf rows n 0 []) i 0 ≡ getD keys i 0 = ap (λ (l : List ℕ). getD l i 0) (sym held) ∙ getD-take n keys i 0 h in
+      let e : getD (keysOf rows n 0 []) i 0 ≡ getD keys i 0 = ap (λ (l : List ℕ). getD l i 0) (sym sorted) ∙ getD-take n keys i 0 h in
       omega (arith, key-at rows n i few h)
 
   pub key-fits : SomeKept bundle rows n → (i : ℕ) → i < n → RowFits bundle rows (getD keys i 0 % 4096)
@@ -107,6 +81,7 @@ module _ (bundle rows keys : List ℕ) (n : ℕ) (few : n ≤ 4096) (held : take
   module _ {o₀ : List ℕ} {at₀ : ℕ} where
     pub putting-next : (i : ℕ) (o : List ℕ) (at : ℕ) → i < n → Putting bundle rows keys n i o₀ at₀ o at → (o′ : List ℕ) (e : ℕ) → Put o o′ at e (rowAtPut bundle rows (getD keys i 0 % 4096))
         → Putting bundle rows keys n (i + 1) o₀ at₀ o′ e
+    unfolding keyBytes
     putting-next i o at h w o′ e v = record {
       within = omega arith;
       small = put-place _ _ _ _ _ v;
@@ -114,14 +89,14 @@ module _ (bundle rows keys : List ℕ) (n : ℕ) (few : n ≤ 4096) (held : take
           let x = rows-at k few _ (key-row i h) in
           let y : rowAtPut bundle rows (getD keys i 0 % 4096) ≡ atPlace rulePut rs (getD keys i 0 % 4096) = reads-put _ _ _ (x .spot .reads) ∙ sym (x .at rulePut) in
           let z : keyBytes rulePut rs (take (i + 1) keys) ≡ keyBytes rulePut rs (take i keys) ++ rowAtPut bundle rows (getD keys i 0 % 4096) =
-          ap (keyBytes rulePut rs) (ap (λ (m : ℕ). take m keys) (add-one i) ∙ take-suc keys i 0 (omega arith)) ∙ key-snoc rulePut rs (take i keys) (getD keys i 0) ∙ ap (λ (l : List ℕ). keyBytes rulePut rs (take i keys) ++ l) (sym y) in
+          ap (keyBytes rulePut rs) (ap (λ (m : ℕ). take m keys) (add-one i) ∙ take-suc keys i 0 (omega arith)) ∙ key-append rulePut rs (take i keys) (getD keys i 0 ∷ []) ∙ ap (λ (l : List ℕ). keyBytes rulePut rs (take i keys) ++ l) (append-nil _ ∙ sym y) in
           rw z (put-then (w .is rs k) v);
     }
 
     pub putting-done : (o₁ : List ℕ) (at₁ : ℕ) → Put o₁ o₀ at₁ at₀ (countBytes n) → (i : ℕ) (o : List ℕ) (at : ℕ) → n ≤ i → Putting bundle rows keys n i o₀ at₀ o at → RowsPut bundle rows n o₁ at₁ at o
     putting-done o₁ at₁ v i o at h w =
         let e : i ≡ n = omega (arith, w .within) in
-        let l : take i keys ≡ keysOf rows n 0 [] = ap (λ (m : ℕ). take m keys) e ∙ held in
+        let l : take i keys ≡ keysOf rows n 0 [] = ap (λ (m : ℕ). take m keys) e ∙ sorted in
         record { is = λ rs k. rw (← l) (put-then v (w .is rs k)) }
 
 -- behind the count
@@ -131,19 +106,10 @@ putting-start bundle rows keys n o o₀ at at₀ v =
     let small : at₀ ≤ cap = put-place _ _ _ _ _ v in
     record { within = omega arith; small = small; is = λ rs k. put-none o₀ at₀ (omega (arith, v .room, put-long _ _ _ _ _ v)) small }
 
-pub putting-small : (bundle rows keys : List ℕ) (n i : ℕ) (o₀ : List ℕ) (at₀ : ℕ) (o : List ℕ) (at : ℕ) → Putting bundle rows keys n i o₀ at₀ o at → at ≤ cap
-putting-small bundle rows keys n i o₀ at₀ o at w = w .small
-
-pub ruleset writing-laws = (item-one, rule-put, row-passed, row-wrong, row-rule, row-include, row-guess, row-name)
-
 -- rows of some rules can be sorted
-module _ (bundle rows : List ℕ) (n : ℕ) (w : SomeKept bundle rows n) where
-  pub some-size : length rows ≡ 16384
-  some-size = w .some .1 .size
+pub some-low : (bundle rows : List ℕ) (n : ℕ) → SomeKept bundle rows n → n ≤ 4096 → Low rows n
+some-low bundle rows n w few = kept-low bundle rows n _ (w .some .1) few
 
-  pub some-low : n ≤ 4096 → Low rows n
-  some-low few = kept-low bundle rows n _ (w .some .1) few
+pub ruleset writing-laws = (item-one, rule-put, row-rule, row-none, row-other, needs)
 
-pub ruleset sorted-laws = (some-size, some-low)
-
-pub ruleset rows-laws = (key-fits, putting-start, putting-small, putting-next, putting-done)
+pub ruleset rows-laws = (key-fits, putting-start, putting-next, putting-done, needs)

@@ -10,7 +10,7 @@ use Rattle.rule_lines.specs.Rules.{Rule, ruleFault}
 use Rattle.bundles.specs.Contracts.{filesOf}
 use Rattle.held.specs.Met as met
 use Rattle.held.specs.Files as files
-use Rattle.held.specs.Contracts.{noteIn, staysIn, noted, kept}
+use Rattle.held.specs.Contracts.{noteIn, staysIn, keptRules}
 use Rattle.rule_lists.specs.Outcomes.{Loading, fine, notLoaded}
 use Rattle.rule_lists.specs.Lines.{linesOf, ruleIn}
 use Rattle.rule_lists.specs.TableContracts.{NotedIs, KeptIs, SpotIs}
@@ -111,7 +111,7 @@ pub record Ready (bundle : List ℕ) (task : Task) (st : State) (lasts rows : Li
 pub record RuledIs (bundle : List ℕ) (task : Task) (own : ℕ) (st : State) (spot : Spot) (lasts rows : List ℕ) (st′ : State) (lasts′ rows′ : List ℕ) : Type 0 where
   pub followed : st′ .followed ≡ st .followed
   pub noted : task ≡ Collect → st′ .noted ≡ st .noted
-  pub holds : (a : Known) (r : Rule) → StateHolds bundle lasts rows st a → SpotIs bundle (spot .code) (spot .start) (spot .end) (spot .place) r → StateHolds bundle lasts′ rows′ st′ (ruled task own (st .followed) a r)
+  pub holds : (a : Known) (r : Rule) → StateHolds bundle lasts rows st a → SpotIs bundle spot r → StateHolds bundle lasts′ rows′ st′ (ruled task own (st .followed) a r)
 
 -- ---- a walk
 
@@ -137,13 +137,13 @@ abbrev pub oneMore : State → State
 oneMore st = stateOf (st .followed + 1) (st .noted) (st .kept)
 
 -- what a reading comes to from st on, in which a is known; a refusal says nothing of the buffers
-pub data Told (bundle : List ℕ) (task : Task) (own : ℕ) (st : State) (a : Known) : files.FileRead Rule → Walked → List ℕ → List ℕ → Type 0 where
+pub data ComesTo (bundle : List ℕ) (task : Task) (own : ℕ) (st : State) (a : Known) : files.FileRead Rule → Walked → List ℕ → List ℕ → Type 0 where
   done : {t : met.Met Rule} {st′ : State} {lasts rows : List ℕ} → st′ .followed ≡ st .followed + met.entries t → StateHolds bundle lasts rows st′ (tally task own (st .followed) a t)
-      → Told bundle task own st a (files.wasRead t) (walked.Done st′) lasts rows
-  stopped : {c : Refusal} {l f : ℕ} {lasts rows : List ℕ} → Told bundle task own st a (files.notRead c l f) (walked.Refused c l f) lasts rows
+      → ComesTo bundle task own st a (files.wasRead t) (walked.Done st′) lasts rows
+  stopped : {c : Refusal} {l f : ℕ} {lasts rows : List ℕ} → ComesTo bundle task own st a (files.notRead c l f) (walked.Refused c l f) lasts rows
 
 pub record Walks (bundle : List ℕ) (task : Task) (st : State) (x : files.FileRead Rule) (lasts rows : List ℕ) (r : Walked) (lasts′ rows′ : List ℕ) : Type 0 where
-  pub told : (a : Known) → StateHolds bundle lasts rows st a → Told bundle task (st .followed) st a x r lasts′ rows′
+  pub told : (a : Known) → StateHolds bundle lasts rows st a → ComesTo bundle task (st .followed) st a x r lasts′ rows′
   pub followed : (st′ : State) → r ≡ walked.Done st′ → st′ .followed ≤ 256
   pub noted : (st′ : State) → r ≡ walked.Done st′ → task ≡ Collect → st′ .noted ≡ st .noted
 
@@ -151,8 +151,8 @@ pub record Walks (bundle : List ℕ) (task : Task) (st : State) (x : files.FileR
 
 -- the rules that stay, in the order in which they are met
 unfoldable pub keptAs : met.Met Rule → List Rule
-keptAs t = kept firstCodeOf (noted firstCodeOf 0 0 [] t) 0 [] t
+keptAs t = keptRules firstCodeOf t
 
 pub data CollectIs (bundle : List ℕ) : Loading (met.Met Rule) → Collected → List ℕ → Type 0 where
-  all : {t : met.Met Rule} {n : ℕ} {rows : List ℕ} → n ≤ 4096 → KeptIs bundle rows n (keptAs t) → CollectIs bundle (fine t) (collected.Rules n) rows
+  all : {t : met.Met Rule} {n : ℕ} {rows : List ℕ} → met.entries t ≤ 256 → n ≤ 4096 → KeptIs bundle rows n (keptAs t) → CollectIs bundle (fine t) (collected.Rules n) rows
   refused : {c : Refusal} {l f : ℕ} {rows : List ℕ} → CollectIs bundle (notLoaded c l f) (collected.Refused c l f) rows

@@ -1,8 +1,8 @@
 -- What is written of a list.
 use mathlib.Core.Path.{_≡_}
-use Prim.Native.Nat.{ℕ, _+_, _-_, _*_, _≤_}
+use Prim.Native.Nat.{ℕ, _≤_}
 use mathlib.Core.List.{List, [], _++_}
-use lib.ListN.{length, getD, take, drop}
+use lib.ListN.{length}
 use Rattle.writing.specs.Contracts.{Put}
 use Rattle.rule_lines.specs.Rules.{Rule}
 use Rattle.pack_bytes.specs.Bytes.{countBytes}
@@ -13,7 +13,7 @@ use Rattle.rules_parser.specs.declared.lines.Clause.the-variants as told
 use Rattle.rules_parser.specs.declared.files.Item.{Item}
 use Rattle.rules_parser.specs.declared.files.Item.the-variants as item
 use Rattle.rule_lists.specs.Lines.{ruleIn}
-use Rattle.rule_lists.specs.TableContracts.{KeptIs, keysOf}
+use Rattle.rule_lists.specs.TableContracts.{fileAround, spotAt, KeptIs, keysOf}
 use Rattle.pack_bytes.specs.Contracts.{textPut}
 use Rattle.rule_lists.specs.Lists.{typePrefix, rulesPart, approxPart, exactPart}
 use Rattle.rule_lists.specs.declared.lists.ListKind.{ListKind}
@@ -42,12 +42,12 @@ pub record SomeKept (bundle rows : List ℕ) (n : ℕ) : Type 0 where
 -- row j lies within the rows, and its file within the bundle
 pub record RowFits (bundle rows : List ℕ) (j : ℕ) : Type 0 where
   pub size : length rows ≡ 16384
-  pub order : getD rows (4 * j + 1) 0 ≤ getD rows (4 * j + 2) 0
-  pub within : getD rows (4 * j + 2) 0 ≤ length bundle
+  pub order : spotAt rows j .start ≤ spotAt rows j .end
+  pub within : spotAt rows j .end ≤ length bundle
 
 -- the rule of row j
 abbrev pub rowAtPut : List ℕ → List ℕ → ℕ → List ℕ
-rowAtPut bundle rows j = rowPut (take (getD rows (4 * j + 2) 0 - getD rows (4 * j + 1) 0) (drop (getD rows (4 * j + 1) 0) bundle)) (getD rows (4 * j + 3) 0)
+rowAtPut bundle rows j = rowPut (fileAround bundle (spotAt rows j)) (spotAt rows j .place)
 
 -- the rules of n rows in order, behind their count
 pub record RowsPut (bundle rows : List ℕ) (n : ℕ) (out : List ℕ) (at r : ℕ) (out′ : List ℕ) : Type 0 where

@@ -7,6 +7,8 @@ ghost use Rattle.writing.specs.Contracts.{Put, cap};
 ghost use Rattle.rule_lists.specs.Lines.{ruleIn};
 ghost use Rattle.rule_lists.specs.TableContracts.{keysOf};
 ghost use Rattle.rule_lists.specs.WritingContracts.{rulePut, rowPut, SomeKept, RowFits, rowAtPut, RowsPut};
+use crate::tables::PLACES;
+use crate::tables::SPOT;
 use refusals::Refusal;
 use rules_parser::Clause;
 use rules_parser::FileKind;
@@ -74,7 +76,7 @@ fn put_at(bundle: &[u8], rows: &[usize], j: usize, out: &mut [u8], at: usize) ->
     requires { ⌜ (at ≤ cap) × (j < 4096) × RowFits (now bundle) (now rows) j ⌝ }
     ensures { λ r. ⌜ Put (now (out .entry)) (now (out .exit)) at r (rowAtPut (now (bundle .entry)) (now (rows .entry)) j) ⌝ }
 {
-    let row = 4 * j;
+    let row = SPOT * j;
     let start = rows[row + 1];
     let end = rows[row + 2];
     put_row(&bundle[start..end], rows[row + 3], out, at)
@@ -96,7 +98,7 @@ fn put_rows(
     let mut place = pack_bytes::put_count(n as u16, out, at);
     let mut i: usize = 0;
     while i < n {
-        place = put_at(bundle, rows, (keys[i] % 4096) as usize, out, place);
+        place = put_at(bundle, rows, (keys[i] % PLACES) as usize, out, place);
         i += 1;
     }
     place

@@ -4,6 +4,7 @@ ghost use Prim.Native.Nat.{_≤_};
 ghost use Rattle.rule_lists.specs.Contracts.{Room, InBundle, Ready, RuledIs, readFrom, readIncluded, oneMore, Walks, CollectIs};
 ghost use Rattle.rule_lists.specs.Lists.{countedRules};
 use crate::lines::Row;
+use crate::tables::MOST_RULES;
 use crate::tables::Spot;
 use bundles::FileAt;
 use refusals::Refusal;
@@ -12,9 +13,6 @@ use refusals::Refusal;
 pub(crate) const MOST_NESTED: usize = 8;
 
 const MOST_FOLLOWED: usize = 256;
-
-// "list over 4,096 rules"
-const MOST_RULES: usize = 4096;
 
 // What a walk is for.
 pub(crate) enum Task {
@@ -84,7 +82,7 @@ fn on_rule(
                 State {
                     followed,
                     noted,
-                    kept: crate::tables::keep(rows, kept, spot),
+                    kept: crate::tables::add_row(rows, kept, spot),
                 }
             } else {
                 State {

@@ -1,7 +1,6 @@
 use mathlib.Core.Path.{_≡_}
 use Prim.Native.Nat.{_-_}
 use lib.ListN.{length}
-use borrow.Author.Needs.{needs}
 use Rattle.rule_lists.proofs.WritingLaws.{Putting, rows-laws}
 use Rattle.rule_lists.proofs.list_writing.put_rows.Statement.{statement}
 use Rattle.rule_lists.proofs.list_writing.put_rows.Tie as tie
@@ -14,6 +13,6 @@ abbrev μ-loop : tie.MeasureT-loop
 
 pub put-rows-spec : {M : Type 1} → statement M
 put-rows-spec =
-    tie.close (tie.spec Inv-loop μ-loop (λ c. search (rows-laws, needs)) (λ c κs. search (rows-laws, needs)) (λ c. search (rows-laws, needs))
-    (λ c. search (rows-laws, needs)) (λ c. search (rows-laws, needs)) (λ c κs. search (rows-laws, needs)) (λ c. search (rows-laws, needs))
-    (λ c. search (rows-laws, needs)) (λ c. search (rows-laws, needs)) (λ c. search (rows-laws, needs)) (λ c. search (rows-laws, needs)))
+    tie.close (tie.spec Inv-loop μ-loop (λ c. search rows-laws) (λ c κs. search rows-laws) (λ c. search rows-laws)
+    (λ c. search rows-laws) (λ c. search rows-laws) (λ c κs. search rows-laws) (λ c. search rows-laws)
+    (λ c. search rows-laws) (λ c. search rows-laws) (λ c. search rows-laws) (λ c. search rows-laws))

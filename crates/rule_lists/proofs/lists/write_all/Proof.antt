@@ -17,9 +17,9 @@ abbrev μ-loop : tie.MeasureT-loop
 
 pub write-all-spec : {M : Type 1} → statement M
 write-all-spec =
-    tie.close (tie.spec Inv-loop μ-loop (λ c. search (all-laws, needs)) (λ c κs. search (all-laws, needs)) (λ c. search (all-laws, needs))
-    (λ c. search (all-laws, needs)) (λ c. search (all-laws, needs)) (λ c. search (all-laws, needs)) (λ c κs. (search needs, search (all-laws, needs)))
-    (λ c. search (all-laws, needs)) (λ c. search (all-laws, needs)) (λ c. (search needs, search needs, search needs, search (all-laws, needs))) (λ c. search (all-laws, needs))
-    (λ c. search (all-laws, needs)) (λ c. search (all-laws, needs)) (λ c. search (all-laws, needs)) (λ c. search (all-laws, needs))
-    (λ c. search (all-laws, needs)) (λ c κs. search (all-laws, needs)) (λ c. search (all-laws, needs)) (λ c. search (all-laws, needs))
-    (λ c. search (all-laws, needs)) (λ c. search (all-laws, needs)))
+    tie.close (tie.spec Inv-loop μ-loop (λ c. search all-laws) (λ c κs. search all-laws) (λ c. search all-laws)
+    (λ c. search all-laws) (λ c. search all-laws) (λ c. search all-laws) (λ c κs. (search needs, search all-laws))
+    (λ c. search all-laws) (λ c. search all-laws) (λ c. (search needs, search needs, search needs, search all-laws)) (λ c. search all-laws)
+    (λ c. search all-laws) (λ c. search all-laws) (λ c. search all-laws) (λ c. search all-laws)
+    (λ c. search all-laws) (λ c κs. search all-laws) (λ c. search all-laws) (λ c. search all-laws)
+    (λ c. search all-laws) (λ c. search all-laws))

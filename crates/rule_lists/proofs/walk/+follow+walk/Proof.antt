@@ -37,9 +37,9 @@ pub +follow+walk-spec : {M : Type 1} → statement M
 +follow+walk-spec = close μ-follow μ-walk
     (λ t. follow-lts.spec (find-file-reads.Asked, find-file-reads.Learnt, and 4 walk-kinds.ps (falls 4 walk-kinds.ps _<_ μ-walk t) walk.Pre, walk.Post)
     (and 5 follow-kinds.ps (is 5 follow-kinds.ps μ-follow t) follow.Pre) follow.Post
-    (λ c. search (follow-laws, needs)) (λ c. search (follow-laws, needs)) (λ c κs. search needs) (λ c. search needs) (λ c. search needs)
-    (λ c. search needs) (λ c κs. (search (follow-laws, needs), (search (follow-laws, needs), search (follow-laws, needs)))) (λ c. search needs)
-    (λ c. search needs) (λ c. search needs) (λ c. search (follow-laws, needs)) (λ c. search (follow-laws, needs)))
+    (λ c. search follow-laws) (λ c. search follow-laws) (λ c κs. search needs) (λ c. search needs) (λ c. search needs)
+    (λ c. search needs) (λ c κs. (search follow-laws, (search follow-laws, search follow-laws))) (λ c. search needs)
+    (λ c. search needs) (λ c. search needs) (λ c. search follow-laws) (λ c. search follow-laws))
     λ t. walk-lts.spec (
       row-at-reads.Asked,
       row-at-reads.Learnt,
@@ -50,10 +50,10 @@ pub +follow+walk-spec : {M : Type 1} → statement M
       and 5 follow-kinds.ps (falls 5 follow-kinds.ps _<_ μ-follow t) follow.Pre,
       follow.Post,
     ) (and 4 walk-kinds.ps (is 4 walk-kinds.ps μ-walk t) walk.Pre) walk.Post walk-Inv-loop walk-μ-loop
-    (λ c. search needs) (λ c. search needs) (λ c. search needs) (λ c. search (going-laws, needs)) (λ c κs. search needs) (λ c. search needs)
-    (λ c. search (going-laws, needs)) (λ c. search (going-laws, needs)) (λ c. search (going-laws, needs)) (λ c. search needs) (λ c κs. search needs)
-    (λ c. search (going-laws, needs)) (λ c. search (going-laws, needs)) (λ c. search (going-laws, needs)) (λ c. search needs) (λ c κs. search needs)
-    (λ c κs. (omega arith, search needs)) (λ c. search needs) (λ c. search (going-laws, needs)) (λ c. search (going-laws, needs))
-    (λ c. search (going-laws, needs)) (λ c. search needs) (λ c. search needs) (λ c. search needs) (λ c. search (going-laws, needs))
-    (λ c. search needs) (λ c. search needs) (λ c. search needs) (λ c. search (going-laws, needs)) (λ c. search needs) (λ c. search needs)
-    (λ c. search (going-laws, needs))
+    (λ c. search needs) (λ c. search needs) (λ c. search needs) (λ c. search going-laws) (λ c κs. search needs) (λ c. search needs)
+    (λ c. search going-laws) (λ c. search going-laws) (λ c. search going-laws) (λ c. search needs) (λ c κs. search needs)
+    (λ c. search going-laws) (λ c. search going-laws) (λ c. search going-laws) (λ c. search needs) (λ c κs. search needs)
+    (λ c κs. (omega arith, search needs)) (λ c. search needs) (λ c. search going-laws) (λ c. search going-laws)
+    (λ c. search going-laws) (λ c. search needs) (λ c. search needs) (λ c. search needs) (λ c. search going-laws)
+    (λ c. search needs) (λ c. search needs) (λ c. search needs) (λ c. search going-laws) (λ c. search needs) (λ c. search needs)
+    (λ c. search going-laws)
