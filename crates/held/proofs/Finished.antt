@@ -9,10 +9,10 @@ use native.Mathlib.Omega.{arith}
 use lib.ListN.{length, length-append}
 use borrow.Author.Tests.{eqb-true, ne-eqb, eq-eqb}
 use Rattle.held.specs.Met.{Met, end, rule, file, Map, noRules, bringsNone, add, extend, heldAfter, spread, codes, finished, entries}
-use Rattle.held.specs.Contracts.{noted, kept, keptRules, staysIn, All, KeysApart, Each, Within, brings}
+use Rattle.held.specs.Contracts.{noted, kept, metOn, keptRules, staysIn, All, KeysApart, Each, Within, brings}
 use Rattle.held.proofs.Laws.{or-left, or-right, pick-by, held-brings}
 use Rattle.held.proofs.Places.{noted-apart, noted-all}
-use Rattle.held.proofs.Kept.{under, under-append, kept-held}
+use Rattle.held.proofs.Kept.{under, under-append, kept-held, stays-all}
 use Rattle.base.proofs.PickLaws.{pick-true, pick-false, pick-all}
 
 nil-some : {R : Type 0} (l : List R) → bringsNone l ≡ false → 0 < length l
@@ -213,6 +213,16 @@ module _ {R : Type 0} (first : R → ℕ) where
         let w = apart-spread m k (suc a) b (v ∷ vs) (omega arith) (omega (arith, p .0), p .1) q in
         omega (arith, length-append (m a) (spread m k (suc a)))
   ]
+
+  -- where no include is followed every rule stays
+  kept-on : (vs : List ℕ) (t : Met R) (rs : List R) → entries t ≡ 0 → Each (λ r. staysIn (first r) 0 vs ≡ true) t → kept first vs 0 rs t ≡ metOn rs t
+  unfolding kept metOn entries Each
+  kept-on vs end rs z e = refl
+  kept-on vs (rule r t) rs z e = rw (pick-true _ (rs ++ (r ∷ [])) rs (e .0)) (kept-on vs t _ z (e .1))
+  kept-on vs (file i t) rs z e = absurd (omega arith)
+
+  pub kept-plain : (t : Met R) → entries t ≡ 0 → keptRules first t ≡ metOn [] t
+  kept-plain t z = kept-on _ t [] z (each-brings (λ c. staysIn c 0 (noted first 0 0 [] t) ≡ true) t (λ c p. stays-all first c t z p))
 
   module _ (t : Met R) (short : entries t ≤ 256) where
     -- the finished list, by the rules that stay

@@ -13,7 +13,7 @@ use Rattle.base.specs.Pick.{pick}
 use Rattle.held.specs.Met.{Met, end, rule, file, noRules, heldAfter, entries}
 use Rattle.held.specs.Contracts.{noteIn, staysIn, noted, kept, keptRules, brings, lastEntry, from}
 use Rattle.held.proofs.Laws.{or-true, or-left, or-right}
-use Rattle.held.proofs.Entry.{held-from}
+use Rattle.held.proofs.Entry.{held-from, last-high}
 use Rattle.base.proofs.PickLaws.{pick-true, pick-false, pick-map}
 
 -- ---- what the first table tells of c: the entry and one, or 0
@@ -196,3 +196,9 @@ module _ {R : Type 0} (first : R → ℕ) (c : ℕ) where
       stays-told c m _ (told-brings t 0 0 [] (omega arith) (omega arith) p)
       ∙ ap (λ (k : ℕ). leb k m) (sym (last-told t 0 0 [] (omega arith) (omega arith))))
       ∙ sym (held-from first c t)
+
+  -- where no include is followed every rule stays
+  pub stays-all : (t : Met R) → entries t ≡ 0 → brings first c t ≡ true → staysIn c 0 (noted first 0 0 [] t) ≡ true
+  unfolding told
+  stays-all t z p = stays-told c 0 _ (told-brings t 0 0 [] (omega arith) (omega arith) p)
+      ∙ le-leb (told c (noted first 0 0 [] t) - 1) 0 (omega (arith, last-told t 0 0 [] (omega arith) (omega arith), last-high first c t 0 0 0 (omega arith) (omega arith)))

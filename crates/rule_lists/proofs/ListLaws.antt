@@ -22,7 +22,7 @@ use Rattle.pack_bytes.specs.Bytes.{listBytes}
 use Rattle.pack_bytes.proofs.Laws.{bytes-append}
 use Rattle.bundles.specs.Bundles.{File}
 use Rattle.rule_lists.specs.Outcomes.{Loading, fine, notLoaded, andLoad}
-use Rattle.rule_lists.specs.Lists.{listNamed, listsOf, typePrefix, rulesPart, approxPart, exactPart, commonPart, twoOf, threeOf, listFiles}
+use Rattle.rule_lists.specs.Lists.{listNamed, listsOf, typePrefix, commonPart, twoOf, threeOf, listFiles}
 use Rattle.rule_lists.specs.WritingContracts.{listPart, listName}
 use Rattle.rule_lists.specs.declared.lists.ListKind.{ListKind}
 use Rattle.rule_lists.specs.declared.lists.ListKind.the-variants as list

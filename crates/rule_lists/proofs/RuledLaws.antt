@@ -3,7 +3,6 @@ use mathlib.Core.Path.{_≡_, refl, sym, _∙_}
 use mathlib.Core.Bool.{Bool, true, false}
 use mathlib.Core.List.{List}
 use Prim.Native.Nat.{ℕ, _≤_}
-use native.Mathlib.Omega.{arith}
 use borrow.Author.Needs.{needs}
 use Rattle.rule_lines.specs.Rules.{Rule}
 use Rattle.held.specs.Contracts.{staysIn}
@@ -22,13 +21,13 @@ pub ready-whole : {bundle : List ℕ} {task : Task} {st : State} {lasts rows : L
 ready-whole y e = y .whole e
 
 module _ (bundle : List ℕ) (task : Task) (own : ℕ) (st : State) (spot : Spot) (lasts rows : List ℕ) where
-  pub ruled-survey : task ≡ Survey → (m : ℕ) (lasts′ : List ℕ) → Notes lasts (st .noted) (spot .code) own m lasts′
-      → RuledIs bundle task own st spot lasts rows (stateOf (st .followed) m (st .kept)) lasts′ rows
+  pub ruled-survey : task ≡ Survey → (m k : ℕ) (lasts′ rows′ : List ℕ) → Notes lasts (st .noted) (spot .code) own m lasts′ → AddsRow rows (st .kept) spot k rows′
+      → RuledIs bundle task own st spot lasts rows (stateOf (st .followed) m k) lasts′ rows′
   unfolding ruled firstCodeOf
-  ruled-survey e m lasts′ o = record {
+  ruled-survey e m k lasts′ rows′ o p = record {
     followed = refl;
     noted = λ q. clash (cc);
-    holds = λ a r h s. rw e (record { noted = rw (s .first) at (o .is (a .lasts) (h .noted)); kept = h .kept });
+    holds = λ a r h s. rw e (record { noted = rw (s .first) at (o .is (a .lasts) (h .noted)); kept = add-is bundle rows rows′ (st .kept) k spot (a .rules) r p (h .kept) s });
   }
 
   module _ (e : task ≡ Collect) (x : Bool) (y : StaysIs lasts (st .noted) (spot .code) (st .followed) x) where

@@ -19,15 +19,15 @@ use Rattle.rules_parser.specs.declared.lines.FileKind.the-variants.{Rules}
 use Rattle.rules_parser.proofs.Laws.{items-start, items-end, rule-pattern, rule-left, rule-right, rule-expression}
 use Rattle.held.specs.Met.{Met, end, rule, file, entries, codes, finished}
 use Rattle.held.specs.Files.{Line, passed, is-rule, include, badLine, FileRead, wasRead, notRead, before, onRead, onContent, readLines, follow, readListed}
-use Rattle.held.specs.Contracts.{noted, kept, Each, Within}
-use Rattle.held.proofs.Finished.{length-kept, length-noted, each-of}
+use Rattle.held.specs.Contracts.{noted, kept, metOn, Each, Within}
+use Rattle.held.proofs.Finished.{length-kept, length-noted, kept-plain, each-of}
 use Rattle.rule_lines.specs.declared.Fault.the-variants.{Without}
 use Rattle.rule_lists.specs.Lines.{linesOf}
 use Rattle.rule_lists.specs.TableContracts.{RowReads, KeptIs}
-use Rattle.rule_lists.specs.Contracts.{Known, known, ruled, tally, stateOf, Room, StateHolds, Ready, ComesTo, Walks, keptAs, CollectIs, all, refused, rowAt}
+use Rattle.rule_lists.specs.Contracts.{Known, known, ruled, tally, stateOf, Room, StateHolds, Ready, Walks, keptAs, Surveyed, SurveyIs, CountedAs, few, many, CollectIs, all, refused, rowAt}
 use Rattle.rule_lists.proofs.CodeLaws.{first-under}
 use Rattle.rule_lists.proofs.TableLaws.{noted-none, kept-none}
-use Rattle.rule_lists.proofs.GoingLaws.{linesAt, Here, here, WasRead, told-done, told-refused}
+use Rattle.rule_lists.proofs.GoingLaws.{linesAt, Here, here, told-done, told-refused}
 use Rattle.base.proofs.Arms.{clash}
 use Rattle.rule_lists.specs.declared.lines.Row.{Row}
 use Rattle.rule_lists.specs.declared.lines.Row.the-variants as row
@@ -35,6 +35,7 @@ use Rattle.rule_lists.specs.declared.walk.Task.the-variants.{Survey, Col
 use Rattle.rule_lists.specs.declared.walk.State.{State}
 use Rattle.rule_lists.specs.declared.walk.Walked.{Walked}
 use Rattle.rule_lists.specs.declared.walk.Walked.the-variants.{Done, Refused}
+use Rattle.rule_lists.specs.declared.walk.Collected.{Collected}
 use Rattle.rule_lists.specs.declared.walk.Collected.the-variants as collected
 use Rattle.rule_lists.specs.Lists.{firstCodeOf, contentIn, filesFor, countedRules}
 
@@ -119,11 +120,11 @@ module _ (names : List ℕ) where
 
 -- ---- what two walks leave
 
-tally-survey : (t : Met Rule) (own n : ℕ) (vs : List ℕ) (rs : List Rule) → tally Survey own n (known vs rs) t ≡ known (noted firstCodeOf own n vs t) rs
-unfolding tally ruled noted
+tally-survey : (t : Met Rule) (own n : ℕ) (vs : List ℕ) (rs : List Rule) → tally Survey own n (known vs rs) t ≡ known (noted firstCodeOf own n vs t) (metOn rs t)
+unfolding tally ruled noted metOn
 tally-survey end own n vs rs = refl
-tally-survey (rule r t) own n vs rs = tally-survey t own n _ rs
-tally-survey (file i t) own n vs rs = ap (λ (a : Known). tally Survey own (n + 1 + entries i) a t) (tally-survey i (n + 1) (n + 1) vs rs) ∙ tally-survey t own (n + 1 + entries i) _ rs
+tally-survey (rule r t) own n vs rs = tally-survey t own n _ _
+tally-survey (file i t) own n vs rs = ap (λ (a : Known). tally Survey own (n + 1 + entries i) a t) (tally-survey i (n + 1) (n + 1) vs rs) ∙ tally-survey t own (n + 1 + entries i) _ _
 
 tally-collect : (t : Met Rule) (own n : ℕ) (vs : List ℕ) (rs : List Rule) → tally Collect own n (known vs rs) t ≡ known vs (kept firstCodeOf vs n rs t)
 unfolding tally ruled kept
@@ -137,7 +138,11 @@ within-all t = each-of firstCodeOf (λ r. firstCodeOf r < codes) first-under t
 abbrev lastsOf : Met Rule → List ℕ
 lastsOf t = noted firstCodeOf 0 0 [] t
 
--- where more than 4,096 are kept or noted, the list is refused
+-- how many are noted and kept
+sizes : (t : Met Rule) → entries t ≤ 256 → (length (lastsOf t) ≤ length (finished firstCodeOf t)) × (length (keptAs t) ≡ length (finished firstCodeOf t))
+unfolding keptAs
+sizes t short = (length-noted firstCodeOf t short (within-all t), length-kept firstCodeOf t short (within-all t))
+
 module _ {bundle : List ℕ} where
   pub ready-survey : {lasts rows : List ℕ} → Room lasts rows → Ready bundle Survey (stateOf 0 0 0) lasts rows
   ready-survey {lasts} {rows} r = record {
@@ -155,58 +160,64 @@ module _ {bundle : List ℕ} where
   unfolding countedRules pick
   too-many t rows′ e h = rw (e, lt-leb _ 4096 h) refused
 
-  all-kept : {x : FileRead Rule} (t : Met Rule) (n : ℕ) (rows′ : List ℕ) → x ≡ wasRead t → length (finished firstCodeOf t) ≤ 4096 → entries t ≤ 256 → n ≤ 4096 → KeptIs bundle rows′ n (keptAs t) → CollectIs bundle (countedRules x) (collected.Rules n) rows′
+  -- the rules that stay are counted
+  counts : {x : FileRead Rule} {n : ℕ} {rows : List ℕ} {r : Collected} (t : Met Rule) → x ≡ wasRead t → entries t ≤ 256 → KeptIs bundle rows n (keptAs t) → CountedAs n r → CollectIs bundle (countedRules x) r rows
   unfolding countedRules pick
-  all-kept t n rows′ e h short few k = rw (e, le-leb _ 4096 h) (all short few k)
+  counts t e short k (few h) = let l : length (finished firstCodeOf t) ≤ 4096 = omega (arith, k .count, sizes t short) in rw (e, le-leb _ 4096 l) (all short h k)
+  counts t e short k (many h) = too-many t _ e (omega (arith, k .count, sizes t short))
 
-  module _ {x : FileRead Rule} {lasts rows lasts₁ rows₁ : List ℕ} {w : Walked} (room : Room lasts rows) (one : Walks bundle Survey (stateOf 0 0 0) x lasts rows w lasts₁ rows₁) where
-    told-one : ComesTo bundle Survey 0 (stateOf 0 0 0) (known [] []) x w lasts₁ rows₁
-    unfolding ready-survey
-    told-one = one .told (known [] []) (ready-survey room .some .1)
+  -- the first walk
+  pub survey-is : {x : FileRead Rule} {lasts rows lasts₁ rows₁ : List ℕ} {w : Walked} → Room lasts rows → Walks bundle Survey (stateOf 0 0 0) x lasts rows w lasts₁ rows₁ → SurveyIs bundle x w lasts₁ rows₁
+  unfolding ready-survey
+  survey-is {w = w} room one =
+      let told = one .told (known [] []) (ready-survey room .some .1) in
+      record {
+        done = λ st e.
+            let t = told-done told e in
+            let h = rw (tally-survey (t .all) 0 0 [] []) at (t .holds) in
+            record { all = t .all; is = t .is; followed = omega (arith, t .followed); short = omega (arith, t .followed, one .followed st e); noted = h .noted; kept = h .kept };
+        stop = λ c l f e. told-refused told e;
+      }
 
+  module _ {x : FileRead Rule} {lasts rows : List ℕ} {w : Walked} (v : SurveyIs bundle x w lasts rows) where
     pub stop-first : {c : Refusal} {l g : ℕ} {rows′ : List ℕ} → w ≡ Refused c l g → CollectIs bundle (countedRules x) (collected.Refused c l g) rows′
-    stop-first {c} {l} {g} {rows′} e = refuses c l g rows′ (told-refused told-one e)
+    stop-first {c} {l} {g} {rows′} e = refuses c l g rows′ (v .stop c l g e)
 
-    module _ {st : State} (e : w ≡ Done st) where
-      met : WasRead bundle Survey 0 (stateOf 0 0 0) (known [] []) lasts₁ rows₁ x st
-      met = told-done told-one e
+    pub surveyed : {st : State} → w ≡ Done st → Surveyed bundle x st lasts rows
+    surveyed {st} e = v .done st e
 
-      holds : StateHolds bundle lasts₁ rows₁ st (known (lastsOf (met .all)) [])
-      holds = rw (tally-survey (met .all) 0 0 [] []) at (met .holds)
+  -- the second
+  module _ {x : FileRead Rule} {st : State} {lasts rows : List ℕ} (s : Surveyed bundle x st lasts rows) where
+    pub stop-noted : {rows′ : List ℕ} → 4096 < st .noted → CollectIs bundle (countedRules x) (collected.Refused TooMuch 0 0) rows′
+    stop-noted {rows′} h = too-many (s .all) rows′ (s .is) (omega (arith, s .noted .count, sizes (s .all) (s .short)))
 
-      short : entries (met .all) ≤ 256
-      short = omega (arith, met .followed, one .followed st e)
+    -- no include was followed
+    pub collects-plain : {r : Collected} → st .followed ≡ 0 → CountedAs (st .kept) r → CollectIs bundle (countedRules x) r rows
+    unfolding keptAs
+    collects-plain z = counts (s .all) (s .is) (s .short) (rw (kept-plain firstCodeOf (s .all) (omega (arith, s .followed))) (s .kept))
 
-      sizes : (length (lastsOf (met .all)) ≤ length (finished firstCodeOf (met .all))) × (length (keptAs (met .all)) ≡ length (finished firstCodeOf (met .all)))
-      unfolding keptAs
-      sizes = (length-noted firstCodeOf (met .all) short (within-all (met .all)), length-kept firstCodeOf (met .all) short (within-all (met .all)))
+    module _ (l : st .noted ≤ 4096) where
+      start-two : StateHolds bundle lasts rows (stateOf 0 (st .noted) 0) (known (lastsOf (s .all)) [])
+      start-two = record { noted = s .noted; kept = kept-none bundle rows (s .kept .size) }
 
-      pub stop-noted : {rows′ : List ℕ} → 4096 < st .noted → CollectIs bundle (countedRules x) (collected.Refused TooMuch 0 0) rows′
-      stop-noted {rows′} h = too-many (met .all) rows′ (met .is) (omega (arith, holds .noted .count, sizes .0))
+      pub ready-collect : Ready bundle Collect (stateOf 0 (st .noted) 0) lasts rows
+      ready-collect = record { some = (_, start-two); followed = omega arith; whole = λ c. l }
 
-      module _ (few : st .noted ≤ 4096) where
-        start-two : StateHolds bundle lasts₁ rows₁ (stateOf 0 (st .noted) 0) (known (lastsOf (met .all)) [])
-        start-two = record { noted = holds .noted; kept = kept-none bundle rows₁ (holds .kept .size) }
+      module _ {lasts′ rows′ : List ℕ} {w : Walked} (two : Walks bundle Collect (stateOf 0 (st .noted) 0) x lasts rows w lasts′ rows′) where
+        pub stop-second : {c : Refusal} {l g : ℕ} {rows₂ : List ℕ} → w ≡ Refused c l g → CollectIs bundle (countedRules x) (collected.Refused c l g) rows₂
+        stop-second {c} {l} {g} {rows₂} i = refuses c l g rows₂ (told-refused (two .told _ start-two) i)
 
-        pub ready-collect : Ready bundle Collect (stateOf 0 (st .noted) 0) lasts₁ rows₁
-        ready-collect = record { some = (_, start-two); followed = omega arith; whole = λ c. few }
+        module _ {st₂ : State} (i : w ≡ Done st₂) where
+          kept-is : KeptIs bundle rows′ (st₂ .kept) (keptAs (s .all))
+          unfolding keptAs
+          kept-is =
+              let u = told-done (two .told _ start-two) i in
+              let q : u .all ≡ s .all = cc (u .is, s .is) in
+              rw q at (rw (tally-collect (u .all) 0 0 (lastsOf (s .all)) []) at (u .holds)) .kept
 
-        module _ {lasts₂ rows₂ : List ℕ} {w₂ : Walked} (two : Walks bundle Collect (stateOf 0 (st .noted) 0) x lasts₁ rows₁ w₂ lasts₂ rows₂) where
-          pub stop-second : {c : Refusal} {l g : ℕ} {rows′ : List ℕ} → w₂ ≡ Refused c l g → CollectIs bundle (countedRules x) (collected.Refused c l g) rows′
-          stop-second {c} {l} {g} {rows′} i = refuses c l g rows′ (told-refused (two .told _ start-two) i)
+          pub collects : {r : Collected} → CountedAs (st₂ .kept) r → CollectIs bundle (countedRules x) r rows′
+          collects c = counts (s .all) (s .is) (s .short) kept-is c
 
-          module _ {st₂ : State} (i : w₂ ≡ Done st₂) where
-            kept-is : KeptIs bundle rows₂ (st₂ .kept) (keptAs (met .all))
-            unfolding keptAs
-            kept-is =
-                let u = told-done (two .told _ start-two) i in
-                let q : u .all ≡ met .all = cc (u .is, met .is) in
-                rw q at (rw (tally-collect (u .all) 0 0 (lastsOf (met .all)) []) at (u .holds)) .kept
+pub ruleset collect-laws = (ready-survey, survey-is, stop-first, surveyed, needs)
 
-            pub stop-kept : {rows′ : List ℕ} → 4096 < st₂ .kept → CollectIs bundle (countedRules x) (collected.Refused TooMuch 0 0) rows′
-            stop-kept {rows′} h = too-many (met .all) rows′ (met .is) (omega (arith, kept-is .count, sizes .1))
-
-            pub collects : st₂ .kept ≤ 4096 → CollectIs bundle (countedRules x) (collected.Rules (st₂ .kept)) rows₂
-            collects h = all-kept (met .all) _ rows₂ (met .is) (omega (arith, kept-is .count, sizes .1)) short h kept-is
-
-pub ruleset collect-laws = (ready-survey, stop-first, stop-noted, ready-collect, stop-second, stop-kept, collects, needs)
+pub ruleset staying-laws = (collects-plain, stop-noted, ready-collect, stop-second, collects, needs)

@@ -1,16 +1,16 @@
 -- What a walk over a rule file and its includes answers.
 use mathlib.Core.Path.{_≡_}
-use Prim.Native.Nat.{ℕ, _+_, _-_, _≤_}
+use Prim.Native.Nat.{ℕ, _+_, _-_, _≤_, _<_}
 use mathlib.Core.List.{List, [], _∷_, _++_}
 use lib.ListN.{length, take, drop}
 use Rattle.base.specs.Pick.{pick}
 use Rattle.refusals.specs.declared.Refusal.{Refusal}
-use Rattle.refusals.specs.declared.Refusal.the-variants.{LineUnreadable}
+use Rattle.refusals.specs.declared.Refusal.the-variants.{LineUnreadable, TooMuch}
 use Rattle.rule_lines.specs.Rules.{Rule, ruleFault}
 use Rattle.bundles.specs.Contracts.{filesOf}
 use Rattle.held.specs.Met as met
 use Rattle.held.specs.Files as files
-use Rattle.held.specs.Contracts.{noteIn, staysIn, keptRules}
+use Rattle.held.specs.Contracts.{noteIn, staysIn, noted, metOn, keptRules}
 use Rattle.rule_lists.specs.Outcomes.{Loading, fine, notLoaded}
 use Rattle.rule_lists.specs.Lines.{linesOf, ruleIn}
 use Rattle.rule_lists.specs.TableContracts.{NotedIs, KeptIs, SpotIs}
@@ -65,7 +65,7 @@ rowIn names s item.Wrong = row.Bad LineUnreadable
 unfoldable pub rowAt : List ℕ → List ℕ → ℕ → Row
 rowAt names s p = rowIn names s (itemAt Rules s p)
 
--- ---- what is known after a part of a walk: the last entries, and the rules that stay
+-- ---- what is known after a part of a walk: the last entries, and the rules that stay, all of them as far as is known
 
 pub record Known : Type 0 where
   pub lasts : List ℕ
@@ -76,7 +76,7 @@ known vs rs = record { lasts = vs; rules = rs }
 
 -- a rule is met in a file whose entry is `own`, n includes having been followed
 unfoldable pub ruled : Task → ℕ → ℕ → Known → Rule → Known
-ruled Survey own n a r = known (noteIn (firstCodeOf r) own (a .lasts)) (a .rules)
+ruled Survey own n a r = known (noteIn (firstCodeOf r) own (a .lasts)) (a .rules ++ (r ∷ []))
 ruled Collect own n a r = known (a .lasts) (pick (staysIn (firstCodeOf r) n (a .lasts)) (a .rules ++ (r ∷ [])) (a .rules))
 
 -- all of t is met
@@ -152,6 +152,24 @@ pub record Walks (bundle : List ℕ) (task : Task) (st : State) (x : files.FileR
 -- the rules that stay, in the order in which they are met
 unfoldable pub keptAs : met.Met Rule → List Rule
 keptAs t = keptRules firstCodeOf t
+
+-- a listed file was read: its last entries are noted, and all its rules kept
+pub record Surveyed (bundle : List ℕ) (x : files.FileRead Rule) (st : State) (lasts rows : List ℕ) : Type 0 where
+  pub all : met.Met Rule
+  pub is : x ≡ files.wasRead all
+  pub followed : st .followed ≡ met.entries all
+  pub short : met.entries all ≤ 256
+  pub noted : NotedIs lasts (st .noted) (noted firstCodeOf 0 0 [] all)
+  pub kept : KeptIs bundle rows (st .kept) (metOn [] all)
+
+pub record SurveyIs (bundle : List ℕ) (x : files.FileRead Rule) (r : Walked) (lasts rows : List ℕ) : Type 0 where
+  pub done : (st : State) → r ≡ walked.Done st → Surveyed bundle x st lasts rows
+  pub stop : (c : Refusal) (l f : ℕ) → r ≡ walked.Refused c l f → x ≡ files.notRead c l f
+
+-- a list of n rules, or the refusal
+pub data CountedAs (n : ℕ) : Collected → Type 0 where
+  few : n ≤ 4096 → CountedAs n (collected.Rules n)
+  many : 4096 < n → CountedAs n (collected.Refused TooMuch 0 0)
 
 pub data CollectIs (bundle : List ℕ) : Loading (met.Met Rule) → Collected → List ℕ → Type 0 where
   all : {t : met.Met Rule} {n : ℕ} {rows : List ℕ} → met.entries t ≤ 256 → n ≤ 4096 → KeptIs bundle rows n (keptAs t) → CollectIs bundle (fine t) (collected.Rules n) rows

@@ -1,7 +1,7 @@
-// The walk over a rule file and its includes. It keeps no rules: one walk notes the last entry for each first character, and a second
-// keeps where the rules stand that stay.
+// The walk over a rule file and its includes. It keeps no rules, but where they stand: one walk notes the last entry for each first
+// character and keeps every rule, and a second keeps those that stay.
 ghost use Prim.Native.Nat.{_≤_};
-ghost use Rattle.rule_lists.specs.Contracts.{Room, InBundle, Ready, RuledIs, readFrom, readIncluded, oneMore, Walks, CollectIs};
+ghost use Rattle.rule_lists.specs.Contracts.{Room, InBundle, Ready, RuledIs, readFrom, readIncluded, oneMore, Walks, SurveyIs, Surveyed, CountedAs, CollectIs};
 ghost use Rattle.rule_lists.specs.Lists.{countedRules};
 use crate::lines::Row;
 use crate::tables::MOST_RULES;
@@ -75,7 +75,7 @@ fn on_rule(
         Task::Survey => State {
             followed,
             noted: crate::tables::note(lasts, noted, code, own),
-            kept,
+            kept: crate::tables::add_row(rows, kept, spot),
         },
         Task::Collect => {
             if crate::tables::stays(lasts, noted, code, followed) {
@@ -227,7 +227,80 @@ pub(crate) enum Collected {
     },
 }
 
-// Keeps where the rules of a listed file stand, in the order in which they are met: one walk to note, and one to keep.
+// A list of so many rules, or the refusal.
+fn counted(n: usize) -> Collected
+    ensures { λ r. ⌜ CountedAs n r ⌝ }
+{
+    if MOST_RULES < n {
+        Collected::Refused {
+            why: Refusal::TooMuch,
+            line: 0,
+            file: 0,
+        }
+    } else {
+        Collected::Rules { n }
+    }
+}
+
+// Notes the last entries of a listed file, and keeps where all its rules stand.
+fn survey(
+    source: Source,
+    bundle: &[u8],
+    names: &[u8],
+    lasts: &mut [u64],
+    rows: &mut [usize],
+) -> Walked
+    requires { ⌜ InBundle (now bundle) source ⌝ }
+    requires { ⌜ Room (now lasts) (now rows) ⌝ }
+    ensures { λ r. ⌜ SurveyIs (now (bundle .entry)) (readFrom (now (bundle .entry)) (now (names .entry)) source 0) r (now (lasts .exit)) (now (rows .exit)) ⌝ }
+{
+    let fresh = State {
+        followed: 0,
+        noted: 0,
+        kept: 0,
+    };
+    walk(source, Task::Survey, bundle, names, fresh, lasts, rows)
+}
+
+// Keeps where those rules stand that stay, of a listed file that was surveyed: all, where no include was followed.
+fn collect_surveyed(
+    source: Source,
+    surveyed: State,
+    bundle: &[u8],
+    names: &[u8],
+    lasts: &mut [u64],
+    rows: &mut [usize],
+) -> Collected
+    requires { ⌜ InBundle (now bundle) source ⌝ }
+    requires { ⌜ Surveyed (now bundle) (readFrom (now bundle) (now names) source 0) surveyed (now lasts) (now rows) ⌝ }
+    ensures { λ r. ⌜ CollectIs (now (bundle .entry)) (countedRules (readFrom (now (bundle .entry)) (now (names .entry)) source 0)) r (now (rows .exit)) ⌝ }
+{
+    let followed = surveyed.followed;
+    let noted = surveyed.noted;
+    let met = surveyed.kept;
+    if followed == 0 {
+        return counted(met);
+    }
+    if MOST_RULES < noted {
+        return Collected::Refused {
+            why: Refusal::TooMuch,
+            line: 0,
+            file: 0,
+        };
+    }
+    let again = State {
+        followed: 0,
+        noted,
+        kept: 0,
+    };
+    match walk(source, Task::Collect, bundle, names, again, lasts, rows) {
+        Walked::Done { state } => counted(state.kept),
+        Walked::Refused { why, line, file } => Collected::Refused { why, line, file },
+    }
+}
+
+// Keeps where the rules of a listed file stand, in the order in which they are met. Where no include is followed every rule stays, and
+// one walk is enough.
 pub(crate) fn collect(
     source: Source,
     bundle: &[u8],
@@ -239,42 +312,8 @@ pub(crate) fn collect(
     requires { ⌜ Room (now lasts) (now rows) ⌝ }
     ensures { λ r. ⌜ CollectIs (now (bundle .entry)) (countedRules (readFrom (now (bundle .entry)) (now (names .entry)) source 0)) r (now (rows .exit)) ⌝ }
 {
-    let fresh = State {
-        followed: 0,
-        noted: 0,
-        kept: 0,
-    };
-    match walk(source, Task::Survey, bundle, names, fresh, lasts, rows) {
-        Walked::Done { state } => {
-            let noted = state.noted;
-            if MOST_RULES < noted {
-                return Collected::Refused {
-                    why: Refusal::TooMuch,
-                    line: 0,
-                    file: 0,
-                };
-            }
-            let again = State {
-                followed: 0,
-                noted,
-                kept: 0,
-            };
-            match walk(source, Task::Collect, bundle, names, again, lasts, rows) {
-                Walked::Done { state: last } => {
-                    let n = last.kept;
-                    if MOST_RULES < n {
-                        Collected::Refused {
-                            why: Refusal::TooMuch,
-                            line: 0,
-                            file: 0,
-                        }
-                    } else {
-                        Collected::Rules { n }
-                    }
-                }
-                Walked::Refused { why, line, file } => Collected::Refused { why, line, file },
-            }
-        }
+    match survey(source, bundle, names, lasts, rows) {
+        Walked::Done { state } => { collect_surveyed(source, state, bundle, names, lasts, rows) }
         Walked::Refused { why, line, file } => Collected::Refused { why, line, file },
     }
 }
