@@ -35,14 +35,14 @@ use Rattle.rule_index.specs.Contracts.{packIn}
 use Rattle.engine.specs.Contracts.{UsablePack, OpenedIs, CallReady, FineFor, outcomeFor, outcomeOn, isGuessed, callFor, startedBy, foundBy, FoundIs, stepsAt, startAt, speltPart, speltName, speltFine, LoweredIs, isSpelt, IntoBy, SpeltInto, wholeBy, SpeltWhole, answeredBy, wholeAnd, CopiedOut, none, over, copied, CopyOutIs, spelledIn}
 use Rattle.engine.specs.declared.call.Call.{Call}
 use Rattle.engine.specs.declared.call.Request.{Request}
-use Rattle.engine.specs.declared.encode.Ends.{Ends}
+use Rattle.engine.specs.declared.encode.AnswerEnd.{AnswerEnd}
 use Rattle.engine.specs.declared.spelling.Spelled.{Spelled}
 use Rattle.engine.specs.declared.spelling.Spelled.the-variants.{Done, Refused}
 use Rattle.engine.specs.declared.call.Start.{Start}
 use Rattle.engine.specs.declared.call.Start.the-variants.{Guessed, Given}
 use Rattle.engine.specs.declared.call.Opened.the-variants.{Usable, Broken}
-use Rattle.engine.specs.declared.spelling.Named.{Named}
-use Rattle.engine.specs.declared.spelling.Named.the-variants.{Fine, Wrong}
+use Rattle.engine.specs.declared.spelling.NameCheck.{NameCheck}
+use Rattle.engine.specs.declared.spelling.NameCheck.the-variants.{Fine, Wrong}
 use Rattle.engine.proofs.NumberLaws.{numbers-one, spell-is}
 use Rattle.engine.proofs.SpellingLaws.{name-plain}
 use Rattle.engine.proofs.EncodeLaws.{ready-started, name-started}
@@ -69,7 +69,7 @@ single-inv Whole u e = (refl, e)
 
 -- ---- how long it is, and whether it fits
 
-answered-by : {a : Ends} {o o′ : List ℕ} (x : Spelt) → SpeltInto x o o′ 0 a → answeredBy a (length o) ≡ spelledIn (outcomeOf x) (length o)
+answered-by : {a : AnswerEnd} {o o′ : List ℕ} (x : Spelt) → SpeltInto x o o′ 0 a → answeredBy a (length o) ≡ spelledIn (outcomeOf x) (length o)
 unfolding isSpelt IntoBy answeredBy outcomeOf spelledIn
 answered-by (unspelt why) q = pick-false _ _ _ (q .fine) ∙ ap (λ (k : Refusal). Refused k 0) (q .is)
 answered-by {a} {o} (speltAs t f) q = pick-true _ _ _ (q .fine) ∙ fits-by _ refl
@@ -101,14 +101,14 @@ whole-long (speltAs t f) o = pick-all (λ (l : List ℕ). length l ≡ length o)
 -- a name that is one word is spelled once
 pub single-told : (s : List ℕ) (call : Call) (name : Text) (t : Bool)
     → t ≡ wholeAnd (partedAs (call .kind) name) (pick (call .concat) true (oneWord name)) → t ≡ true
-    → {a : Ends} {o o′ : List ℕ} → SpeltWhole (speltPart s call name) o o′ 0 a → SpeltWhole (speltName s call name) o o′ 0 a
+    → {a : AnswerEnd} {o o′ : List ℕ} → SpeltWhole (speltPart s call name) o o′ 0 a → SpeltWhole (speltName s call name) o o′ 0 a
 unfolding speltPart speltName stepsAt stepsBy
 single-told s call name t et y w =
     let whole = single-inv _ _ (sym et ∙ y) in
     rw (name-plain (stepsAt s call) (startAt s call name) name (whole .0) (whole .1)) w
 
 -- what `copy_out` tells
-module _ (a : Ends) (apart o : List ℕ) where
+module _ (a : AnswerEnd) (apart o : List ℕ) where
   pub copied-all : {o′ : List ℕ} {p : ℕ} → a .fine ≡ true → a .at ≤ length o → a .at ≤ length apart
       → Put o o′ 0 p (take (a .at - 0) (drop 0 apart)) → CopyOutIs a apart o o′ true
   unfolding CopyOutIs
@@ -131,7 +131,7 @@ module _ (a : Ends) (apart o : List ℕ) where
 pub ruleset copy-laws = (copied-all, copied-long, copied-over, copied-none)
 
 -- a name spelled apart, into u, and copied: it is told as a whole
-module _ {u u′ o o₁ : List ℕ} {a : Ends} where
+module _ {u u′ o o₁ : List ℕ} {a : AnswerEnd} where
   kept-by : (x : Spelt) → SpeltInto x u u′ 0 a → CopiedOut a u′ o o₁ → SpeltWhole x o o₁ 0 a
   unfolding isSpelt IntoBy wholeBy
   kept-by (unspelt k) m (none h e) = record { told = record { fine = m .fine; is = m .is }; whole = e }
@@ -179,19 +179,19 @@ module _ {u u′ o o₁ : List ℕ} {a : Ends} where
         whole = stands ∙ sym (pick-true _ _ _ (le-leb _ _ fits));
       }
 
-  again-by : {b : Ends} (x : Spelt) → SpeltInto x u u′ 0 a → a .fine ≡ true → a .at ≤ length o → SpeltInto x o o₁ 0 b → SpeltWhole x o o₁ 0 b
+  again-by : {b : AnswerEnd} (x : Spelt) → SpeltInto x u u′ 0 a → a .fine ≡ true → a .at ≤ length o → SpeltInto x o o₁ 0 b → SpeltWhole x o o₁ 0 b
   unfolding isSpelt IntoBy wholeBy
   again-by (unspelt k) m c h q = absurd (false≢true (sym (m .fine) ∙ c))
   again-by (speltAs t f) m c h q =
       let fits : 0 + length t ≤ length o = omega (arith, m .is .0 .ends, h, q .is .0 .room) in
       record { told = q; whole = q .is .0 .wrote fits ∙ sym (pick-true _ _ _ (le-leb _ _ fits)) }
 
-module _ {x : Spelt} {u u′ o o₁ : List ℕ} {a : Ends} {t : Bool} (m : SpeltInto x u u′ 0 a) (k : CopyOutIs a u′ o o₁ t) where
+module _ {x : Spelt} {u u′ o o₁ : List ℕ} {a : AnswerEnd} {t : Bool} (m : SpeltInto x u u′ 0 a) (k : CopyOutIs a u′ o o₁ t) where
   pub kept-told : t ≡ true → SpeltWhole x o o₁ 0 a
   unfolding CopyOutIs
   kept-told y = let all : CopiedOut a u′ o o₁ = rw y at k in kept-by x m all
 
-  pub again-told : {o₂ : List ℕ} {b : Ends} → t ≡ false → SpeltInto x o₁ o₂ 0 b → SpeltWhole x o o₂ 0 b
+  pub again-told : {o₂ : List ℕ} {b : AnswerEnd} → t ≡ false → SpeltInto x o₁ o₂ 0 b → SpeltWhole x o o₂ 0 b
   unfolding CopyOutIs
   again-told n q =
       let w : (a .fine ≡ true) × (a .at ≤ length o) × (o₁ ≡ o) = rw n at k in
@@ -200,7 +200,7 @@ module _ {x : Spelt} {u u′ o o₁ : List ℕ} {a : Ends} {t : Bool} (m : Spelt
 pub ruleset lowered-laws = (single-told, kept-told, again-told, zero-le)
 
 -- what is told as a whole is a call's answer
-answer-told : (x : Spelt) {a : Ends} {ans : Spelled} {o o′ : List ℕ} → SpeltWhole x o o′ 0 a → ans ≡ answeredBy a (length o′)
+answer-told : (x : Spelt) {a : AnswerEnd} {ans : Spelled} {o o′ : List ℕ} → SpeltWhole x o o′ 0 a → ans ≡ answeredBy a (length o′)
     → SpellIs (outcomeOf x) o ans o′
 answer-told x {o = o} w e =
     spell-is (e ∙ ap (answeredBy _) (ap length (w .whole) ∙ whole-long x o) ∙ answered-by x (w .told)) (w .whole ∙ whole-filled x o)
@@ -248,7 +248,7 @@ module _ (s : List ℕ) (call : Call) (name low : List ℕ) (by : Call) (w : Low
     pub low-ready : CallReady s table by
     low-ready = ready-started ready _ (w .started)
 
-    pub low-told : (out out′ : List ℕ) (a : Ends) → SpeltWhole (speltName s by (take (length name - 0) (drop 0 low))) out out′ 0 a
+    pub low-told : (out out′ : List ℕ) (a : AnswerEnd) → SpeltWhole (speltName s by (take (length name - 0) (drop 0 low))) out out′ 0 a
         → SpeltWhole (speltFine s call name) out out′ 0 a
     unfolding speltFine
     low-told out out′ a q =
@@ -307,7 +307,8 @@ module _ {s : List ℕ} {table : List (List ℕ)} {q : Request} {name : Text} (w
         unfolding speltFine callFor stepsAt startAt stepsOf stepsBy spelledBy
         spelled-is = rw (ec, start-is)
 
-        pub opened-told : {a : Ends} {ans : Spelled} {o o′ : List ℕ} → SpeltWhole (speltFine s call name) o o′ 0 a → ans ≡ answeredBy a (length o′)
+        pub opened-told : {a : AnswerEnd} {ans : Spelled} {o o′ : List ℕ}
+            → SpeltWhole (speltFine s call name) o o′ 0 a → ans ≡ answeredBy a (length o′)
             → SpellIs (outcomeOn s q name) o ans o′
         opened-told h ea = rw (on-pack ∙ pick-true _ _ _ y ∙ ap outcomeOf (sym spelled-is)) (answer-told (speltFine s call name) h ea)
 
@@ -315,7 +316,7 @@ pub ruleset opened-laws = (opened-broken, opened-few, opened-none, opened-ready,
 
 -- ---- the refusals before that
 
-module _ (q : Request) (name : Text) (r : Named) (found : FoundIs (checkedThen (q .settings) (q .start) name) r) (s : List ℕ) where
+module _ (q : Request) (name : Text) (r : NameCheck) (found : FoundIs (checkedThen (q .settings) (q .start) name) r) (s : List ℕ) where
   pub at-wrong : (o : List ℕ) (why : Refusal) (p : ℕ) → r ≡ Wrong why p → SpellIs (outcomeFor q s name) o (Refused why p) o
   unfolding foundBy
   at-wrong o why p e = refused-told o (call-by (q .settings) (q .start) name r found s (Wrong why p) e)

@@ -42,8 +42,8 @@ use Rattle.engine.specs.declared.call.Settings.{Settings}
 use Rattle.engine.specs.declared.call.Start.{Start}
 use Rattle.engine.specs.declared.call.Start.the-variants.{Guessed, Given}
 use Rattle.engine.specs.declared.call.Opened.the-variants.{Usable, Broken}
-use Rattle.engine.specs.declared.spelling.Named.{Named}
-use Rattle.engine.specs.declared.spelling.Named.the-variants.{Fine, Wrong}
+use Rattle.engine.specs.declared.spelling.NameCheck.{NameCheck}
+use Rattle.engine.specs.declared.spelling.NameCheck.the-variants.{Fine, Wrong}
 use Rattle.engine.specs.declared.spelling.Spelled.the-variants as spelled
 use Rattle.base.proofs.PickLaws.{pick-true, pick-false, and-inv, cases}
 use Rattle.languages.specs.Contracts.{BitsBelow}
@@ -233,7 +233,7 @@ module _ (name : Text) where
       found-none q = record { is = letters-by Nothing Nothing h (sym e ∙ p) (sym e′ ∙ q) }
 
 module _ (c : Settings) (start : Start) (name : Text) (t : Bool) (k : t ≡ settingsKnown c start) where
-  pub found-known : (r : Named) → t ≡ true → FoundIs (lettersThen name) r → FoundIs (checkedThen c start name) r
+  pub found-known : (r : NameCheck) → t ≡ true → FoundIs (lettersThen name) r → FoundIs (checkedThen c start name) r
   unfolding checkedThen
   found-known r e w = record { is = λ rest. w .is rest ∙ sym (pick-true _ _ _ (sym k ∙ e)) }
 
@@ -252,18 +252,18 @@ fine-by false u x e = clash (cc)
 fine-by true true x e = clash (cc)
 fine-by true false x e = (refl, refl)
 
-module _ (c : Settings) (start : Start) (name : Text) (r : Named) (w : FoundIs (checkedThen c start name) r) where
+module _ (c : Settings) (start : Start) (name : Text) (r : NameCheck) (w : FoundIs (checkedThen c start name) r) where
   -- a name that is fine has known settings, and is short
   pub fine-name : r ≡ Fine → (settingsKnown c start ≡ true) × (length name ≤ 96)
   unfolding checkedThen lettersThen foundBy
   fine-name e =
-      let all = fine-by _ _ _ (sym (ap (λ (x : Named). foundBy x (key [] false)) e) ∙ w .is (key [] false)) in
+      let all = fine-by _ _ _ (sym (ap (λ (x : NameCheck). foundBy x (key [] false)) e) ∙ w .is (key [] false)) in
       (all .0, ltb-false _ _ (all .1))
 
   -- a call is refused as its name is, else the pack is looked at
-  pub call-by : (s : List ℕ) (x : Named) → r ≡ x → callOf c start s name ≡ foundBy x (onPack c start s name (packOf s))
+  pub call-by : (s : List ℕ) (x : NameCheck) → r ≡ x → callOf c start s name ≡ foundBy x (onPack c start s name (packOf s))
   unfolding callOf
-  call-by s x e = sym (w .is _) ∙ ap (λ (y : Named). foundBy y (onPack c start s name (packOf s))) e
+  call-by s x e = sym (w .is _) ∙ ap (λ (y : NameCheck). foundBy y (onPack c start s name (packOf s))) e
 
 pub known-limits : (c : Settings) (start : Start) → settingsKnown c start ≡ true → (c .limit ≤ 256) × (c .«rule_type» < 2) × (kindKnown start ≡ true)
 unfolding settingsKnown

@@ -43,7 +43,7 @@ use Rattle.engine.specs.Calls.{languageBy, languageOf, listNumbered, spe
 use Rattle.engine.specs.Contracts.{CallReady, withStart, startedBy, stepsAt, startAt, speltWord, speltPart, speltName, speltAfresh, listNumbers, isSpelt, IntoBy, SpeltInto, wholeBy, SpeltWhole, EndedIs, bothOf, HyphenAt}
 use Rattle.engine.proofs.IntoLaws.{bad-told}
 use Rattle.engine.specs.declared.call.Call.{Call}
-use Rattle.engine.specs.declared.encode.Ends.{Ends}
+use Rattle.engine.specs.declared.encode.AnswerEnd.{AnswerEnd}
 use Rattle.engine.specs.declared.encode.Lists.{Lists}
 use Rattle.base.proofs.PickLaws.{pick-true, pick-false, pick-all, pick-map}
 use Rattle.languages.specs.Contracts.{BitsBelow}
@@ -51,7 +51,7 @@ use Rattle.pack.specs.Contracts.{guessedAt}
 
 -- ---- what a word's answer tells
 
-module _ {o o′ : List ℕ} {at : ℕ} {r : Ends} (room : length o < cap) where
+module _ {o o′ : List ℕ} {at : ℕ} {r : AnswerEnd} (room : length o < cap) where
   whole-good : (t : Text) (f : Bool) → r .at ≡ min (at + length t) cap → r .flag ≡ f → r .fine ≡ true → o′ ≡ placed o at t
       → SpeltWhole (speltAs t f) o o′ at r
   unfolding isSpelt IntoBy wholeBy placed
@@ -126,7 +126,7 @@ module _ {s : List ℕ} {table : List (List ℕ)} {call : Call} (w : CallReady s
             w .pack .languages-are,
           )
 
-      pub word-spelt : {o o′ : List ℕ} {at : ℕ} {r : Ends} {answer : Worded} {lists : Lists} → lists ≡ listNumbers call l → length o * 1 < cap
+      pub word-spelt : {o o′ : List ℕ} {at : ℕ} {r : AnswerEnd} {answer : Worded} {lists : Lists} → lists ≡ listNumbers call l → length o * 1 < cap
           → WordIs (built.wordBy s table (record {
             main = lists .main;
             common = lists .common;
@@ -167,7 +167,7 @@ module _ {s : List ℕ} {table : List (List ℕ)} {call : Call} (w : CallReady s
     unfolding speltName stepsAt startAt startedBy withStart pick
     name-started x = rw (e, guess-is)
 
-    module _ (x : Text) {o o′ : List ℕ} {at : ℕ} {r : Ends} where
+    module _ (x : Text) {o o′ : List ℕ} {at : ℕ} {r : AnswerEnd} where
       part-by : (u : Text) → u ≡ x → pick (call .concat) (joinedWords (call .kind) t) (wordAt t 0) ≡ u → SpeltWhole (speltWord s by x) o o′ at r
           → SpeltWhole (speltPart s call t) o o′ at r
       unfolding speltPart onePart stepsAt stepsBy
@@ -191,7 +191,7 @@ module _ (s : List ℕ) (call : Call) {again : Call} (e : again ≡ withStart ca
   unfolding withStart
   ready-afresh w = rw e (record { pack = w .pack; few = w .few; known = w .known; below = w .below })
 
-  pub afresh-told : (t : Text) {o o′ : List ℕ} {at : ℕ} {r : Ends} → SpeltInto (speltName s again t) o o′ at r
+  pub afresh-told : (t : Text) {o o′ : List ℕ} {at : ℕ} {r : AnswerEnd} → SpeltInto (speltName s again t) o o′ at r
       → SpeltInto (speltAfresh s call t) o o′ at r
   unfolding speltName speltAfresh withStart stepsAt startAt afreshBy pick
   afresh-told t q = rw e at q
@@ -208,7 +208,7 @@ unfolding or
 or-rest true b e = clash (cc)
 or-rest false b e = refl
 
-module _ (first second : Ends) (at : ℕ) where
+module _ (first second : AnswerEnd) (at : ℕ) where
   pub both-joined : (flag : Bool) → first .fine ≡ true → flag ≡ or (first .flag) (second .flag)
       → record { at = at; flag = flag; fine = second .fine; why = second .why } ≡ bothOf first second at
   unfolding bothOf

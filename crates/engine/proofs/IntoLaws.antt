@@ -15,7 +15,7 @@ use Rattle.writing.proofs.Laws.{put-long, put-place, slice-room}
 use Rattle.refusals.specs.declared.Refusal.{Refusal}
 use Rattle.engine.specs.Spelling.{Spelt, unspelt, speltAs, or, both, hyphened, andWords, eachWord}
 use Rattle.engine.specs.Contracts.{Wrote, isSpelt, IntoBy, SpeltInto, bothOf, HyphenAt, bracketed}
-use Rattle.engine.specs.declared.encode.Ends.{Ends}
+use Rattle.engine.specs.declared.encode.AnswerEnd.{AnswerEnd}
 use Rattle.base.proofs.PickLaws.{pick-true, pick-false}
 
 -- ---- texts one after the other
@@ -36,39 +36,39 @@ wrote-then {t} {u} {o} {o₁} {o₂} {at} {p} {q} x y = record {
 
 -- ---- two answers as one
 
-module _ (first second r : Ends) (at : ℕ) (e : r ≡ bothOf first second at) where
+module _ (first second r : AnswerEnd) (at : ℕ) (e : r ≡ bothOf first second at) where
   module _ (fine : first .fine ≡ true) where
     joined-ends : r ≡ record { at = at; flag = or (first .flag) (second .flag); fine = second .fine; why = second .why }
     unfolding bothOf
     joined-ends = e ∙ pick-true _ _ _ fine
 
     both-at : r .at ≡ at
-    both-at = ap (λ (x : Ends). x .at) joined-ends
+    both-at = ap (λ (x : AnswerEnd). x .at) joined-ends
 
     both-flag : r .flag ≡ or (first .flag) (second .flag)
-    both-flag = ap (λ (x : Ends). x .flag) joined-ends
+    both-flag = ap (λ (x : AnswerEnd). x .flag) joined-ends
 
     both-fine : r .fine ≡ second .fine
-    both-fine = ap (λ (x : Ends). x .fine) joined-ends
+    both-fine = ap (λ (x : AnswerEnd). x .fine) joined-ends
 
     both-why : r .why ≡ second .why
-    both-why = ap (λ (x : Ends). x .why) joined-ends
+    both-why = ap (λ (x : AnswerEnd). x .why) joined-ends
 
   both-first : first .fine ≡ false → r ≡ first
   unfolding bothOf
   both-first q = e ∙ pick-false _ _ _ q
 
-pub bad-told : {o o′ : List ℕ} {at : ℕ} {why : Refusal} {r : Ends} → r .fine ≡ false → r .why ≡ why → SpeltInto (unspelt why) o o′ at r
+pub bad-told : {o o′ : List ℕ} {at : ℕ} {why : Refusal} {r : AnswerEnd} → r .fine ≡ false → r .why ≡ why → SpeltInto (unspelt why) o o′ at r
 unfolding isSpelt IntoBy
 bad-told e h = record { fine = e; is = h }
 
-good-told : {t : Text} {f : Bool} {o o′ : List ℕ} {at : ℕ} {r : Ends} → r .fine ≡ true → Wrote t o o′ at (r .at) → r .flag ≡ f
+good-told : {t : Text} {f : Bool} {o o′ : List ℕ} {at : ℕ} {r : AnswerEnd} → r .fine ≡ true → Wrote t o o′ at (r .at) → r .flag ≡ f
     → SpeltInto (speltAs t f) o o′ at r
 unfolding isSpelt IntoBy
 good-told e w h = record { fine = e; is = (w, h) }
 
 -- what an answer tells of its case
-module _ {o o′ : List ℕ} {at : ℕ} {r : Ends} where
+module _ {o o′ : List ℕ} {at : ℕ} {r : AnswerEnd} where
   module _ {why : Refusal} (x : SpeltInto (unspelt why) o o′ at r) where
     not-fine : r .fine ≡ false
     unfolding isSpelt
@@ -92,16 +92,16 @@ module _ {o o′ : List ℕ} {at : ℕ} {r : Ends} where
     good-flag = x .is .1
 
 -- the answer of two of which one is refused
-module _ {x : Refusal} {o o′ p p′ : List ℕ} {at q : ℕ} {a r : Ends} (told : SpeltInto (unspelt x) o o′ at a) where
+module _ {x : Refusal} {o o′ p p′ : List ℕ} {at q : ℕ} {a r : AnswerEnd} (told : SpeltInto (unspelt x) o o′ at a) where
   bad-first : r ≡ a → SpeltInto (unspelt x) p p′ q r
-  bad-first e = bad-told (ap (λ (z : Ends). z .fine) e ∙ not-fine told) (ap (λ (z : Ends). z .why) e ∙ bad-why told)
+  bad-first e = bad-told (ap (λ (z : AnswerEnd). z .fine) e ∙ not-fine told) (ap (λ (z : AnswerEnd). z .why) e ∙ bad-why told)
 
-  bad-second : (b : Ends) (n : ℕ) → b .fine ≡ true → r ≡ bothOf b a n → SpeltInto (unspelt x) p p′ q r
+  bad-second : (b : AnswerEnd) (n : ℕ) → b .fine ≡ true → r ≡ bothOf b a n → SpeltInto (unspelt x) p p′ q r
   bad-second b n h e = bad-told (both-fine _ _ _ _ e h ∙ not-fine told) (both-why _ _ _ _ e h ∙ bad-why told)
 
 -- ---- between brackets
 
-pub bracketed-told : (x : Spelt) {o o₁ o₂ o₃ : List ℕ} {at p end : ℕ} {a : Ends}
+pub bracketed-told : (x : Spelt) {o o₁ o₂ o₃ : List ℕ} {at p end : ℕ} {a : AnswerEnd}
     → Put o o₁ at p (40 ∷ []) → SpeltInto x o₁ o₂ p a → Put o₂ o₃ (a .at) end (41 ∷ [])
     → SpeltInto (bracketed x) o o₃ at (record { at = end; flag = a .flag; fine = a .fine; why = a .why })
 unfolding bracketed
@@ -111,7 +111,7 @@ bracketed-told (unspelt k) left told right = bad-told (not-fine told) (bad-why t
 
 -- ---- words, a hyphen between them
 
-hyphened-told : (x y : Spelt) {o o₁ o₂ o₃ : List ℕ} {at q : ℕ} {a b r : Ends}
+hyphened-told : (x y : Spelt) {o o₁ o₂ o₃ : List ℕ} {at q : ℕ} {a b r : AnswerEnd}
     → SpeltInto x o o₁ at a → Put o₁ o₂ (a .at) q (45 ∷ []) → SpeltInto y o₂ o₃ q b → r ≡ bothOf a b (b .at) → SpeltInto (hyphened x y) o o₃ at r
 unfolding hyphened
 hyphened-told (speltAs t f) (speltAs u g) ta middle tb e =
@@ -124,7 +124,7 @@ hyphened-told (unspelt j) y ta middle tb e =
     bad-first ta (both-first _ _ _ _ e (not-fine ta))
 
 -- a name with a prefix: the remainder and the joined name, each between brackets
-pub both-told : (x y : Spelt) {o o₁ o₂ o₃ : List ℕ} {at p : ℕ} {a b r : Ends}
+pub both-told : (x y : Spelt) {o o₁ o₂ o₃ : List ℕ} {at p : ℕ} {a b r : AnswerEnd}
     → SpeltInto (bracketed x) o o₁ at a → Put o₁ o₂ (a .at) p (45 ∷ []) → SpeltInto (bracketed y) o₂ o₃ p b → r ≡ bothOf b a (b .at)
     → SpeltInto (both x y) o o₃ at r
 unfolding both bracketed
@@ -139,7 +139,7 @@ both-told (unspelt j) (speltAs u g) ta middle tb e = bad-second ta _ _ (is-fine 
 both-told (unspelt j) (unspelt k) ta middle tb e = bad-first tb (both-first _ _ _ _ e (not-fine tb))
 
 -- the first word's answer stands for all so far
-first-told : (y : Spelt) {o o′ : List ℕ} {at : ℕ} (a : Ends) {b r : Ends} → a .fine ≡ true → a .flag ≡ false → SpeltInto y o o′ at b
+first-told : (y : Spelt) {o o′ : List ℕ} {at : ℕ} (a : AnswerEnd) {b r : AnswerEnd} → a .fine ≡ true → a .flag ≡ false → SpeltInto y o o′ at b
     → r ≡ bothOf a b (b .at) → SpeltInto y o o′ at r
 unfolding or
 first-told (speltAs u g) a fine down tb e =
@@ -148,13 +148,13 @@ first-told (speltAs u g) a fine down tb e =
 first-told (unspelt k) a fine down tb e = bad-second tb _ _ fine e
 
 -- nothing is written yet, or the words read so far are told
-pub data Begun (f : Text → Spelt) (name : Text) (o₀ o : List ℕ) (at p : ℕ) (all : Ends) : Type 0 where
+pub data Begun (f : Text → Spelt) (name : Text) (o₀ o : List ℕ) (at p : ℕ) (all : AnswerEnd) : Type 0 where
   not-yet : p ≡ 0 → o ≡ o₀ → (all .at ≡ at) × (all .flag ≡ false) × (all .fine ≡ true) → Begun f name o₀ o at p all
   begun : (x : Spelt) → (p ≡ 0 → ⊥) → SpeltInto x o₀ o at all → andWords f x (wordsOf (drop p name)) ≡ eachWord f (wordsOf name)
       → Begun f name o₀ o at p all
 
 -- the invariant of `spell_words`' loop
-pub record WordsHeld (f : Text → Spelt) (name : Text) (o₀ o : List ℕ) (at p : ℕ) (all : Ends) : Type 0 where
+pub record WordsHeld (f : Text → Spelt) (name : Text) (o₀ o : List ℕ) (at p : ℕ) (all : AnswerEnd) : Type 0 where
   pub fits : at ≤ cap
   pub room : length o₀ < cap
   pub so-far : Begun f name o₀ o at p all
@@ -166,7 +166,7 @@ pub held-start : (f : Text → Spelt) (name : Text) (o : List ℕ) (at : ℕ) (w
 held-start f name o at why h r =
     record { fits = h; room = slice-room o r; so-far = not-yet refl refl (refl, refl, refl); within = zero-le; out-same = refl }
 
-module _ {f : Text → Spelt} {name : Text} {o₀ o : List ℕ} {at p : ℕ} {all : Ends} (k : WordsHeld f name o₀ o at p all) {w : Text}
+module _ {f : Text → Spelt} {name : Text} {o₀ o : List ℕ} {at p : ℕ} {all : AnswerEnd} (k : WordsHeld f name o₀ o at p all) {w : Text}
     (ew : w ≡ wordAt name p) where
   pub held-end : length w ≡ 0 → SpeltInto (eachWord f (wordsOf name)) o₀ o at all
   unfolding eachWord andWords
@@ -198,7 +198,7 @@ module _ {f : Text → Spelt} {name : Text} {o₀ o : List ℕ} {at p : ℕ} {al
       pub held-place : q ≤ cap
       held-place = place-by (k .so-far)
 
-      module _ {o₂ : List ℕ} {b r : Ends} (tb : SpeltInto (f w) o₁ o₂ q b) (e : r ≡ bothOf all b (b .at)) where
+      module _ {o₂ : List ℕ} {b r : AnswerEnd} (tb : SpeltInto (f w) o₁ o₂ q b) (e : r ≡ bothOf all b (b .at)) where
         later-on : pastWord name p ≡ 0 → ⊥
         later-on z = omega (arith, word-later name p a-word)
 

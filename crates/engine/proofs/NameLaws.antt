@@ -21,7 +21,7 @@ use Rattle.engine.specs.Spelling.{Spelt, partedAs}
 use Rattle.engine.specs.Calls.{stepsBy}
 use Rattle.engine.specs.Contracts.{Asks, JoinedAt, JoinedIs, withStart, stepsAt, startAt, speltPart, speltName, speltAfresh, speltWords, SpeltInto, SpeltWhole, bothOf, HyphenAt, bracketed}
 use Rattle.engine.specs.declared.call.Call.{Call}
-use Rattle.engine.specs.declared.encode.Ends.{Ends}
+use Rattle.engine.specs.declared.encode.AnswerEnd.{AnswerEnd}
 use Rattle.engine.specs.declared.encode.Joined.{Joined}
 use Rattle.engine.specs.declared.encode.Joined.the-variants as joined
 use Rattle.engine.proofs.SpellingLaws.{not-or, parted-split, name-parted, name-plain, name-words}
@@ -87,7 +87,7 @@ module _ (kind : NameType) (name : Text) (u : List ℕ) (x : Joined) (w : Joined
     joined-asks p h = record { ready = a .ready; short = omega (arith, a .short, joined-less); place = h }
 
 module _ (s : List ℕ) (call : Call) (name : Text) (u : List ℕ) (x : Joined) (w : JoinedIs (call .kind) name u x) where
-  pub parted-told : (skip n : ℕ) → x ≡ joined.Parted skip n → (o o₁ o₂ o₃ : List ℕ) (at p : ℕ) (a b r : Ends)
+  pub parted-told : (skip n : ℕ) → x ≡ joined.Parted skip n → (o o₁ o₂ o₃ : List ℕ) (at p : ℕ) (a b r : AnswerEnd)
       → SpeltInto (bracketed (speltAfresh s call (take (length name - skip) (drop skip name)))) o o₁ at a → Put o₁ o₂ (a .at) p (45 ∷ [])
       → SpeltInto (bracketed (speltAfresh s call (take (n - 0) (drop 0 u)))) o₂ o₃ p b → r ≡ bothOf b a (b .at)
       → SpeltInto (speltName s call name) o o₃ at r
@@ -99,7 +99,7 @@ module _ (s : List ℕ) (call : Call) (name : Text) (u : List ℕ) (x : Joined) 
         ← joined-is _ name u x w skip n q,
       ) (both-told _ _ ta middle tb h)
 
-  module _ (q : x ≡ joined.Whole) (t : Bool) (et : t ≡ pick (call .concat) true (oneWord name)) (o o′ : List ℕ) (at : ℕ) (r : Ends) where
+  module _ (q : x ≡ joined.Whole) (t : Bool) (et : t ≡ pick (call .concat) true (oneWord name)) (o o′ : List ℕ) (at : ℕ) (r : AnswerEnd) where
     is-whole : partedAs (call .kind) name ≡ prefix.Whole
     unfolding JoinedIs
     is-whole = rw q at w
@@ -121,14 +121,14 @@ module _ (s : List ℕ) (call again : Call) (e : again ≡ withStart call true (
   pub again-asks : (table : List (List ℕ)) (name : Text) (at p : ℕ) → Asks s table call name at → p ≤ cap → Asks s table again name p
   again-asks table name at p w h = record { ready = ready-afresh s call e (w .ready); short = w .short; place = h }
 
-  pub between-told : (t : Text) (o o₁ o₂ o₃ : List ℕ) (at p end : ℕ) (a : Ends) → Put o o₁ at p (40 ∷ [])
+  pub between-told : (t : Text) (o o₁ o₂ o₃ : List ℕ) (at p end : ℕ) (a : AnswerEnd) → Put o o₁ at p (40 ∷ [])
       → SpeltInto (speltName s again t) o₁ o₂ p a → Put o₂ o₃ (a .at) end (41 ∷ [])
       → SpeltInto (bracketed (speltAfresh s call t)) o o₃ at (record { at = end; flag = a .flag; fine = a .fine; why = a .why })
   between-told t o o₁ o₂ o₃ at p end a left told right = bracketed-told _ left (afresh-told s call e _ told) right
 
 -- ---- words
 
-module _ (f : Text → Spelt) (name : Text) (o₀ o : List ℕ) (at p : ℕ) (all : Ends) (k : WordsHeld f name o₀ o at p all) (w : Text)
+module _ (f : Text → Spelt) (name : Text) (o₀ o : List ℕ) (at p : ℕ) (all : AnswerEnd) (k : WordsHeld f name o₀ o at p all) (w : Text)
     (ew : w ≡ wordAt name p) (some : length w ≡ 0 → ⊥) (several : oneWord name ≡ false) where
   pub word-falls : (t : ℕ) → length name * 2 ≡ t → length w * 2 + 1 < t
   word-falls t h = omega (arith, h, held-shorter k ew some several)
@@ -143,7 +143,7 @@ module _ (f : Text → Spelt) (name : Text) (o₀ o : List ℕ) (at p : ℕ) (al
         place = held-place k ew some h;
       }
 
-module _ (s : List ℕ) (call : Call) (name : Text) (o₀ o : List ℕ) (at p : ℕ) (all : Ends) (k : WordsHeld (speltAfresh s call) name o₀ o at p all)
+module _ (s : List ℕ) (call : Call) (name : Text) (o₀ o : List ℕ) (at p : ℕ) (all : AnswerEnd) (k : WordsHeld (speltAfresh s call) name o₀ o at p all)
     (w : Text) (ew : w ≡ wordAt name p) where
   pub words-told : length w ≡ 0 → SpeltInto (speltWords s call name) o₀ o at all
   unfolding speltWords

@@ -35,12 +35,12 @@ use Rattle.engine.specs.declared.call.Opened.{Opened}
 use Rattle.engine.specs.declared.call.Opened.the-variants.{Usable, Broken}
 use Rattle.engine.specs.declared.call.Request.{Request}
 use Rattle.engine.specs.declared.call.Call.{Call}
-use Rattle.engine.specs.declared.encode.Ends.{Ends}
+use Rattle.engine.specs.declared.encode.AnswerEnd.{AnswerEnd}
 use Rattle.engine.specs.declared.encode.Lists.{Lists}
 use Rattle.engine.specs.declared.encode.Joined.{Joined}
 use Rattle.engine.specs.declared.encode.Joined.the-variants as joined
-use Rattle.engine.specs.declared.spelling.Named.{Named}
-use Rattle.engine.specs.declared.spelling.Named.the-variants.{Fine, Wrong}
+use Rattle.engine.specs.declared.spelling.NameCheck.{NameCheck}
+use Rattle.engine.specs.declared.spelling.NameCheck.the-variants.{Fine, Wrong}
 use Rattle.languages.specs.Contracts.{BitsBelow}
 
 -- the answer that has these numbers
@@ -181,11 +181,11 @@ unfoldable pub isSpelt : Spelt → Bool
 isSpelt (unspelt why) = false
 isSpelt (speltAs t f) = true
 
-unfoldable pub IntoBy : Spelt → List ℕ → List ℕ → ℕ → Ends → Type 0
+unfoldable pub IntoBy : Spelt → List ℕ → List ℕ → ℕ → AnswerEnd → Type 0
 IntoBy (unspelt why) o o′ at r = r .why ≡ why
 IntoBy (speltAs t f) o o′ at r = Wrote t o o′ at (r .at) × (r .flag ≡ f)
 
-pub record SpeltInto (x : Spelt) (o o′ : List ℕ) (at : ℕ) (r : Ends) : Type 0 where
+pub record SpeltInto (x : Spelt) (o o′ : List ℕ) (at : ℕ) (r : AnswerEnd) : Type 0 where
   pub fine : r .fine ≡ isSpelt x
   pub is : IntoBy x o o′ at r
 
@@ -194,18 +194,18 @@ unfoldable pub wholeBy : Spelt → List ℕ → ℕ → List ℕ
 wholeBy (unspelt why) o at = o
 wholeBy (speltAs t f) o at = pick (leb (at + length t) (length o)) (sets o at t) o
 
-pub record SpeltWhole (x : Spelt) (o o′ : List ℕ) (at : ℕ) (r : Ends) : Type 0 where
+pub record SpeltWhole (x : Spelt) (o o′ : List ℕ) (at : ℕ) (r : AnswerEnd) : Type 0 where
   pub told : SpeltInto x o o′ at r
   pub whole : o′ ≡ wholeBy x o at
 
 -- what a word's answer comes to: its end, or its refusal
-unfoldable pub EndedIs : Worded → ℕ → Ends → Type 0
+unfoldable pub EndedIs : Worded → ℕ → AnswerEnd → Type 0
 EndedIs (Done length flag) at r = (r .at ≡ min (at + length) cap) × (r .flag ≡ flag) × (r .fine ≡ true)
 EndedIs TooLong at r = (r .fine ≡ false) × (r .why ≡ TextTooLong)
 EndedIs TooMany at r = (r .fine ≡ false) × (r .why ≡ TooManyTexts)
 
 -- two answers as one that ends at a place
-unfoldable pub bothOf : Ends → Ends → ℕ → Ends
+unfoldable pub bothOf : AnswerEnd → AnswerEnd → ℕ → AnswerEnd
 bothOf first second at = pick (first .fine) (record { at = at; flag = or (first .flag) (second .flag); fine = second .fine; why = second .why }) first
 
 -- a hyphen where the name is read already
@@ -227,27 +227,27 @@ pub record FineFor (s : List ℕ) (table : List (List ℕ)) (request : Request) 
   pub known : settingsKnown (request .settings) (request .start) ≡ true
   pub short : length name ≤ 96
 
-unfoldable pub foundBy : Named → CallOutcome → CallOutcome
+unfoldable pub foundBy : NameCheck → CallOutcome → CallOutcome
 foundBy Fine rest = rest
 foundBy (Wrong why place) rest = refusedBy why place
 
 -- what is found of a name before the pack is looked at
-pub record FoundIs (f : CallOutcome → CallOutcome) (r : Named) : Type 0 where
+pub record FoundIs (f : CallOutcome → CallOutcome) (r : NameCheck) : Type 0 where
   pub is : (rest : CallOutcome) → foundBy r rest ≡ f rest
 
 -- an answer held apart, written where it fits; or not, as it is a refusal or has no room
-pub data CopiedOut (a : Ends) (apart o o′ : List ℕ) : Type 0 where
+pub data CopiedOut (a : AnswerEnd) (apart o o′ : List ℕ) : Type 0 where
   none : a .fine ≡ false → o′ ≡ o → CopiedOut a apart o o′
   over : length o < a .at → o′ ≡ o → CopiedOut a apart o o′
   copied : a .fine ≡ true → length o < cap → a .at ≤ length o → a .at ≤ length apart → o′ ≡ sets o 0 (take (a .at) apart) → CopiedOut a apart o o′
 
 -- the same; or that it fits, but is too long to be held apart
-unfoldable pub CopyOutIs : Ends → List ℕ → List ℕ → List ℕ → Bool → Type 0
+unfoldable pub CopyOutIs : AnswerEnd → List ℕ → List ℕ → List ℕ → Bool → Type 0
 CopyOutIs a apart o o′ true = CopiedOut a apart o o′
 CopyOutIs a apart o o′ false = (a .fine ≡ true) × (a .at ≤ length o) × (o′ ≡ o)
 
 -- an answer of so many bytes, or that they have no room
-unfoldable pub answeredBy : Ends → ℕ → Spelled
+unfoldable pub answeredBy : AnswerEnd → ℕ → Spelled
 answeredBy a room =
     pick (a .fine) (pick (leb (a .at) room) (spelled.Done (a .at) (a .flag)) (spelled.Refused NoRoom (min (a .at) 4294967295))) (spelled.Refused (a .why) 0)
 

@@ -29,7 +29,7 @@ use rule_index::Table;
 const CAP: usize = 0x8000_0000_0000_0000;
 
 // Where an answer ends and its flag, if it is fine (`why` then says nothing); else why it is refused.
-pub struct Ends {
+pub struct AnswerEnd {
     pub at: usize,
     pub flag: bool,
     pub fine: bool,
@@ -85,23 +85,23 @@ fn forward(at: usize, n: usize) -> usize
 }
 
 // What a word's answer comes to.
-fn ended(answer: Worded, at: usize) -> Ends
+fn ended(answer: Worded, at: usize) -> AnswerEnd
     ensures { λ r. ⌜ EndedIs answer at r ⌝ }
 {
     match answer {
-        Worded::Done { length, flag } => Ends {
+        Worded::Done { length, flag } => AnswerEnd {
             at: forward(at, length),
             flag,
             fine: true,
             why: Refusal::NoRoom,
         },
-        Worded::TooLong => Ends {
+        Worded::TooLong => AnswerEnd {
             at,
             flag: false,
             fine: false,
             why: Refusal::TextTooLong,
         },
-        Worded::TooMany => Ends {
+        Worded::TooMany => AnswerEnd {
             at,
             flag: false,
             fine: false,
@@ -131,7 +131,7 @@ fn spell_word(
     word: &[u8],
     out: &mut [u8],
     at: usize,
-) -> Ends
+) -> AnswerEnd
     requires { ⌜ CallReady (now pack) (now table) call ⌝ }
     ensures { λ r. ⌜ SpeltWhole (speltWord (now (pack .entry)) call (now (word .entry))) (now (out .entry)) (now (out .exit)) at r ⌝ }
 {
@@ -159,7 +159,7 @@ pub(crate) fn spell_part(
     name: &[u8],
     out: &mut [u8],
     at: usize,
-) -> Ends
+) -> AnswerEnd
     requires { ⌜ CallReady (now pack) (now table) call ⌝ }
     requires { ⌜ length (now name) ≤ 96 ⌝ }
     ensures { λ r. ⌜ SpeltWhole (speltPart (now (pack .entry)) call (now (name .entry))) (now (out .entry)) (now (out .exit)) at r ⌝ }
@@ -219,12 +219,12 @@ fn either(a: bool, b: bool) -> bool
 }
 
 // Two answers as one that ends at a place; the refusal of the first goes before.
-fn both(first: Ends, second: Ends, at: usize) -> Ends
+fn both(first: AnswerEnd, second: AnswerEnd, at: usize) -> AnswerEnd
     ensures { λ r. ⌜ r ≡ bothOf first second at ⌝ }
 {
     if first.fine {
         let why = second.why;
-        Ends {
+        AnswerEnd {
             at,
             flag: either(first.flag, second.flag),
             fine: second.fine,
@@ -246,7 +246,7 @@ pub(crate) fn spell_name(
     name: &[u8],
     out: &mut [u8],
     at: usize,
-) -> Ends
+) -> AnswerEnd
     requires { ⌜ Asks (now pack) (now table) call (now name) at ⌝ }
     ensures { λ r. ⌜ SpeltInto (speltName (now (pack .entry)) call (now (name .entry))) (now (out .entry)) (now (out .exit)) at r ⌝ }
 {
@@ -279,7 +279,7 @@ fn spell_bracketed(
     name: &[u8],
     out: &mut [u8],
     at: usize,
-) -> Ends
+) -> AnswerEnd
     requires { ⌜ Asks (now pack) (now table) call (now name) at ⌝ }
     ensures { λ r. ⌜ SpeltInto (bracketed (speltAfresh (now (pack .entry)) call (now (name .entry)))) (now (out .entry)) (now (out .exit)) at r ⌝ }
 {
@@ -288,7 +288,7 @@ fn spell_bracketed(
     let a = spell_name(store, slots, pack, table, again, name, out, p);
     let end = writing::push(out, a.at, b')');
     let why = a.why;
-    Ends {
+    AnswerEnd {
         at: end,
         flag: a.flag,
         fine: a.fine,
@@ -306,12 +306,12 @@ fn spell_words(
     name: &[u8],
     out: &mut [u8],
     at: usize,
-) -> Ends
+) -> AnswerEnd
     requires { ⌜ Asks (now pack) (now table) call (now name) at ⌝ }
     requires { ⌜ oneWord (now name) ≡ false ⌝ }
     ensures { λ r. ⌜ SpeltInto (speltWords (now (pack .entry)) call (now (name .entry))) (now (out .entry)) (now (out .exit)) at r ⌝ }
 {
-    let mut all = Ends {
+    let mut all = AnswerEnd {
         at,
         flag: false,
         fine: true,

@@ -19,7 +19,7 @@ use crate::call::call_of;
 use crate::call::have_languages;
 use crate::call::open;
 use crate::call::start_at;
-use crate::encode::Ends;
+use crate::encode::AnswerEnd;
 use crate::encode::is_one_part;
 use crate::encode::part_of;
 use crate::encode::spell_name;
@@ -38,44 +38,44 @@ pub enum Spelled {
 }
 
 // What is found of a name before the pack is looked at.
-pub enum Named {
+pub enum NameCheck {
     Fine,
     Wrong { why: Refusal, place: usize },
 }
 
 // Refusals 3, 1 and 2.
-fn letters_of(name: &[u8]) -> Named
+fn letters_of(name: &[u8]) -> NameCheck
     ensures { λ r. ⌜ FoundIs (lettersThen (now (name .entry))) r ⌝ }
 {
     if 96 < name.len() {
-        return Named::Wrong {
+        return NameCheck::Wrong {
             why: Refusal::NameTooLong,
             place: 0,
         };
     }
     match letters::first_ill(name) {
-        Found::At(place) => Named::Wrong {
+        Found::At(place) => NameCheck::Wrong {
             why: Refusal::NotUtf8,
             place,
         },
         Found::Nothing => match letters::first_outside(name) {
-            Found::At(place) => Named::Wrong {
+            Found::At(place) => NameCheck::Wrong {
                 why: Refusal::OutsideRange,
                 place,
             },
-            Found::Nothing => Named::Fine,
+            Found::Nothing => NameCheck::Fine,
         },
     }
 }
 
 // Refusals 4, 3, 1 and 2, which come before the pack's.
-fn refusal_of(settings: Settings, start: Start, name: &[u8]) -> Named
+fn refusal_of(settings: Settings, start: Start, name: &[u8]) -> NameCheck
     ensures { λ r. ⌜ FoundIs (checkedThen settings start (now (name .entry))) r ⌝ }
 {
     if are_known(settings, start) {
         letters_of(name)
     } else {
-        Named::Wrong {
+        NameCheck::Wrong {
             why: Refusal::SettingUnknown,
             place: 0,
         }
@@ -83,7 +83,7 @@ fn refusal_of(settings: Settings, start: Start, name: &[u8]) -> Named
 }
 
 // An answer of so many bytes, or that they have no room.
-fn answer(a: Ends, room: usize) -> Spelled
+fn answer(a: AnswerEnd, room: usize) -> Spelled
     ensures { λ r. ⌜ r ≡ answeredBy a room ⌝ }
 {
     if a.fine {
@@ -121,7 +121,7 @@ fn is_single(call: Call, name: &[u8]) -> bool
 }
 
 // An answer held apart, written where it fits. False where it fits, but is too long to be held apart.
-fn copy_out(a: Ends, apart: &[u8], out: &mut [u8]) -> bool
+fn copy_out(a: AnswerEnd, apart: &[u8], out: &mut [u8]) -> bool
     ensures { λ r. ⌜ CopyOutIs a (now (apart .entry)) (now (out .entry)) (now (out .exit)) r ⌝ }
 {
     let n = a.at;
@@ -147,7 +147,7 @@ fn spell_lowered(
     call: Call,
     name: &[u8],
     out: &mut [u8],
-) -> Ends
+) -> AnswerEnd
     requires { ⌜ CallReady (now pack) (now table) call ⌝ }
     requires { ⌜ length (now name) ≤ 96 ⌝ }
     ensures { λ r. ⌜ SpeltWhole (speltName (now (pack .entry)) call (now (name .entry))) (now (out .entry)) (now (out .exit)) 0 r ⌝ }
@@ -185,7 +185,7 @@ fn spell_fine(
     call: Call,
     name: &[u8],
     out: &mut [u8],
-) -> Ends
+) -> AnswerEnd
     requires { ⌜ CallReady (now pack) (now table) call ⌝ }
     requires { ⌜ length (now name) ≤ 96 ⌝ }
     ensures { λ r. ⌜ SpeltWhole (speltFine (now (pack .entry)) call (now (name .entry))) (now (out .entry)) (now (out .exit)) 0 r ⌝ }
@@ -252,8 +252,8 @@ pub(crate) fn spell_at(
     let settings = request.settings;
     let start = request.start;
     match refusal_of(settings, start, name) {
-        Named::Fine => spell_opened(store, slots, pack, table, request, name, out),
-        Named::Wrong { why, place } => Spelled::Refused { why, place },
+        NameCheck::Fine => spell_opened(store, slots, pack, table, request, name, out),
+        NameCheck::Wrong { why, place } => Spelled::Refused { why, place },
     }
 }
 

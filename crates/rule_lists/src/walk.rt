@@ -1,7 +1,8 @@
 // The walk over a rule file and its includes. It keeps no rules, but where they stand: one walk notes the last entry for each first
 // character and keeps every rule, and a second keeps those that stay.
 ghost use Prim.Native.Nat.{_≤_};
-ghost use Rattle.rule_lists.specs.Contracts.{Room, InBundle, Ready, RuledIs, readFrom, readIncluded, oneMore, Walks, SurveyIs, Surveyed, CountedAs, CollectIs};
+ghost use Rattle.rule_lists.specs.Contracts.{Room, InBundle, Ready, RuledIs, readFrom, readIncluded, oneMore, Walks};
+ghost use Rattle.rule_lists.specs.Contracts.{SurveyIs, Surveyed, CountedAs, CollectIs};
 ghost use Rattle.rule_lists.specs.Lists.{countedRules};
 use crate::lines::Row;
 use crate::tables::MOST_RULES;

@@ -27,14 +27,14 @@ use Rattle.writing.proofs.push.Reads as push-reads
 use Rattle.engine.proofs.encode.+spell_bracketed+spell_name+spell_words.{statement}
 use Rattle.engine.proofs.encode.+spell_bracketed+spell_name+spell_words.Tie.{close}
 
-abbrev μ-spell-bracketed : Measures 6 spell-bracketed-kinds.ps ℕ
-μ-spell-bracketed κs a = length (a .1 .1 .1 .1 .1 .0 .now) * 2 + 2
-
-abbrev μ-spell-name : Measures 6 spell-name-kinds.ps ℕ
-μ-spell-name κs a = length (a .1 .1 .1 .1 .1 .0 .now) * 2 + 1
-
 abbrev μ-spell-words : Measures 6 spell-words-kinds.ps ℕ
 μ-spell-words κs a = length (a .1 .1 .1 .1 .1 .0 .now) * 2
+
+abbrev μ-spell-name : Measures 6 spell-name-kinds.ps ℕ
+μ-spell-name κs a = μ-spell-words κs a + 1
+
+abbrev μ-spell-bracketed : Measures 6 spell-bracketed-kinds.ps ℕ
+μ-spell-bracketed κs a = μ-spell-words κs a + 2
 
 abbrev spell-bracketed-at : ℕ → In 6 spell-bracketed-kinds.ps
 spell-bracketed-at t = and 6 spell-bracketed-kinds.ps (is 6 spell-bracketed-kinds.ps μ-spell-bracketed t) spell-bracketed.Pre

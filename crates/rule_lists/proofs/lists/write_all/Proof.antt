@@ -10,7 +10,8 @@ use Rattle.rule_lists.specs.Lists.{typePrefix}
 
 abbrev Inv-loop : tie.InvT-loop
 Inv-loop kind bundle names lasts₀ rows₀ out₀ at from₀ place₀ lasts rows out from place =
-    (length lasts ≡ length lasts₀) × (length rows ≡ length rows₀) × (length out ≡ length out₀) × Listing names (filesOf bundle) (typePrefix kind) out₀ at from out place
+    (length lasts ≡ length lasts₀) × (length rows ≡ length rows₀) × (length out ≡ length out₀)
+    × Listing names (filesOf bundle) (typePrefix kind) out₀ at from out place
 
 abbrev μ-loop : tie.MeasureT-loop
 μ-loop kind bundle names lasts₀ rows₀ out₀ at from₀ place₀ lasts rows out from place = length names - from

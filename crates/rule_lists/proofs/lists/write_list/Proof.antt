@@ -6,5 +6,6 @@ use Rattle.rule_lists.proofs.lists.write_list.Tie as tie
 pub write-list-spec : {M : Type 1} → statement M
 write-list-spec =
     tie.close (tie.spec (λ c κs. search needs) (λ c. search needs) (λ c κs. (search file-laws, search needs)) (λ c. search needs)
-    (λ c κs. (search file-laws, search needs, search file-laws)) (λ c. search needs) (λ c. search needs) (λ c. search needs) (λ c. search needs) (λ c. search needs)
+    (λ c κs. (search file-laws, search needs, search file-laws)) (λ c. search needs) (λ c. search needs) (λ c. search needs) (λ c. search needs)
+    (λ c. search needs)
     (λ c. search file-laws) (λ c. search needs) (λ c. search needs) (λ c. search file-laws) (λ c. search file-laws))

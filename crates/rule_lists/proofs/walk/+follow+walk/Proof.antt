@@ -35,7 +35,13 @@ walk-μ-loop source task bundle names st0 lasts₀ rows₀ start end s st₀ p�
 
 pub +follow+walk-spec : {M : Type 1} → statement M
 +follow+walk-spec = close μ-follow μ-walk
-    (λ t. follow-lts.spec (find-file-reads.Asked, find-file-reads.Learnt, and 4 walk-kinds.ps (falls 4 walk-kinds.ps _<_ μ-walk t) walk.Pre, walk.Post)
+    (λ t. follow-lts.spec (
+      find-file-reads.Asked,
+      find-file-reads.Learnt,
+      and 4 walk-kinds.ps
+          (falls 4 walk-kinds.ps _<_ μ-walk t) walk.Pre,
+      walk.Post,
+    )
     (and 5 follow-kinds.ps (is 5 follow-kinds.ps μ-follow t) follow.Pre) follow.Post
     (λ c. search follow-laws) (λ c. search follow-laws) (λ c κs. search needs) (λ c. search needs) (λ c. search needs)
     (λ c. search needs) (λ c κs. (search follow-laws, (search follow-laws, search follow-laws))) (λ c. search needs)
