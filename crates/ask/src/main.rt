@@ -47,8 +47,8 @@ fn answer(
     cases::say(said, given, tells, made, out, used)
 }
 
-// Keeps a line's bytes where it gives them for that and there is room, and answers how many are held now.
-fn keep(gives: bool, bytes: &[u8], into: &mut [u8], held: usize) -> usize {
+// Takes a line's bytes where it gives them for that and there is room, and answers how many are held now.
+fn replace_held(gives: bool, bytes: &[u8], into: &mut [u8], held: usize) -> usize {
     if gives {
         if bytes.len() <= into.len() {
             return bytes::copy(bytes, into);
@@ -81,8 +81,8 @@ fn turn(
     );
     let bytes = cases::bytes_of(given, &tells, 0);
     Held {
-        pack: keep(command == cases::PACK, bytes, pack, held.pack),
-        bundle: keep(command == cases::BUNDLE, bytes, bundle, held.bundle),
+        pack: replace_held(command == cases::PACK, bytes, pack, held.pack),
+        bundle: replace_held(command == cases::BUNDLE, bytes, bundle, held.bundle),
         used,
     }
 }

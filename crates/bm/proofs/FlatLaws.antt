@@ -34,6 +34,7 @@ use Rattle.engine.specs.declared.spelling.Spelled.the-variants.{Done, Refused}
 use Rattle.bm.specs.Flat.{flagBit, numbered, SpellFlat, CheckFlat, blocked, LinesFlat, placedTail, LoadFlat}
 use Rattle.base.proofs.PickLaws.{pick-yes, pick-no}
 use Rattle.bm.specs.Contracts.{TailIs}
+use borrow.Author.Needs.{needs}
 
 bit-is : (f : Bool) → boolByte f ≡ flagBit f
 unfolding flagBit
@@ -144,7 +145,7 @@ module _ (x : loading.Loading (List ℕ)) (out out′ tail : List ℕ) (s : Load
   unfolding load.loadedNumbers placedTail
   load-refused c p f k e q = load-numbers (record { code = k; place = p; file = f }) (ap load.loadedNumbers e ∙ ap (λ (m : ℕ). record { code = m; place = p; file = f }) (sym q))
 
-pub ruleset flat-laws = (load-short, load-done, load-refused, tail-done, tail-refused, spell-short, spell-flat, check-short, check-accepted, check-refused, lines-short, lines-done, lines-over)
+pub ruleset flat-laws = (load-short, load-done, load-refused, tail-done, tail-refused, spell-short, spell-flat, check-short, check-accepted, check-refused, lines-short, lines-done, lines-over, needs)
 
 -- ---- one answer, one content of each lent buffer
 

@@ -114,8 +114,8 @@ fn not_read(name: &[u8], path: &[u8], t: Taken) -> Taken {
     over()
 }
 
-// Keeps the file that was read up to `end`, unless the bundle, with the 2 bytes of its count, is then over 1 MiB.
-fn keep(path: &[u8], end: usize, ends: &mut [usize], t: Taken) -> Taken {
+// Notes the file that was read up to `end`, unless the bundle, with the 2 bytes of its count, is then over 1 MiB.
+fn note_end(path: &[u8], end: usize, ends: &mut [usize], t: Taken) -> Taken {
     let count = t.count;
     if end > 1048574 {
         words::too_large(path);
@@ -167,7 +167,7 @@ fn take_path(path: &[u8], name: &[u8], store: &mut [u8], ends: &mut [usize], t: 
     if read.failed {
         return not_read(name, path, t);
     }
-    keep(path, at + read.have, ends, t)
+    note_end(path, at + read.have, ends, t)
 }
 
 // Takes the file of a name that no taken file has.

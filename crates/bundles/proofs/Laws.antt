@@ -32,6 +32,7 @@ use Rattle.bundles.specs.declared.FileAt.the-variants as file-at
 use Rattle.bundles.specs.declared.Entry.{Entry}
 use Rattle.bundles.specs.declared.Entry.the-variants.{Whole, Cut}
 use Rattle.base.proofs.PickLaws.{pick-true, pick-false, and-assoc}
+use borrow.Author.Needs.{needs}
 
 -- ---- a file at a place
 
@@ -72,7 +73,7 @@ module _ (s : List ℕ) (at : ℕ) (x : Next) (g : x ≡ stringAt s at) where
             within = omega (arith, m .fits);
           }
 
-pub ruleset entry-laws = (entry-cut-name, entry-cut-size, entry-room, entry-cut-content, entry-whole)
+pub ruleset entry-laws = (entry-cut-name, entry-cut-size, entry-room, entry-cut-content, entry-whole, needs)
 
 -- what an answer tells
 module _ (s : List ℕ) (at : ℕ) (x : Entry) (g : EntryIs s at x) where
@@ -115,7 +116,7 @@ module _ (p x : List ℕ) (first : Bool) where
     unfolding isLess
     follows-greater q = sym (ap isLess q) ∙ follows-by
 
-pub ruleset follows-laws = (follows-first, follows-less, follows-equal, follows-greater)
+pub ruleset follows-laws = (follows-first, follows-less, follows-equal, follows-greater, needs)
 
 -- ---- the check: the files that are left, behind the name p unless they are the first
 
@@ -218,7 +219,7 @@ module _ {s : List ℕ} {first : Bool} {from to at left : ℕ} (w : Checking s f
       let none : left ≡ 0 = omega arith in
       sym (w .is ∙ ap (λ (n : ℕ). wellFrom first (take (to - from) (drop from s)) (readMany readFile n (drop at s))) none ∙ well-done _ _ _ ∙ nil-is _ at _ (w .within) (length-drop at s))
 
-pub ruleset check-laws = (name-order, name-fits, check-cut, checking-start, checking-cut, checking-bad, checking-next, checking-done)
+pub ruleset check-laws = (name-order, name-fits, check-cut, checking-start, checking-cut, checking-bad, checking-next, checking-done, needs)
 
 -- ---- the file of a name
 
@@ -293,7 +294,7 @@ module _ {s name : List ℕ} {at left k : ℕ} (w : Seeking s name at left k) wh
   unfolding placeAmong readSome fileNumbers
   seeking-done h = let none : left ≡ 0 = omega arith in sym (w .is ∙ ap (λ (n : ℕ). placeAmong name k at (readSome readFile n (drop at s))) none)
 
-pub ruleset seek-laws = (name-order, name-fits, seek-cut, seeking-start, seeking-cut, seeking-found, seeking-next, seeking-done)
+pub ruleset seek-laws = (name-order, name-fits, seek-cut, seeking-start, seeking-cut, seeking-found, seeking-next, seeking-done, needs)
 
 -- ---- no two answers have the same numbers
 

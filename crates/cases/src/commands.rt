@@ -89,7 +89,7 @@ fn of_one(command: usize, a: &[u8], made: &mut [u8], kept: &[u8]) -> Said {
         LOWER => letters_cases::lower(a, made),
         NAME => said::flag(languages::is_language_name(a)),
         GUESS => packs_cases::guess(kept, a),
-        _ => packs_cases::keep(a),
+        _ => packs_cases::say_if_too_long(a),
     }
 }
 

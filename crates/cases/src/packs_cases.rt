@@ -26,7 +26,7 @@ pub(crate) fn guess(kept: &[u8], name: &[u8]) -> Said {
 }
 
 // `pack HEX`, `bundle HEX`: kept for the lines that follow, unless it is too long.
-pub(crate) fn keep(a: &[u8]) -> Said {
+pub(crate) fn say_if_too_long(a: &[u8]) -> Said {
     if a.len() <= 98304 {
         return Said::Nothing;
     }

@@ -25,7 +25,7 @@ pub(crate) fn expression(e: &[u8], names: &[u8]) -> Said {
     match phonemes::check_expression(e, names) {
         Expression::Good(count) => Said::Alternatives(count),
         Expression::Malformed => Said::Count(said::PLAIN, 14),
-        Expression::Stranger => Said::Count(said::PLAIN, 16),
+        Expression::UnlistedName => Said::Count(said::PLAIN, 16),
     }
 }
 

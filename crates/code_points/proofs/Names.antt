@@ -26,7 +26,7 @@ use Rattle.prefixes.specs.Prefixes.{generic, prefixesOf, prefixFits, firstFit, 
 use Rattle.prefixes.specs.declared.prefixes.NameType.{NameType}
 use Rattle.prefixes.specs.declared.prefixes.NameType.the-variants.{Ashkenazi, Generic, Sephardic}
 use Rattle.prefixes.specs.declared.prefixes.Prefix.{Prefix}
-use Rattle.prefixes.specs.declared.prefixes.Prefix.the-variants.{Parted, Whole}
+use Rattle.prefixes.specs.declared.prefixes.Prefix.the-variants.{Leads, Whole}
 use Rattle.name_parts.specs.Words.{goesOn, led, wordsOf}
 use Rattle.name_parts.specs.Joining.{spaced, joinedName, afterApostrophe, keptOf, dropsOut, remaining, joinedBySpace, joinedWords}
 use Rattle.name_parts.proofs.Laws.{one-is}
@@ -177,7 +177,7 @@ every-by [] e = none
 every-by (p ∷ ps) e = let w = and-inv _ _ e in more (is-border (after border p) (rw (w .0) tt)) (every-by ps (w .1))
 
 PartsFormed : Prefix → Text → Type 0
-PartsFormed (Parted keep skip) s = Formed (take keep s) × Formed (drop skip s)
+PartsFormed (Leads size rest) s = Formed (take size s) × Formed (drop rest s)
 PartsFormed Whole s = Unit {0}
 
 tail-drop : (s : Text) → tail s ≡ drop 1 s
@@ -185,7 +185,7 @@ unfolding tail
 tail-drop [] = refl
 tail-drop (x ∷ s) = refl
 
-fit-formed : (p s : Text) → prefixFits p s ≡ true → Formed p → Formed s → PartsFormed (Parted (length p) (suc (length p))) s
+fit-formed : (p s : Text) → prefixFits p s ≡ true → Formed p → Formed s → PartsFormed (Leads (length p) (suc (length p))) s
 unfolding prefixFits PartsFormed
 fit-formed p s e f g =
     let w = and-inv _ _ e in
@@ -194,7 +194,7 @@ fit-formed p s e f g =
     let rest : tail (drop (length p) s) ≡ drop (suc (length p)) s = tail-drop (drop (length p) s) ∙ drop-drop 1 (length p) s ∙ ap (λ (n : ℕ). drop n s) (add-one (length p)) in
     (rw front f, rw rest at (tail-formed 32 refl (drop (length p) s) (w .1) (behind-formed p s (w .0) f g)))
 
-first-by : (p s : Text) (x : Prefix) (t : Bool) → prefixFits p s ≡ t → Formed p → Formed s → PartsFormed x s → PartsFormed (pick t (Parted (length p) (suc (length p))) x) s
+first-by : (p s : Text) (x : Prefix) (t : Bool) → prefixFits p s ≡ t → Formed p → Formed s → PartsFormed x s → PartsFormed (pick t (Leads (length p) (suc (length p))) x) s
 unfolding pick
 first-by p s x true e f g w = fit-formed p s e f g
 first-by p s x false e f g w = w
@@ -208,7 +208,7 @@ generic-formed : Every Formed (prefixesOf Generic)
 unfolding prefixesOf all isBorder after step plain pick and
 generic-formed = every-by generic refl
 
-split-by : (s : Text) (t : Bool) → prefixOf (100 ∷ 39 ∷ []) s ≡ t → Formed s → PartsFormed (pick t (Parted 1 2) (firstFit (prefixesOf Generic) s)) s
+split-by : (s : Text) (t : Bool) → prefixOf (100 ∷ 39 ∷ []) s ≡ t → Formed s → PartsFormed (pick t (Leads 1 2) (firstFit (prefixesOf Generic) s)) s
 unfolding pick PartsFormed after step plain
 split-by s true e f = (ap (λ (t : Text). after border (take 1 t)) (sym (prefix-split (100 ∷ 39 ∷ []) s e)), behind-formed (100 ∷ 39 ∷ []) s e refl f)
 split-by s false e f = fit-parts s f generic-formed
@@ -227,6 +227,6 @@ word-formed {c} (all-joined {s = s} p q) f = space-formed (remaining-formed (c .
 word-formed (only-word {s = s} p q o) f = first-formed (rw (one-is s o) at (words-formed s f))
 word-formed (of-word {s = s} {t = t} p q o m d) f = word-formed d (every-at (words-formed s f) t m)
 word-formed {c} (of-remainder {s = s} p d) f = word-formed d ((rw p at (parted-formed (c .kind) s f)) .1)
-word-formed {c} (of-joined {s = s} {keep = keep} {skip = skip} p d) f =
+word-formed {c} (of-joined {s = s} {size = size} {rest = rest} p d) f =
     let w = rw p at (parted-formed (c .kind) s f) in
-    word-formed d (formed-append border (take keep s) (drop skip s) (w .0) (w .1))
+    word-formed d (formed-append border (take size s) (drop rest s) (w .0) (w .1))

@@ -21,7 +21,7 @@ use Rattle.name_parts.specs.Words.{oneWord}
 use Rattle.name_parts.specs.Joining.{spaced}
 use Rattle.prefixes.specs.declared.prefixes.NameType.{NameType}
 use Rattle.prefixes.specs.declared.prefixes.Prefix.{Prefix}
-use Rattle.prefixes.specs.declared.prefixes.Prefix.the-variants.{Parted, Whole}
+use Rattle.prefixes.specs.declared.prefixes.Prefix.the-variants.{Leads, Whole}
 use Rattle.name_parts.proofs.Laws.{spaced-long}
 use Rattle.base.proofs.Arms.{clash}
 use Rattle.pack.specs.Packs.{refused, packOf}
@@ -50,13 +50,14 @@ use Rattle.engine.proofs.CallLaws.{fine-name, call-by, known-limits, st
 use Rattle.base.proofs.PickLaws.{pick-true, pick-false, pick-all}
 use Rattle.lower_case.specs.Contracts.{loweredBuffer, LoweredInto}
 use Rattle.pack.specs.Contracts.{guessedAt}
+use borrow.Author.Needs.{needs}
 
 -- ---- a name spelled as one word
 
 module _ (kind : NameType) (name : Text) (x : Prefix) (e : x ≡ partedAs kind name) (u : Bool) where
-  pub single-parted : (keep skip : ℕ) → x ≡ Parted keep skip → false ≡ wholeAnd (partedAs kind name) u
+  pub single-parted : (size rest : ℕ) → x ≡ Leads size rest → false ≡ wholeAnd (partedAs kind name) u
   unfolding wholeAnd
-  single-parted keep skip q = rw (← e, q)
+  single-parted size rest q = rw (← e, q)
 
   pub single-whole : (t : Bool) → x ≡ Whole → t ≡ u → t ≡ wholeAnd (partedAs kind name) u
   unfolding wholeAnd
@@ -64,7 +65,7 @@ module _ (kind : NameType) (name : Text) (x : Prefix) (e : x ≡ partedAs kind n
 
 single-inv : (x : Prefix) (u : Bool) → wholeAnd x u ≡ true → (x ≡ Whole) × (u ≡ true)
 unfolding wholeAnd
-single-inv (Parted keep skip) u e = clash (cc)
+single-inv (Leads size rest) u e = clash (cc)
 single-inv Whole u e = (refl, e)
 
 -- ---- how long it is, and whether it fits
@@ -128,7 +129,7 @@ module _ (a : AnswerEnd) (apart o : List ℕ) where
   unfolding CopyOutIs
   copied-none h = none h refl
 
-pub ruleset copy-laws = (copied-all, copied-long, copied-over, copied-none)
+pub ruleset copy-laws = (copied-all, copied-long, copied-over, copied-none, needs)
 
 -- a name spelled apart, into u, and copied: it is told as a whole
 module _ {u u′ o o₁ : List ℕ} {a : AnswerEnd} where
@@ -197,7 +198,7 @@ module _ {x : Spelt} {u u′ o o₁ : List ℕ} {a : AnswerEnd} {t : Bool} (m : 
       let w : (a .fine ≡ true) × (a .at ≤ length o) × (o₁ ≡ o) = rw n at k in
       again-by x m (w .0) (w .1) (rw (w .2) at q)
 
-pub ruleset lowered-laws = (single-told, kept-told, again-told, zero-le)
+pub ruleset lowered-laws = (single-told, kept-told, again-told, zero-le, needs)
 
 -- what is told as a whole is a call's answer
 answer-told : (x : Spelt) {a : AnswerEnd} {ans : Spelled} {o o′ : List ℕ} → SpeltWhole x o o′ 0 a → ans ≡ answeredBy a (length o′)
@@ -258,7 +259,7 @@ module _ (s : List ℕ) (call : Call) (name low : List ℕ) (by : Call) (w : Low
 pub part-short : (name o : List ℕ) → length name ≤ 96 → length (take (length name - 0) (drop 0 o)) ≤ 96
 part-short name o h = omega (arith, length-take (length name - 0) o)
 
-pub ruleset low-laws = (low-in, low-ready, low-told, part-short)
+pub ruleset low-laws = (low-in, low-ready, low-told, part-short, needs)
 
 -- ---- a name that is fine, on a pack
 
@@ -312,7 +313,7 @@ module _ {s : List ℕ} {table : List (List ℕ)} {q : Request} {name : Text} (w
             → SpellIs (outcomeOn s q name) o ans o′
         opened-told h ea = rw (on-pack ∙ pick-true _ _ _ y ∙ ap outcomeOf (sym spelled-is)) (answer-told (speltFine s call name) h ea)
 
-pub ruleset opened-laws = (opened-broken, opened-few, opened-none, opened-ready, opened-told)
+pub ruleset opened-laws = (opened-broken, opened-few, opened-none, opened-ready, opened-told, needs)
 
 -- ---- the refusals before that
 
@@ -328,7 +329,7 @@ module _ (q : Request) (name : Text) (r : NameCheck) (found : FoundIs (checkedTh
   unfolding foundBy
   at-opened o o′ ans e w = rw (call-by (q .settings) (q .start) name r found s Fine e) w
 
-pub ruleset at-laws = (at-wrong, at-fine, at-opened)
+pub ruleset at-laws = (at-wrong, at-fine, at-opened, needs)
 
 -- the promise of a call allows one answer and one content of the buffer
 pub spell-one : {x : CallOutcome} {out o o′ : List ℕ} {r r′ : Spelled} → SpellIs x out r o → SpellIs x out r′ o′ → (r ≡ r′) × (o ≡ o′)

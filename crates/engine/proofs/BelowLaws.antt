@@ -7,7 +7,7 @@ use Rattle.letters.specs.declared.utf8.Found.{Found}
 use Rattle.letters.specs.declared.utf8.Found.the-variants.{At, Nothing}
 use Rattle.languages.specs.declared.sets.LanguageSet.{LanguageSet}
 use Rattle.prefixes.specs.declared.prefixes.Prefix.{Prefix}
-use Rattle.prefixes.specs.declared.prefixes.Prefix.the-variants.{Parted, Whole}
+use Rattle.prefixes.specs.declared.prefixes.Prefix.the-variants.{Leads, Whole}
 use Rattle.pack.specs.Packs.{Verdict, accepted, refused}
 use Rattle.choices.specs.Texts.{Text}
 use Rattle.choices.specs.Apply.{Entry}
@@ -97,7 +97,7 @@ module _ (afresh : Text → Spelt) (low : (t : Text) → NameBelow (afresh t)) w
 
   prefix-below : (p : Prefix) (s : Text) (whole : Spelt) → NameBelow whole → NameBelow (byPrefix p afresh s whole)
   unfolding byPrefix
-  prefix-below (Parted keep skip) s whole h = both-below _ _ (low _) (low _)
+  prefix-below (Leads size rest) s whole h = both-below _ _ (low _) (low _)
   prefix-below Whole s whole h = h
 
 name-below : (n : ℕ) (c : Steps) → ((g : LanguageSet) (w : Text) → NameBelow (c .word g w)) → (g : LanguageSet) (s : Text)

@@ -47,6 +47,7 @@ use Rattle.engine.specs.declared.spelling.NameCheck.the-variants.{Fine, 
 use Rattle.engine.specs.declared.spelling.Spelled.the-variants as spelled
 use Rattle.base.proofs.PickLaws.{pick-true, pick-false, and-inv, cases}
 use Rattle.languages.specs.Contracts.{BitsBelow}
+use borrow.Author.Needs.{needs}
 
 -- ---- which name is `any`
 
@@ -186,7 +187,7 @@ module _ (s : List ℕ) (t : List (List ℕ)) (r : Surveyed) (w : IndexIs s r t)
           finds = w .found;
         }
 
-pub ruleset open-laws = (open-broken, names-start, names-end, any-there, open-usable)
+pub ruleset open-laws = (open-broken, names-start, names-end, any-there, open-usable, needs)
 
 -- ---- a call of known settings
 
@@ -241,7 +242,7 @@ module _ (c : Settings) (start : Start) (name : Text) (t : Bool) (k : t ≡ sett
   unfolding checkedThen foundBy
   found-unknown e = record { is = λ rest. sym (pick-false _ _ _ (sym k ∙ e)) }
 
-pub ruleset found-laws = (found-long, found-ill, found-outside, found-none, found-known, found-unknown)
+pub ruleset found-laws = (found-long, found-ill, found-outside, found-none, found-known, found-unknown, needs)
 
 -- ---- what that tells
 

@@ -48,6 +48,7 @@ use Rattle.engine.specs.declared.encode.Lists.{Lists}
 use Rattle.base.proofs.PickLaws.{pick-true, pick-false, pick-all, pick-map}
 use Rattle.languages.specs.Contracts.{BitsBelow}
 use Rattle.pack.specs.Contracts.{guessedAt}
+use borrow.Author.Needs.{needs}
 
 -- ---- what a word's answer tells
 
@@ -275,6 +276,7 @@ pub ruleset encode-laws = (
   part-ashkenazi,
   part-sephardic,
   part-generic,
+  needs,
 )
 
 -- ---- a text at the front of a local array
@@ -292,4 +294,4 @@ module _ {o o′ t : List ℕ} {n : ℕ} (x : Put o o′ 0 n t) (h : length t �
 pub joined-few : (kind : NameType) (name : Text) → length name ≤ 96 → length (joinedWords kind name) ≤ 96
 joined-few kind name h = omega (arith, joined-short kind name)
 
-pub ruleset part-laws = (ready-started, part-joined, part-only, front-in, front-is, joined-few)
+pub ruleset part-laws = (ready-started, part-joined, part-only, front-in, front-is, joined-few, needs)

@@ -17,6 +17,7 @@ use Rattle.engine.specs.Contracts.{spelledIn}
 use Rattle.engine.specs.LineContracts.{SpaceOf, answerRoom, behindFilled, BehindIs}
 use Rattle.engine.specs.declared.lines.Space.{Space}
 use Rattle.choices.specs.Texts.{Text}
+use borrow.Author.Needs.{needs}
 
 -- ---- the part of the buffer that is lent
 
@@ -98,4 +99,4 @@ module _ {o : List ℕ} {space : Space} (w : SpaceOf o space) {a e : ℕ} (f : a
       buffer = ap (λ (l : List ℕ). take a o ++ (l ++ drop (e - a) (drop a o))) (p .buffer) ∙ part-filled x;
     }
 
-pub ruleset lent-laws = (lent-order, lent-within, lent-long, behind-is)
+pub ruleset lent-laws = (lent-order, lent-within, lent-long, behind-is, needs)

@@ -24,6 +24,7 @@ use Rattle.engine.specs.declared.lines.Fit.{Fit}
 use Rattle.engine.specs.declared.lines.Fit.the-variants.{Behind, Over}
 use Rattle.engine.specs.declared.spelling.Spelled.the-variants.{Done}
 use Rattle.base.proofs.PickLaws.{pick-true, pick-false, pick-cong, and-rest, and-none}
+use borrow.Author.Needs.{needs}
 
 -- ---- a number
 
@@ -253,4 +254,5 @@ pub ruleset lines-laws = (
   room-small,
   waits-room,
   waits-other,
+  needs,
 )

@@ -30,6 +30,7 @@ use Rattle.engine.specs.declared.spelling.Spelled.the-variants.{Done}
 use Rattle.base.proofs.PickLaws.{pick-true, pick-false, pick-all}
 use Rattle.engine.proofs.LineLaws.{answer-long}
 use Rattle.engine.proofs.NameLineLaws.{line-answer, line-long, line-other}
+use borrow.Author.Needs.{needs}
 
 -- ---- the promise
 
@@ -341,4 +342,4 @@ module _ {call : Text → CallOutcome} {block o₀ o : List ℕ} {size read writ
       pub going-next : (read′ : ℕ) → read′ ≡ read + n + 1 → Going call block o₀ o′ size read′ at
       going-next read′ er = rw er going-on
 
-pub ruleset going-laws = (going-in, going-start, going-long, going-stays, going-room, going-end, going-most, going-less, going-stop, going-next)
+pub ruleset going-laws = (going-in, going-start, going-long, going-stays, going-room, going-end, going-most, going-less, going-stop, going-next, needs)

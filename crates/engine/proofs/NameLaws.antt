@@ -28,75 +28,76 @@ use Rattle.engine.proofs.SpellingLaws.{not-or, parted-split, name-parte
 use Rattle.engine.proofs.IntoLaws.{both-told, bracketed-told, WordsHeld, held-start, held-end, held-shorter, held-less, held-place, held-turn}
 use Rattle.engine.proofs.EncodeLaws.{ready-afresh, afresh-told, front-in}
 use Rattle.base.proofs.Stores.{rest-is}
+use borrow.Author.Needs.{needs}
 
 -- the measures: twice a name's length for its words, one more for the name, and two for it between brackets
 
 -- ---- a name with a prefix: it stands within the name, and both parts are shorter
 
 module _ (kind : NameType) (name : Text) (x : Prefix) (e : x ≡ partedAs kind name) where
-  pub join-parted : (keep skip n : ℕ) (o o′ : List ℕ) → (length name ≤ 96) × (length o ≡ 96) → x ≡ prefix.Parted keep skip
-      → Put o o′ 0 n (joinedName keep skip name)
-      → JoinedIs kind name o′ (joined.Parted skip n)
+  pub join-parted : (size rest n : ℕ) (o o′ : List ℕ) → (length name ≤ 96) × (length o ≡ 96) → x ≡ prefix.Leads size rest
+      → Put o o′ 0 n (joinedName size rest name)
+      → JoinedIs kind name o′ (joined.Prefixed rest n)
   unfolding JoinedIs
-  join-parted keep skip n o o′ h q p =
+  join-parted size rest n o o′ h q p =
       let here = sym e ∙ q in
-      let few = joined-shorter name keep skip (parted-split kind name keep skip here) in
-      record { keep = keep; parted = here; inside = front-in p (omega (arith, h .0)) (h .1); text = put-fits p (omega (arith, h .0, h .1)) .1 }
+      let few = joined-shorter name size rest (parted-split kind name size rest here) in
+      record { size = size; parted = here; inside = front-in p (omega (arith, h .0)) (h .1); text = put-fits p (omega (arith, h .0, h .1)) .1 }
 
   pub join-whole : (o : List ℕ) → x ≡ prefix.Whole → JoinedIs kind name o joined.Whole
   unfolding JoinedIs
   join-whole o q = sym e ∙ q
 
-pub ruleset join-laws = (join-parted, join-whole)
+pub ruleset join-laws = (join-parted, join-whole, needs)
 
-module _ (kind : NameType) (name : Text) (u : List ℕ) (x : Joined) (w : JoinedIs kind name u x) (skip n : ℕ) (q : x ≡ joined.Parted skip n) where
-  at-parted : JoinedAt kind name u skip n
+module _ (kind : NameType) (name : Text) (u : List ℕ) (x : Joined) (w : JoinedIs kind name u x) (rest n : ℕ) (q : x ≡ joined.Prefixed rest n) where
+  at-parted : JoinedAt kind name u rest n
   unfolding JoinedIs
   at-parted = rw q at w
 
-  split-here : splitOf name ≡ prefix.Parted (at-parted .keep) skip
-  split-here = parted-split kind name (at-parted .keep) skip (at-parted .parted)
+  split-here : splitOf name ≡ prefix.Leads (at-parted .size) rest
+  split-here = parted-split kind name (at-parted .size) rest (at-parted .parted)
 
-  pub skip-within : skip ≤ length name
-  skip-within = split-within name _ skip split-here .1
+  pub rest-within : rest ≤ length name
+  rest-within = split-within name _ rest split-here .1
 
-  rest-less : length (take (length name - skip) (drop skip name)) < length name
-  rest-less = rw (rest-is name skip) (rest-shorter name _ skip split-here)
+  rest-less : length (take (length name - rest) (drop rest name)) < length name
+  rest-less = rw (rest-is name rest) (rest-shorter name _ rest split-here)
 
   pub joined-in : n ≤ length u
   joined-in = at-parted .inside
 
-  joined-is : take (n - 0) (drop 0 u) ≡ joinedName (at-parted .keep) skip name
+  joined-is : take (n - 0) (drop 0 u) ≡ joinedName (at-parted .size) rest name
   joined-is = rw (sub-zero n) (at-parted .text)
 
   joined-less : length (take (n - 0) (drop 0 u)) < length name
-  joined-less = rw joined-is (joined-shorter name _ skip split-here)
+  joined-less = rw joined-is (joined-shorter name _ rest split-here)
 
   module _ (t : ℕ) (h : length name * 2 + 1 ≡ t) where
-    pub rest-falls : length (take (length name - skip) (drop skip name)) * 2 + 2 < t
+    pub rest-falls : length (take (length name - rest) (drop rest name)) * 2 + 2 < t
     rest-falls = omega (arith, h, rest-less)
 
     pub joined-falls : length (take (n - 0) (drop 0 u)) * 2 + 2 < t
     joined-falls = omega (arith, h, joined-less)
 
   module _ (s : List ℕ) (table : List (List ℕ)) (call : Call) (at : ℕ) (a : Asks s table call name at) where
-    pub rest-asks : Asks s table call (take (length name - skip) (drop skip name)) at
+    pub rest-asks : Asks s table call (take (length name - rest) (drop rest name)) at
     rest-asks = record { ready = a .ready; short = omega (arith, a .short, rest-less); place = a .place }
 
     pub joined-asks : (p : ℕ) → p ≤ cap → Asks s table call (take (n - 0) (drop 0 u)) p
     joined-asks p h = record { ready = a .ready; short = omega (arith, a .short, joined-less); place = h }
 
 module _ (s : List ℕ) (call : Call) (name : Text) (u : List ℕ) (x : Joined) (w : JoinedIs (call .kind) name u x) where
-  pub parted-told : (skip n : ℕ) → x ≡ joined.Parted skip n → (o o₁ o₂ o₃ : List ℕ) (at p : ℕ) (a b r : AnswerEnd)
-      → SpeltInto (bracketed (speltAfresh s call (take (length name - skip) (drop skip name)))) o o₁ at a → Put o₁ o₂ (a .at) p (45 ∷ [])
+  pub parted-told : (rest n : ℕ) → x ≡ joined.Prefixed rest n → (o o₁ o₂ o₃ : List ℕ) (at p : ℕ) (a b r : AnswerEnd)
+      → SpeltInto (bracketed (speltAfresh s call (take (length name - rest) (drop rest name)))) o o₁ at a → Put o₁ o₂ (a .at) p (45 ∷ [])
       → SpeltInto (bracketed (speltAfresh s call (take (n - 0) (drop 0 u)))) o₂ o₃ p b → r ≡ bothOf b a (b .at)
       → SpeltInto (speltName s call name) o o₃ at r
   unfolding speltName speltAfresh stepsAt stepsBy
-  parted-told skip n q o o₁ o₂ o₃ at p a b r ta middle tb h =
+  parted-told rest n q o o₁ o₂ o₃ at p a b r ta middle tb h =
       rw (
-        name-parted (stepsAt s call) (startAt s call name) name _ skip (at-parted _ name u x w skip n q .parted),
-        ← rest-is name skip,
-        ← joined-is _ name u x w skip n q,
+        name-parted (stepsAt s call) (startAt s call name) name _ rest (at-parted _ name u x w rest n q .parted),
+        ← rest-is name rest,
+        ← joined-is _ name u x w rest n q,
       ) (both-told _ _ ta middle tb h)
 
   module _ (q : x ≡ joined.Whole) (t : Bool) (et : t ≡ pick (call .concat) true (oneWord name)) (o o′ : List ℕ) (at : ℕ) (r : AnswerEnd) where
@@ -157,10 +158,10 @@ module _ (o o₁ o₂ : List ℕ) (e : length o₁ ≡ length o) (e′ : length 
   pub long-three : (o₃ : List ℕ) → length o₃ ≡ length o₂ → length o₃ ≡ length o
   long-three o₃ h = h ∙ long-two
 
-pub ruleset bracketed-laws = (again-asks, put-place, between-told, long-three)
+pub ruleset bracketed-laws = (again-asks, put-place, between-told, long-three, needs)
 
 pub ruleset name-laws = (
-  skip-within,
+  rest-within,
   rest-falls,
   rest-asks,
   joined-in,
@@ -172,6 +173,7 @@ pub ruleset name-laws = (
   whole-words,
   several,
   long-three,
+  needs,
 )
 
-pub ruleset words-laws = (held-start, word-falls, word-asks, held-less, held-turn, words-told, afresh-told, long-two)
+pub ruleset words-laws = (held-start, word-falls, word-asks, held-less, held-turn, words-told, afresh-told, long-two, needs)

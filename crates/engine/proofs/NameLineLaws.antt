@@ -28,6 +28,7 @@ use Rattle.base.proofs.PickLaws.{pick-true, pick-false, and-first, and-inv}
 use Rattle.engine.specs.Contracts.{spelledIn}
 use Rattle.engine.proofs.LineLaws.{answer-long, answer-stands, line-told, needed-nine, needed-other, sets-none, told-nine}
 use Rattle.engine.proofs.BelowLaws.{Below, call-below}
+use borrow.Author.Needs.{needs}
 
 -- ---- the line of a name
 
@@ -190,4 +191,4 @@ module _ {o : List ℕ} {space : Space} (w : SpaceOf o space) where
           → RefusedIs code place o₁ o₂ space r → LineFor x o o₂ space r
       put-refused {why} low q n d = line-refused why (refused-of space o o₁ s x why _ low p q) (rw n at d)
 
-pub ruleset put-laws = (space-in, put-done, put-refused, call-below)
+pub ruleset put-laws = (space-in, put-done, put-refused, call-below, needs)

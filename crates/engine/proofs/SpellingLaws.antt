@@ -17,7 +17,7 @@ use Rattle.name_parts.specs.Joining.{joinedName}
 use Rattle.prefixes.specs.declared.prefixes.NameType.{NameType}
 use Rattle.prefixes.specs.declared.prefixes.NameType.the-variants.{Ashkenazi, Generic, Sephardic}
 use Rattle.prefixes.specs.declared.prefixes.Prefix.{Prefix}
-use Rattle.prefixes.specs.declared.prefixes.Prefix.the-variants.{Parted, Whole}
+use Rattle.prefixes.specs.declared.prefixes.Prefix.the-variants.{Leads, Whole}
 use Rattle.name_parts.proofs.Laws.{words-none, words-next, word-later, past-within, word-shorter, rest-shorter, joined-shorter}
 use Rattle.base.proofs.Arms.{clash}
 use Rattle.engine.specs.Spelling.{Spelt, Steps, both, hyphened, andWords, eachWord, onePart, byWords, partedAs, byPrefix, nameBy, nameFrom, spelledName, afreshBy}
@@ -40,11 +40,11 @@ each-alike f g [] a = refl
 each-alike f g (w ∷ ws) a = rw (a .0) (and-alike f g (g w) ws (a .1))
 
 -- only Generic names are parted
-pub parted-split : (kind : NameType) (s : Text) (keep skip : ℕ) → partedAs kind s ≡ Parted keep skip → splitOf s ≡ Parted keep skip
+pub parted-split : (kind : NameType) (s : Text) (size rest : ℕ) → partedAs kind s ≡ Leads size rest → splitOf s ≡ Leads size rest
 unfolding partedAs
-parted-split Ashkenazi s keep skip e = clash (cc)
-parted-split Generic s keep skip e = e
-parted-split Sephardic s keep skip e = clash (cc)
+parted-split Ashkenazi s size rest e = clash (cc)
+parted-split Generic s size rest e = e
+parted-split Sephardic s size rest e = clash (cc)
 
 pub not-or : (t u : Bool) → pick t true u ≡ false → u ≡ false
 unfolding pick
@@ -80,9 +80,9 @@ module _ (f g : Text → Spelt) (s : Text) (alike : (t : Text) → length t < le
 
   prefix-alike : (kind : NameType) (x : Prefix) (a b : Spelt) → partedAs kind s ≡ x → a ≡ b → byPrefix x f s a ≡ byPrefix x g s b
   unfolding byPrefix
-  prefix-alike kind (Parted keep skip) a b e h =
-      let q = parted-split kind s keep skip e in
-      ap₂ both (alike _ (rest-shorter s keep skip q)) (alike _ (joined-shorter s keep skip q))
+  prefix-alike kind (Leads size rest) a b e h =
+      let q = parted-split kind s size rest e in
+      ap₂ both (alike _ (rest-shorter s size rest q)) (alike _ (joined-shorter s size rest q))
   prefix-alike kind Whole a b e h = h
 
   name-alike : (c : Steps) (l : LanguageSet) → nameBy c f l s ≡ nameBy c g l s
@@ -105,10 +105,10 @@ name-once c l s = name-alike _ _ s (λ t m. enough (length s) (suc (length t)) c
 -- ---- the three ways of a name
 
 module _ (c : Steps) (l : LanguageSet) (s : Text) where
-  pub name-parted : (keep skip : ℕ) → partedAs (c .kind) s ≡ Parted keep skip
-      → spelledName c l s ≡ both (afreshBy c (drop skip s)) (afreshBy c (joinedName keep skip s))
+  pub name-parted : (size rest : ℕ) → partedAs (c .kind) s ≡ Leads size rest
+      → spelledName c l s ≡ both (afreshBy c (drop rest s)) (afreshBy c (joinedName size rest s))
   unfolding nameBy byPrefix
-  name-parted keep skip e = name-once c l s ∙ rw e refl
+  name-parted size rest e = name-once c l s ∙ rw e refl
 
   module _ (e : partedAs (c .kind) s ≡ Whole) where
     name-whole : spelledName c l s ≡ byWords c (afreshBy c) l s

@@ -142,14 +142,14 @@ bracketed (unspelt why) = unspelt why
 bracketed (speltAs t f) = speltAs ((40 ∷ []) ++ (t ++ (41 ∷ []))) f
 
 -- a name's prefix joined to its remainder, at the front of a buffer
-pub record JoinedAt (kind : NameType) (name : Text) (u : List ℕ) (skip n : ℕ) : Type 0 where
-  pub keep : ℕ
-  pub parted : partedAs kind name ≡ prefix.Parted keep skip
+pub record JoinedAt (kind : NameType) (name : Text) (u : List ℕ) (rest n : ℕ) : Type 0 where
+  pub size : ℕ
+  pub parted : partedAs kind name ≡ prefix.Leads size rest
   pub inside : n ≤ length u
-  pub text : take n u ≡ joinedName keep skip name
+  pub text : take n u ≡ joinedName size rest name
 
 unfoldable pub JoinedIs : NameType → Text → List ℕ → Joined → Type 0
-JoinedIs kind name u (joined.Parted skip n) = JoinedAt kind name u skip n
+JoinedIs kind name u (joined.Prefixed rest n) = JoinedAt kind name u rest n
 JoinedIs kind name u joined.Whole = partedAs kind name ≡ prefix.Whole
 
 -- a lower-cased name at the front of a buffer, its hyphens made spaces, and the call with its set
@@ -253,5 +253,5 @@ answeredBy a room =
 
 -- a name with no prefix, of which a test holds
 unfoldable pub wholeAnd : Prefix → Bool → Bool
-wholeAnd (prefix.Parted keep skip) t = false
+wholeAnd (prefix.Leads size rest) t = false
 wholeAnd prefix.Whole t = t

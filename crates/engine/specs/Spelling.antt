@@ -13,7 +13,7 @@ use Rattle.name_parts.specs.Joining.{joinedName, joinedWords}
 use Rattle.prefixes.specs.declared.prefixes.NameType.{NameType}
 use Rattle.prefixes.specs.declared.prefixes.NameType.the-variants.{Ashkenazi, Generic, Sephardic}
 use Rattle.prefixes.specs.declared.prefixes.Prefix.{Prefix}
-use Rattle.prefixes.specs.declared.prefixes.Prefix.the-variants.{Parted, Whole}
+use Rattle.prefixes.specs.declared.prefixes.Prefix.the-variants.{Leads, Whole}
 
 -- an answer's text and flag, or a refusal (7 or 8)
 pub data Spelt : Type 0 where
@@ -70,7 +70,7 @@ partedAs Generic s = splitOf s
 partedAs Sephardic s = Whole
 
 unfoldable pub byPrefix : Prefix → (Text → Spelt) → Text → Spelt → Spelt
-byPrefix (Parted keep skip) afresh s whole = both (afresh (drop skip s)) (afresh (joinedName keep skip s))
+byPrefix (Leads size rest) afresh s whole = both (afresh (drop rest s)) (afresh (joinedName size rest s))
 byPrefix Whole afresh s whole = whole
 
 unfoldable pub nameBy : Steps → (Text → Spelt) → LanguageSet → Text → Spelt

@@ -45,7 +45,7 @@ pub struct Lists {
 
 // Whether a name has a prefix: where its remainder begins, and how long the joined name is.
 pub enum Joined {
-    Parted { skip: usize, length: usize },
+    Prefixed { rest: usize, length: usize },
     Whole,
 }
 
@@ -193,9 +193,9 @@ fn join_parts(kind: NameType, name: &[u8], joined: &mut [u8]) -> Joined
     ensures { λ r. ⌜ JoinedIs kind (now (name .entry)) (now (joined .exit)) r ⌝ }
 {
     match part_of(kind, name) {
-        Prefix::Parted { keep, skip } => Joined::Parted {
-            skip,
-            length: name_parts::join_prefix(name, keep, skip, joined),
+        Prefix::Leads { size, rest } => Joined::Prefixed {
+            rest,
+            length: name_parts::join_prefix(name, size, rest, joined),
         },
         Prefix::Whole => Joined::Whole,
     }
@@ -253,8 +253,8 @@ pub(crate) fn spell_name(
     let kind = call.kind;
     let mut joined = [0u8; 96];
     match join_parts(kind, name, &mut joined) {
-        Joined::Parted { skip, length } => {
-            let a = spell_bracketed(store, slots, pack, table, call, &name[skip..], out, at);
+        Joined::Prefixed { rest, length } => {
+            let a = spell_bracketed(store, slots, pack, table, call, &name[rest..], out, at);
             let p = writing::push(out, a.at, b'-');
             let b = spell_bracketed(store, slots, pack, table, call, &joined[0..length], out, p);
             both(b, a, b.at)

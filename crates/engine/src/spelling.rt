@@ -115,7 +115,7 @@ fn is_single(call: Call, name: &[u8]) -> bool
 {
     let kind = call.kind;
     match part_of(kind, name) {
-        Prefix::Parted { keep: _, skip: _ } => false,
+        Prefix::Leads { size: _, rest: _ } => false,
         Prefix::Whole => is_one_part(call, name),
     }
 }
@@ -172,7 +172,7 @@ fn lower_name(pack: &[u8], call: Call, name: &[u8], low: &mut [u8]) -> Call
     let n = name.len();
     lower_case::lower_into(name, low);
     let by = start_at(pack, call, &low[0..n]);
-    name_parts::part_hyphens(low);
+    name_parts::replace_hyphens(low);
     by
 }
 

@@ -8,13 +8,13 @@ use Rattle.languages.specs.declared.sets.LanguageSet.{LanguageSet}
 use Rattle.languages.specs.declared.sets.LanguageSet.the-variants.{Any, SomeLanguages}
 use Rattle.phonemes.specs.Expressions.{piecesIn, textOf, setOf, checkedOf}
 use Rattle.phonemes.specs.declared.answers.Expression.{Expression}
-use Rattle.phonemes.specs.declared.answers.Expression.the-variants.{Good, Malformed, Stranger}
+use Rattle.phonemes.specs.declared.answers.Expression.the-variants.{Good, Malformed, UnlistedName}
 use Rattle.regex_optim.specs.Contexts.{leftForm, fits}
 use lib.ListN.{drop}
 use Rattle.prefixes.specs.Prefixes.{splitOf}
 use Rattle.name_parts.specs.Joining.{joinedName}
 use Rattle.prefixes.specs.declared.prefixes.Prefix.{Prefix}
-use Rattle.prefixes.specs.declared.prefixes.Prefix.the-variants.{Parted, Whole}
+use Rattle.prefixes.specs.declared.prefixes.Prefix.the-variants.{Leads, Whole}
 use Rattle.choices.specs.Apply.{Entry, start}
 use Rattle.phoneme_builder.specs.Passes.{offered, rule, letter, Ran, ran, run}
 
@@ -46,7 +46,7 @@ alternative t s = record { text = t; set = s }
 unfoldable pub told : Expression → List ℕ → Shown
 told (Good n) e = alternatives (map (λ (a : List ℕ). alternative (textOf a) (setOf names a)) (piecesIn e))
 told Malformed e = refusal 14
-told Stranger e = refusal 16
+told UnlistedName e = refusal 16
 
 unfoldable pub expression : List ℕ → Shown
 expression e = told (checkedOf names e) e
@@ -65,7 +65,7 @@ appending c l = spellings (run true 5 (letter c ∷ []) l)
 
 -- a Generic name's remainder and joined name
 unfoldable pub partsBy : Prefix → List ℕ → Shown
-partsBy (Parted keep skip) s = parts (drop skip s) (joinedName keep skip s)
+partsBy (Leads size rest) s = parts (drop rest s) (joinedName size rest s)
 partsBy Whole s = unparted
 
 unfoldable pub partsOf : List ℕ → Shown

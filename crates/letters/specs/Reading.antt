@@ -1,8 +1,8 @@
 -- A slice read as characters, one after the other, and what the paper asks of it.
 use Prim.Native.Nat.{ℕ, zero, suc, _+_}
-use mathlib.Core.Bool.{Bool, true, false}
-use mathlib.Core.List.{List, [], _∷_, _++_}
-use lib.Dec.{ltb, leb, eqb}
+use mathlib.Core.Bool.{Bool, false}
+use mathlib.Core.List.{List, [], _∷_}
+use lib.Dec.{leb, eqb}
 use lib.ListN.{length, getD}
 use Rattle.base.specs.Pick.{pick}
 use Rattle.letters.specs.Utf8.{within, decodeAt}

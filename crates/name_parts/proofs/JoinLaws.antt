@@ -142,11 +142,11 @@ drop-from s i r e = rest-is s r ∙ elim (decLe i (length s)) [
       drop-of-length-le s end ∙ sym (drop-of-length-le s past)
 ]
 
-pub name-joined : (s o o₁ o₂ : List ℕ) (keep skip k r p q : ℕ) → k ≡ min keep (length s) → r ≡ min skip (length s)
-    → Put o o₁ 0 p (take (k - 0) (drop 0 s)) → Put o₁ o₂ p q (take (length s - r) (drop r s)) → Put o o₂ 0 q (joinedName keep skip s)
+pub name-joined : (s o o₁ o₂ : List ℕ) (size rest k r p q : ℕ) → k ≡ min size (length s) → r ≡ min rest (length s)
+    → Put o o₁ 0 p (take (k - 0) (drop 0 s)) → Put o₁ o₂ p q (take (length s - r) (drop r s)) → Put o o₂ 0 q (joinedName size rest s)
 unfolding joinedName
-name-joined s o o₁ o₂ keep skip k r p q ek er x y =
-    rw (take-to s keep k ek, drop-from s skip r er) at (put-then x y)
+name-joined s o o₁ o₂ size rest k r p q ek er x y =
+    rw (take-to s size k ek, drop-from s rest r er) at (put-then x y)
 
 -- ---- a word and the place behind it
 module _ (s : List ℕ) (p : ℕ) (w : List ℕ) (ew : w ≡ wordAt s p) (h : length w ≡ 0 → ⊥) (q : ℕ) (eq : q ≡ pastWord s p) where

@@ -20,7 +20,7 @@ use Rattle.name_parts.specs.Joining.{spaced, joinedName, afterApostrophe
 use Rattle.prefixes.specs.declared.prefixes.NameType.{NameType}
 use Rattle.prefixes.specs.declared.prefixes.NameType.the-variants.{Ashkenazi, Generic, Sephardic}
 use Rattle.prefixes.specs.declared.prefixes.Prefix.{Prefix}
-use Rattle.prefixes.specs.declared.prefixes.Prefix.the-variants.{Parted}
+use Rattle.prefixes.specs.declared.prefixes.Prefix.the-variants.{Leads}
 use Rattle.base.proofs.PickLaws.{pick-true, pick-false, pick-all, and-inv}
 
 -- ---- the first word of a text, and what follows it
@@ -238,36 +238,36 @@ filled ([] ∷ ps) = false
 filled ((b ∷ p) ∷ ps) = filled ps
 
 abbrev Parts : List ℕ → ℕ → ℕ → Type 0
-Parts s keep skip = (keep < skip) × (skip ≤ length s) × (1 ≤ keep)
+Parts s size rest = (size < rest) × (rest ≤ length s) × (1 ≤ size)
 
-fit-by : (s : List ℕ) (keep skip n : ℕ) (x : Prefix) (t : Bool) → (t ≡ true → suc n < length s) → (x ≡ Parted keep skip → Parts s keep skip)
-    → pick t (Parted (suc n) (suc (suc n))) x ≡ Parted keep skip → Parts s keep skip
+fit-by : (s : List ℕ) (size rest n : ℕ) (x : Prefix) (t : Bool) → (t ≡ true → suc n < length s) → (x ≡ Leads size rest → Parts s size rest)
+    → pick t (Leads (suc n) (suc (suc n))) x ≡ Leads size rest → Parts s size rest
 unfolding pick
-fit-by s keep skip n x true h ih e =
-    let k : suc n ≡ keep = cc in
-    let l : suc (suc n) ≡ skip = cc in
+fit-by s size rest n x true h ih e =
+    let k : suc n ≡ size = cc in
+    let l : suc (suc n) ≡ rest = cc in
     let m = h refl in
     (omega arith, omega arith, omega arith)
-fit-by s keep skip n x false h ih e = ih e
+fit-by s size rest n x false h ih e = ih e
 
-fit-within : (ps : List (List ℕ)) (s : List ℕ) (keep skip : ℕ) → filled ps ≡ true → firstFit ps s ≡ Parted keep skip → Parts s keep skip
+fit-within : (ps : List (List ℕ)) (s : List ℕ) (size rest : ℕ) → filled ps ≡ true → firstFit ps s ≡ Leads size rest → Parts s size rest
 unfolding filled firstFit
-fit-within [] s keep skip f e = clash (cc)
-fit-within ([] ∷ ps) s keep skip f e = clash (cc)
-fit-within ((b ∷ p) ∷ ps) s keep skip f e = fit-by s keep skip (length p) _ _ (fits-within (b ∷ p) s) (fit-within ps s keep skip f) e
+fit-within [] s size rest f e = clash (cc)
+fit-within ([] ∷ ps) s size rest f e = clash (cc)
+fit-within ((b ∷ p) ∷ ps) s size rest f e = fit-by s size rest (length p) _ _ (fits-within (b ∷ p) s) (fit-within ps s size rest f) e
 
-module _ (s : List ℕ) (keep skip : ℕ) (e : splitOf s ≡ Parted keep skip) where
+module _ (s : List ℕ) (size rest : ℕ) (e : splitOf s ≡ Leads size rest) where
   -- the prefix is not empty, the remainder stands behind it, and both within the name
-  pub split-within : (keep < skip) × (skip ≤ length s) × (1 ≤ keep)
+  pub split-within : (size < rest) × (rest ≤ length s) × (1 ≤ size)
   unfolding splitOf prefixesOf filled
-  split-within = fit-by s keep skip 0 _ _ (prefix-within (100 ∷ 39 ∷ []) s) (fit-within generic s keep skip refl) e
+  split-within = fit-by s size rest 0 _ _ (prefix-within (100 ∷ 39 ∷ []) s) (fit-within generic s size rest refl) e
 
-  pub rest-shorter : length (drop skip s) < length s
-  rest-shorter = let w = split-within in omega (arith, length-drop skip s)
+  pub rest-shorter : length (drop rest s) < length s
+  rest-shorter = let w = split-within in omega (arith, length-drop rest s)
 
-  pub joined-shorter : length (joinedName keep skip s) < length s
+  pub joined-shorter : length (joinedName size rest s) < length s
   unfolding joinedName
-  joined-shorter = let w = split-within in omega (arith, length-append (take keep s) (drop skip s), length-take keep s, length-drop skip s)
+  joined-shorter = let w = split-within in omega (arith, length-append (take size s) (drop rest s), length-take size s, length-drop rest s)
 
 -- ---- joined words are no longer than their name
 

@@ -1,6 +1,6 @@
 -- Texts that are spelled in a name's place (01, Spelling a name, steps 2, 3 and 5).
 use Prim.Native.Nat.{ℕ}
-use mathlib.Core.Bool.{Bool, true, false}
+use mathlib.Core.Bool.{Bool, false}
 use mathlib.Core.List.{List, [], _∷_, _++_, map}
 use lib.Dec.{eqb}
 use lib.ListN.{take, drop}
@@ -17,7 +17,7 @@ spaced s = map (λ (b : ℕ). pick (eqb b 45) 32 b) s
 
 -- "prefix joined to remainder"
 unfoldable pub joinedName : ℕ → ℕ → List ℕ → List ℕ
-joinedName keep skip s = take keep s ++ drop skip s
+joinedName size rest s = take size s ++ drop rest s
 
 -- what follows the last apostrophe, or the whole word
 unfoldable pub afterApostrophe : List ℕ → List ℕ

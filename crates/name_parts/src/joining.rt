@@ -17,19 +17,19 @@ use writing::copy;
 use writing::push;
 
 // A hyphen as a space.
-fn parted(b: u8) -> u8
+fn replace_hyphen(b: u8) -> u8
     ensures { λ r. ⌜ r ≡ pick (eqb b 45) 32 b ⌝ }
 {
     if b == b'-' { b' ' } else { b }
 }
 
 // "Hyphens become spaces", where the name stands.
-pub fn part_hyphens(name: &mut [u8])
+pub fn replace_hyphens(name: &mut [u8])
     ensures { λ r. ⌜ now (name .exit) ≡ spaced (now (name .entry)) ⌝ }
 {
     let mut i: usize = 0;
     while i < name.len() {
-        name[i] = parted(name[i]);
+        name[i] = replace_hyphen(name[i]);
         i += 1;
     }
 }
@@ -42,13 +42,13 @@ fn place_in(s: &[u8], i: usize) -> usize
 }
 
 // The prefix joined to the remainder, at the front of `to`, as far as there is room. Returns its length.
-pub fn join_prefix(s: &[u8], keep: usize, skip: usize, to: &mut [u8]) -> usize
-    ensures { λ r. ⌜ Put (now (to .entry)) (now (to .exit)) 0 r (joinedName keep skip (now (s .entry))) ⌝ }
+pub fn join_prefix(s: &[u8], size: usize, rest: usize, to: &mut [u8]) -> usize
+    ensures { λ r. ⌜ Put (now (to .entry)) (now (to .exit)) 0 r (joinedName size rest (now (s .entry))) ⌝ }
 {
-    let k = place_in(s, keep);
+    let k = place_in(s, size);
     let p = copy(&s[0..k], to, 0);
-    let rest = place_in(s, skip);
-    copy(&s[rest..], to, p)
+    let r = place_in(s, rest);
+    copy(&s[r..], to, p)
 }
 
 // What follows the word's last apostrophe, or the word.

@@ -4,7 +4,7 @@ pub mod words;
 
 pub use joining::join_prefix;
 pub use joining::join_words;
-pub use joining::part_hyphens;
+pub use joining::replace_hyphens;
 pub use words::next_word;
 pub use words::one_word;
 pub use words::past_word;

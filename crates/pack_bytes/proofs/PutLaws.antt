@@ -6,6 +6,7 @@ use Rattle.writing.specs.Contracts.{Put}
 use Rattle.writing.proofs.Laws.{put-then}
 use Rattle.pack_bytes.specs.Bytes.{countBytes, maskBytes}
 use Rattle.pack_bytes.specs.Contracts.{textPut}
+use borrow.Author.Needs.{needs}
 
 module _ (o o₁ o₂ : List ℕ) (at p q : ℕ) where
   pub text-put : (s : List ℕ) → Put o o₁ at p ((length s % 256) ∷ []) → Put o₁ o₂ p q s → Put o o₂ at q (textPut s)
@@ -20,4 +21,4 @@ module _ (o o₁ o₂ : List ℕ) (at p q : ℕ) where
   unfolding maskBytes
   mask-put n x y = put-then x y
 
-pub ruleset put-laws = (text-put, count-put, mask-put)
+pub ruleset put-laws = (text-put, count-put, mask-put, needs)

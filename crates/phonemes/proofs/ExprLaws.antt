@@ -24,7 +24,7 @@ use specs.Expressions.{round, unround, bar, plus, opening, closing, cutAt, insid
 use specs.Contracts.{hasExtra, listedPiece, expressionTold, judgedPieces, pieceFrom}
 use specs.declared
 use declared.answers.Expression.{Expression}
-use declared.answers.Expression.the-variants.{Good, Malformed, Stranger}
+use declared.answers.Expression.the-variants.{Good, Malformed, UnlistedName}
 use declared.answers.Alternative.the-variants.{At}
 use Rattle.base.proofs.PickLaws.{pick-true, pick-false, pick-cong, and-first}
 
@@ -87,9 +87,9 @@ module _ (a : List ℕ) (p : ℕ) (e : p ≡ placeOf opening a) where
       unfolding setOf maskSet
       set-box k h q = sym (pick-true _ _ _ (has-yes h) ∙ ap maskSet (sym f ∙ q))
 
-      pub set-stranger : p < length a → m ≡ Unlisted → SomeLanguages 0 ≡ setOf names a
+      pub set-unlisted : p < length a → m ≡ Unlisted → SomeLanguages 0 ≡ setOf names a
       unfolding setOf maskSet
-      set-stranger h q = sym (pick-true _ _ _ (has-yes h) ∙ ap maskSet (sym f ∙ q))
+      set-unlisted h q = sym (pick-true _ _ _ (has-yes h) ∙ ap maskSet (sym f ∙ q))
 
 module _ (names a : List ℕ) (m : Listed) (f : m ≡ pieceMask names a) where
   pub listed-yes : (k : ℕ) → m ≡ Bit k → true ≡ listedPiece names a
@@ -112,7 +112,7 @@ piece-is names a start p s e f = ap₂ (λ (n : ℕ) (x : LanguageSet). At start
 pub piece-fits : (b : ℕ) (a : List ℕ) (start p : ℕ) → p ≡ placeOf b a → start + length a < 2 ^ 64 → Fits w64 (start + p)
 piece-fits b a start p e h = record { fits = omega (arith, place-most b a) }
 
-pub ruleset piece-laws = (inside-none, inside-some, box-open, box-some, formed-box, formed-plain, mask-box, mask-plain, set-plain, set-box, set-stranger, listed-yes, listed-no, piece-is, piece-fits, needs)
+pub ruleset piece-laws = (inside-none, inside-some, box-open, box-some, formed-box, formed-plain, mask-box, mask-plain, set-plain, set-box, set-unlisted, listed-yes, listed-no, piece-is, piece-fits, needs)
 
 -- ---- an expression is judged as its pieces are, one after the other
 
@@ -178,14 +178,14 @@ module _ (e : List ℕ) (f : Bool) (p : f ≡ firstIs round e) where
 
 -- the whole expression, its brackets seen to
 whole-is : (names : List ℕ) (ps : List (List ℕ)) → judgedPieces names 0 true ps
-    ≡ pick (allOf formedPiece ps) (pick (allOf (listedPiece names) ps) (Good (length ps)) Stranger) Malformed
+    ≡ pick (allOf formedPiece ps) (pick (allOf (listedPiece names) ps) (Good (length ps)) UnlistedName) Malformed
 unfolding expressionTold and
-whole-is names ps = judged-all names 0 true ps ∙ ap (λ (m : ℕ). pick (allOf formedPiece ps) (pick (allOf (listedPiece names) ps) (Good m) Stranger) Malformed) (zero-add (length ps))
+whole-is names ps = judged-all names 0 true ps ∙ ap (λ (m : ℕ). pick (allOf formedPiece ps) (pick (allOf (listedPiece names) ps) (Good m) UnlistedName) Malformed) (zero-add (length ps))
 
 checked-by : (names e : List ℕ) (ps : List (List ℕ)) → piecesIn e ≡ ps → pick (firstIs round e) (lastIs unround e) true ≡ true → checkedOf names e ≡ judgedPieces names 0 true ps
 unfolding checkedOf formed listedPiece and
 checked-by names e ps s b =
-    ap₂ (λ (t : Bool) (l : List (List ℕ)). pick (and t (allOf formedPiece l)) (pick (allOf (λ (a : List ℕ). isListed (pieceMask names a)) l) (Good (length l)) Stranger) Malformed) b s
+    ap₂ (λ (t : Bool) (l : List (List ℕ)). pick (and t (allOf formedPiece l)) (pick (allOf (λ (a : List ℕ). isListed (pieceMask names a)) l) (Good (length l)) UnlistedName) Malformed) b s
     ∙ sym (whole-is names ps)
 
 module _ (names e : List ℕ) (f : Bool) (p : f ≡ firstIs round e) where

@@ -1,4 +1,4 @@
-pub mod Bare
+pub mod Visible
 pub mod CutLaws
 pub mod ExprLaws
 pub mod AltLaws

@@ -7,7 +7,7 @@ use Rattle.base.specs.Pick.{pick, and}
 use Rattle.texts.specs.Parts.{firstIs, lastIs, placeOf}
 use Rattle.phonemes.specs.Expressions.{bar, formedPiece, pieceMask, isListed, textOf, setOf, round, piecesIn}
 use Rattle.phonemes.specs.declared.answers.Expression.{Expression}
-use Rattle.phonemes.specs.declared.answers.Expression.the-variants.{Good, Malformed, Stranger}
+use Rattle.phonemes.specs.declared.answers.Expression.the-variants.{Good, Malformed, UnlistedName}
 use Rattle.phonemes.specs.declared.answers.Alternative.{Alternative}
 use Rattle.phonemes.specs.declared.answers.Alternative.the-variants.{At, Nothing}
 use Rattle.phonemes.specs.declared.phonemes.Part.{Part}
@@ -33,7 +33,7 @@ unfoldable pub listedPiece : List ℕ → List ℕ → Bool
 listedPiece names a = isListed (pieceMask names a)
 
 unfoldable pub expressionTold : ℕ → Bool → Expression
-expressionTold n known = pick known (Good n) Stranger
+expressionTold n known = pick known (Good n) UnlistedName
 
 -- the pieces one after the other, n counted before them and all names so far known
 unfoldable pub judgedPieces : List ℕ → ℕ → Bool → List (List ℕ) → Expression

@@ -13,7 +13,7 @@ use Rattle.languages.specs.declared.sets.LanguageSet.{LanguageSet}
 use Rattle.languages.specs.declared.sets.LanguageSet.the-variants.{Any, SomeLanguages}
 use Rattle.texts.specs.Parts.{tail, front, firstIs, lastIs, placeOf, has}
 use Rattle.phonemes.specs.declared.answers.Expression.{Expression}
-use Rattle.phonemes.specs.declared.answers.Expression.the-variants.{Good, Malformed, Stranger}
+use Rattle.phonemes.specs.declared.answers.Expression.the-variants.{Good, Malformed, UnlistedName}
 
 -- the signs ( ) | [ ] +
 abbrev pub round : ℕ
@@ -102,4 +102,4 @@ setOf names a = pick (has opening a) (maskSet (pieceMask names a)) Any
 -- 14 where it is not well formed, else 16 where a name is not listed, else how many alternatives it has
 unfoldable pub checkedOf : List ℕ → List ℕ → Expression
 checkedOf names e =
-    pick (formed e) (pick (allOf (λ (a : List ℕ). isListed (pieceMask names a)) (piecesIn e)) (Good (length (piecesIn e))) Stranger) Malformed
+    pick (formed e) (pick (allOf (λ (a : List ℕ). isListed (pieceMask names a)) (piecesIn e)) (Good (length (piecesIn e))) UnlistedName) Malformed

@@ -1,12 +1,12 @@
 // What is told of a phoneme expression and of one of its alternatives.
 use languages::LanguageSet;
 
-// Whether an expression is well formed (14 where it is Malformed) with all its names listed (16 where one is a
-// Stranger), and how many alternatives it has.
+// Whether an expression is well formed (14 where it is Malformed) with all its names listed (16 where it has an
+// UnlistedName), and how many alternatives it has.
 pub enum Expression {
     Good(usize),
     Malformed,
-    Stranger,
+    UnlistedName,
 }
 
 // An alternative: its text is the expression's part from start to end.

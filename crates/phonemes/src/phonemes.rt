@@ -137,7 +137,7 @@ fn told_of(count: usize, known: bool) -> Expression
     if known {
         Expression::Good(count)
     } else {
-        Expression::Stranger
+        Expression::UnlistedName
     }
 }
 

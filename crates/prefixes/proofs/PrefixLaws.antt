@@ -18,7 +18,7 @@ use Rattle.strings.proofs.Laws.{StringIs, string-whole, strings-all, one-left, 
 use Rattle.prefixes.specs.Prefixes.{generic, prefixesOf, prefixFits, firstFit, among, splitOf, isPrefix}
 use Rattle.prefixes.specs.declared.prefixes.NameType.{NameType}
 use Rattle.prefixes.specs.declared.prefixes.Prefix.{Prefix}
-use Rattle.prefixes.specs.declared.prefixes.Prefix.the-variants.{Parted, Whole}
+use Rattle.prefixes.specs.declared.prefixes.Prefix.the-variants.{Leads, Whole}
 use Rattle.base.proofs.PickLaws.{pick-yes, pick-no, pick-true, pick-false, and-rest, and-none, and-no}
 use Rattle.strings.specs.Contracts.{stringAt}
 
@@ -65,11 +65,11 @@ module _ (t : List ℕ) (at a e : ℕ) (r : Next) (p : r ≡ stringAt t at) (q :
     unfolding firstFit
     fit-next z = walk-next w (λ ts. pick-false _ _ _ (sym k ∙ z))
 
-    pub fit-here : b ≡ true → Parted (e - a) (e - at) ≡ firstFit (stringsOf t) s
+    pub fit-here : b ≡ true → Leads (e - a) (e - at) ≡ firstFit (stringsOf t) s
     unfolding firstFit
     fit-here z =
         let long : length (take (e - a) (drop a t)) ≡ e - a = omega (arith, string, length-take (e - a) (drop a t), length-drop a t) in
-        sym (walk-one w ∙ pick-true _ _ _ (sym k ∙ z) ∙ ap₂ Parted long (omega (arith, string)))
+        sym (walk-one w ∙ pick-true _ _ _ (sym k ∙ z) ∙ ap₂ Leads long (omega (arith, string)))
 
   module _ (v : List ℕ) (b : Bool) (k : b ≡ sameText (take (e - a) (drop a t)) v) (w : Walking among v t at) where
     pub among-next : b ≡ false → Walking among v t e
@@ -93,7 +93,7 @@ module _ (t : List ℕ) (at : ℕ) (r : Next) (p : r ≡ stringAt t at) (q : r �
   among-cut v w = sym (walk-end w)
 
 -- ---- where a name is parted
-pub split-apostrophe : (s : List ℕ) (t : Bool) → t ≡ prefixOf (100 ∷ 39 ∷ []) s → t ≡ true → Parted 1 2 ≡ splitOf s
+pub split-apostrophe : (s : List ℕ) (t : Bool) → t ≡ prefixOf (100 ∷ 39 ∷ []) s → t ≡ true → Leads 1 2 ≡ splitOf s
 unfolding splitOf
 split-apostrophe s t e q = pick-yes _ _ _ _ (sym e ∙ q) refl
 

@@ -9,7 +9,7 @@ use Rattle.texts.specs.Parts.{prefixOf, firstIs}
 use Rattle.prefixes.specs.declared.prefixes.NameType.{NameType}
 use Rattle.prefixes.specs.declared.prefixes.NameType.the-variants.{Ashkenazi, Generic, Sephardic}
 use Rattle.prefixes.specs.declared.prefixes.Prefix.{Prefix}
-use Rattle.prefixes.specs.declared.prefixes.Prefix.the-variants.{Parted, Whole}
+use Rattle.prefixes.specs.declared.prefixes.Prefix.the-variants.{Leads, Whole}
 
 -- bar ben da de van von
 abbrev pub ashkenazi : List (List ℕ)
@@ -36,11 +36,11 @@ prefixFits p s = and (prefixOf p s) (firstIs 32 (drop (length p) s))
 -- the first that fits: its bytes are kept, and the space behind it is passed too
 unfoldable pub firstFit : List (List ℕ) → List ℕ → Prefix
 firstFit [] s = Whole
-firstFit (p ∷ ps) s = pick (prefixFits p s) (Parted (length p) (suc (length p))) (firstFit ps s)
+firstFit (p ∷ ps) s = pick (prefixFits p s) (Leads (length p) (suc (length p))) (firstFit ps s)
 
 -- "if it starts with `d'`, or else with a prefix and a space (prefixes in the order below)"
 unfoldable pub splitOf : List ℕ → Prefix
-splitOf s = pick (prefixOf (100 ∷ 39 ∷ []) s) (Parted 1 2) (firstFit (prefixesOf Generic) s)
+splitOf s = pick (prefixOf (100 ∷ 39 ∷ []) s) (Leads 1 2) (firstFit (prefixesOf Generic) s)
 
 unfoldable pub among : List (List ℕ) → List ℕ → Bool
 among [] w = false

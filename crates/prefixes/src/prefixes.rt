@@ -10,9 +10,9 @@ pub enum NameType {
     Sephardic,
 }
 
-// Where a name is parted: the prefix's bytes are kept, and the bytes up to the remainder passed.
+// A prefix leads the name: how many bytes it has, and where the remainder begins; or the name is one whole.
 pub enum Prefix {
-    Parted { keep: usize, skip: usize },
+    Leads { size: usize, rest: usize },
     Whole,
 }
 
@@ -47,9 +47,9 @@ fn first_fit(t: &[u8], s: &[u8]) -> Prefix
             Next::Whole { start, end } => {
                 if fits_with_space(s, &t[start..end]) {
                     // The space behind the prefix is passed in place of the length byte before it.
-                    return Prefix::Parted {
-                        keep: end - start,
-                        skip: end - at,
+                    return Prefix::Leads {
+                        size: end - start,
+                        rest: end - at,
                     };
                 }
                 at = end;
@@ -82,7 +82,7 @@ pub fn prefix_of(s: &[u8]) -> Prefix
     ensures { λ r. ⌜ r ≡ splitOf (now (s .entry)) ⌝ }
 {
     if texts::starts_with(s, b"d'") {
-        return Prefix::Parted { keep: 1, skip: 2 };
+        return Prefix::Leads { size: 1, rest: 2 };
     }
     first_fit(&GENERIC, s)
 }

@@ -198,8 +198,8 @@ pub «name_parts-past-word» : Settled name_parts.past_word.ended name_parts.pas
 pub «name_parts-one-word» : Settled name_parts.one_word.ended name_parts.one_word.Reads.Asked name_parts.one_word.Reads.Learnt
 «name_parts-one-word» κs a = (tt, λ x y v w p q. (one p q, refl))
 
-pub «name_parts-part-hyphens» : Settled name_parts.part_hyphens.ended name_parts.part_hyphens.Reads.Asked name_parts.part_hyphens.Reads.Learnt
-«name_parts-part-hyphens» κs a = (tt, λ x y v w p q. (refl, ap (λ o. (o, tt)) (one p q)))
+pub «name_parts-replace-hyphens» : Settled name_parts.replace_hyphens.ended name_parts.replace_hyphens.Reads.Asked name_parts.replace_hyphens.Reads.Learnt
+«name_parts-replace-hyphens» κs a = (tt, λ x y v w p q. (refl, ap (λ o. (o, tt)) (one p q)))
 
 pub «name_parts-join-prefix» : Settled name_parts.join_prefix.ended name_parts.join_prefix.Reads.Asked name_parts.join_prefix.Reads.Learnt
 «name_parts-join-prefix» κs a = (tt, λ x y v w p q. content (λ o. (tt, (tt, (tt, (o, tt))))) (put-one p q))
@@ -267,8 +267,8 @@ phonemes-alternative κs a = (tt, λ x y v w p q. (one p q, refl))
 
 -- ---- rule
 
-pub rule-is-bare : Settled rule.is_bare.ended rule.is_bare.Reads.Asked rule.is_bare.Reads.Learnt
-rule-is-bare κs a = (tt, λ x y v w p q. (one p q, refl))
+pub rule-is-visible-literal : Settled rule.is_visible_literal.ended rule.is_visible_literal.Reads.Asked rule.is_visible_literal.Reads.Learnt
+rule-is-visible-literal κs a = (tt, λ x y v w p q. (one p q, refl))
 
 -- ---- rule_lines
 

@@ -1,6 +1,6 @@
 -- What the private functions of the code give, by the anchors; `proofs/Laws` shows how the forms are made of these.
 use Prim.Native.Nat.{ℕ}
-use mathlib.Core.Bool.{Bool, true, false, not}
+use mathlib.Core.Bool.{Bool, false, not}
 use mathlib.Core.List.{List}
 use lib.Dec.{eqb}
 use Rattle.base.specs.Pick.{pick}

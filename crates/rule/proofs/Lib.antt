@@ -1,3 +1,3 @@
 pub mod MatchLaws
 pub mod Formed
-pub mod Bare
+pub mod Visible

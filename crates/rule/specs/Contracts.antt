@@ -14,5 +14,5 @@ unfoldable pub allVisible : ℕ → List ℕ → Bool
 allVisible but [] = true
 allVisible but (x ∷ l) = and (visible but x) (allVisible but l)
 
-unfoldable pub bare : List ℕ → Bool
-bare s = allVisible opening s
+unfoldable pub visibleLiteral : List ℕ → Bool
+visibleLiteral s = allVisible opening s

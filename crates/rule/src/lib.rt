@@ -2,6 +2,6 @@
 mod matching;
 
 pub use matching::first_code;
-pub use matching::is_bare;
 pub use matching::is_rule_text;
+pub use matching::is_visible_literal;
 pub use matching::rule_matches;

@@ -1,7 +1,7 @@
 // What a rule's string may hold, and whether a rule matches at a place of a text.
 ghost use mathlib.Core.Path.{_≡_};
 ghost use Rattle.rule.specs.Matching.{plainCode, ruleText, firstCode, ruleMatches};
-ghost use Rattle.rule.specs.Contracts.{visible, allVisible, bare};
+ghost use Rattle.rule.specs.Contracts.{visible, allVisible, visibleLiteral};
 use letters::Step;
 
 // Whether a rule's string may hold the code point: no control, no double quote.
@@ -80,8 +80,8 @@ pub fn is_rule_text(s: &[u8]) -> bool
 }
 
 // Whether s holds only characters from `#` to `~` and no `[`: then it is a rule text with nothing to be read closer.
-pub fn is_bare(s: &[u8]) -> bool
-    ensures { λ r. ⌜ r ≡ bare (now (s .entry)) ⌝ }
+pub fn is_visible_literal(s: &[u8]) -> bool
+    ensures { λ r. ⌜ r ≡ visibleLiteral (now (s .entry)) ⌝ }
 {
     all_visible(s, b'[')
 }

@@ -22,19 +22,20 @@ use Rattle.regex_optim.specs.declared.OptimizedRegex.the-variants.{AllStringsMa
 use Rattle.regex_optim.proofs.Laws.{kind-by-literal, left-is, right-is}
 use Rattle.regex_optim.proofs.NumberLaws.{form-one}
 use Rattle.base.proofs.Arms.{clash}
-use Rattle.rule.specs.Contracts.{bare}
+use Rattle.rule.specs.Contracts.{visibleLiteral}
 use Rattle.rule.specs.Matching.{ruleText}
-use Rattle.rule.proofs.Bare.{Clear, bare-text, bare-clear, clear-has, clear-tail, clear-front}
+use Rattle.rule.proofs.Visible.{Clear, literal-text, literal-clear, clear-has, clear-tail, clear-front}
 use Rattle.texts.specs.Parts.{opening, withoutCaret, withoutDollar, firstIs, lastIs, has}
 use Rattle.phonemes.specs.Expressions.{round, unround, checkedOf}
 use Rattle.phonemes.specs.declared.answers.Expression.{Expression}
-use Rattle.phonemes.specs.declared.answers.Expression.the-variants.{Good, Malformed, Stranger}
-use Rattle.phonemes.proofs.Bare.{clear-good, clear-malformed}
+use Rattle.phonemes.specs.declared.answers.Expression.the-variants.{Good, Malformed, UnlistedName}
+use Rattle.phonemes.proofs.Visible.{clear-good, clear-malformed}
 use Rattle.phonemes.proofs.NumberLaws.{expression-one}
 use Rattle.rule_lines.specs.Rules.{Rule, rule, lengthFault, contextFault, expressionFault, faultElse, ruleFault, ruleTexts, faultless, ruleGood}
 use Rattle.rule_lines.specs.Contracts.{leftGood, rightGood, expressionGood, stringsGood}
 use Rattle.rule_lines.specs.declared.Fault.{Fault}
 use Rattle.rule_lines.specs.declared.Fault.the-variants.{Is, Without}
+use borrow.Author.Needs.{needs}
 
 -- ---- one fault
 
@@ -67,9 +68,9 @@ module _ (e : Expression) where
   unfolding expressionFault
   fault-malformed h = rw h refl
 
-  pub fault-stranger : e ≡ Stranger → Is NameUnlisted ≡ expressionFault e
+  pub fault-unlisted : e ≡ UnlistedName → Is NameUnlisted ≡ expressionFault e
   unfolding expressionFault
-  fault-stranger h = rw h refl
+  fault-unlisted h = rw h refl
 
 -- the last two ways out of length_fault, deeper than `search` goes
 module _ (p l r e : ℕ) (h : (p ≡ 0 → ⊥)) (i : p ≤ 255) (j : l ≤ 255) (k : r ≤ 255) where
@@ -108,9 +109,9 @@ context-by x f g e h = e ∙ ap contextFault h
 pub expression-by : (x : Fault) (f g : Expression) → x ≡ expressionFault f → f ≡ g → x ≡ expressionFault g
 expression-by x f g e h = e ∙ ap expressionFault h
 
-pub ruleset fault-laws = (fault-outside, fault-inside, fault-good, fault-malformed, fault-stranger, fault-is, fault-without, form-one, expression-one, fault-long, fault-none, or-first, or-next, context-by, expression-by)
+pub ruleset fault-laws = (fault-outside, fault-inside, fault-good, fault-malformed, fault-unlisted, fault-is, fault-without, form-one, expression-one, fault-long, fault-none, or-first, or-next, context-by, expression-by, needs)
 
--- ---- a bare string: without `[` a context is a literal, which is always in the forms
+-- ---- a visible literal: without `[` a context is a literal, which is always in the forms
 
 Formed : OptimizedRegex → Type 0
 Formed x = faultless (contextFault x) ≡ true
@@ -128,37 +129,37 @@ literal-right n false = pick-all Formed (eqb n 0) AllStringsMatcher StartsWith r
 formed : OptimizedRegex → Bool
 formed x = faultless (contextFault x)
 
-module _ (c : List ℕ) (t : Bool) (p : t ≡ bare c) (q : t ≡ true) where
+module _ (c : List ℕ) (t : Bool) (p : t ≡ visibleLiteral c) (q : t ≡ true) where
   clear : Clear c
-  clear = bare-clear c (sym p ∙ q)
+  clear = literal-clear c (sym p ∙ q)
 
   text : ruleText c ≡ true
-  text = bare-text c (sym p ∙ q)
+  text = literal-text c (sym p ∙ q)
 
-  pub left-bare : true ≡ leftGood c
+  pub left-literal : true ≡ leftGood c
   unfolding leftGood Formed formed withoutCaret
-  left-bare =
+  left-literal =
       let none : has opening (withoutCaret c) ≡ false = clear-has (pick-all Clear _ _ _ (clear-tail clear) clear) in
       sym (and-yes _ _ text (ap (λ (x : Form). formed (kindOf x)) (left-is c) ∙ ap formed (sym (kind-by-literal _ _ _ _ (sym none) _ refl refl)) ∙ literal-left _ _))
 
-  pub right-bare : true ≡ rightGood c
+  pub right-literal : true ≡ rightGood c
   unfolding rightGood Formed formed withoutDollar
-  right-bare =
+  right-literal =
       let none : has opening (withoutDollar c) ≡ false = clear-has (pick-all Clear _ _ _ (clear-front clear) clear) in
       sym (and-yes _ _ text (ap (λ (x : Form). formed (kindOf x)) (right-is c) ∙ ap formed (sym (kind-by-literal _ _ _ _ (sym none) _ refl refl)) ∙ literal-right _ _))
 
   -- of an expression only the round brackets matter
-  bare-good : (names : List ℕ) (b : Bool) → pick (firstIs round c) (lastIs unround c) true ≡ b → b ≡ expressionGood names c
+  literal-good : (names : List ℕ) (b : Bool) → pick (firstIs round c) (lastIs unround c) true ≡ b → b ≡ expressionGood names c
   unfolding expressionGood expressionFault faultless
-  bare-good names true e = sym (and-yes _ _ text (ap (λ (x : Expression). faultless (expressionFault x)) (clear-good names c clear e)))
-  bare-good names false e = sym (and-second _ _ text (ap (λ (x : Expression). faultless (expressionFault x)) (clear-malformed names c clear e)))
+  literal-good names true e = sym (and-yes _ _ text (ap (λ (x : Expression). faultless (expressionFault x)) (clear-good names c clear e)))
+  literal-good names false e = sym (and-second _ _ text (ap (λ (x : Expression). faultless (expressionFault x)) (clear-malformed names c clear e)))
 
   module _ (names : List ℕ) (f : Bool) (g : f ≡ firstIs round c) where
-    pub bare-round : (u : Bool) → f ≡ true → u ≡ lastIs unround c → u ≡ expressionGood names c
-    bare-round u v h = bare-good names u (pick-true _ _ _ (sym g ∙ v) ∙ sym h)
+    pub literal-round : (u : Bool) → f ≡ true → u ≡ lastIs unround c → u ≡ expressionGood names c
+    literal-round u v h = literal-good names u (pick-true _ _ _ (sym g ∙ v) ∙ sym h)
 
-    pub bare-plain : f ≡ false → true ≡ expressionGood names c
-    bare-plain v = bare-good names true (pick-false _ _ _ (sym g ∙ v))
+    pub literal-plain : f ≡ false → true ≡ expressionGood names c
+    literal-plain v = literal-good names true (pick-false _ _ _ (sym g ∙ v))
 
 -- ---- any other
 
@@ -191,16 +192,17 @@ module _ (c : List ℕ) (t : Bool) (p : t ≡ ruleText c) where
 pub ruleset string-laws = (
   form-one,
   expression-one,
-  left-bare,
-  right-bare,
-  bare-round,
-  bare-plain,
+  left-literal,
+  right-literal,
+  literal-round,
+  literal-plain,
   left-strange,
   right-strange,
   expression-strange,
   left-judged,
   right-judged,
   expression-judged,
+  needs,
 )
 
 -- ---- the whole rule: without a fault where no part has one
@@ -268,7 +270,7 @@ module _ (names p l r e : List ℕ) (f : Fault) (t : Bool) (g : f ≡ lengthFaul
   pub rule-long : t ≡ false → false ≡ ruleGood names (rule p l r e)
   rule-long q = sym (good-is names (rule p l r e) ∙ and-first _ _ (sym (h ∙ ap faultless g) ∙ q))
 
-pub ruleset rule-laws = (rule-pattern, rule-left, rule-right, rule-all, rule-short, rule-long)
+pub ruleset rule-laws = (rule-pattern, rule-left, rule-right, rule-all, rule-short, rule-long, needs)
 
 -- ---- what a good rule keeps to, and a rule that does
 
@@ -322,7 +324,7 @@ has-alternatives : (x : Expression) → expressionFault x ≡ Without → (n : �
 unfolding expressionFault
 has-alternatives (Good n) e = (n, refl)
 has-alternatives Malformed e = clash (cc)
-has-alternatives Stranger e = clash (cc)
+has-alternatives UnlistedName e = clash (cc)
 
 module _ (names : List ℕ) (r : Rule) (g : ruleGood names r ≡ true) where
   pub good-texts : Texts r

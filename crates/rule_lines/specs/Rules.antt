@@ -12,7 +12,7 @@ use Rattle.regex_optim.specs.declared.OptimizedRegex.the-variants.{AllStringsMa
 use Rattle.rule.specs.Matching.{ruleText}
 use Rattle.phonemes.specs.Expressions.{checkedOf}
 use Rattle.phonemes.specs.declared.answers.Expression.{Expression}
-use Rattle.phonemes.specs.declared.answers.Expression.the-variants.{Good, Malformed, Stranger}
+use Rattle.phonemes.specs.declared.answers.Expression.the-variants.{Good, Malformed, UnlistedName}
 use Rattle.rule_lines.specs.declared.Fault.{Fault}
 use Rattle.rule_lines.specs.declared.Fault.the-variants.{Is, Without}
 
@@ -49,7 +49,7 @@ contextFault Outside = Is OutsideForms
 unfoldable pub expressionFault : Expression → Fault
 expressionFault (Good n) = Without
 expressionFault Malformed = Is ExpressionWrong
-expressionFault Stranger = Is NameUnlisted
+expressionFault UnlistedName = Is NameUnlisted
 
 -- the first fault, else the second
 unfoldable pub faultElse : Fault → Fault → Fault

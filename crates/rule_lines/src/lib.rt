@@ -65,7 +65,7 @@ fn expression_fault(checked: Expression) -> Fault
         Expression::Malformed => Fault::Is {
             why: Refusal::ExpressionWrong,
         },
-        Expression::Stranger => Fault::Is {
+        Expression::UnlistedName => Fault::Is {
             why: Refusal::NameUnlisted,
         },
     }
@@ -104,11 +104,11 @@ fn is_faultless(fault: Fault) -> bool
     }
 }
 
-// Whether a left context is a text in one of the forms; a bare one is.
+// Whether a left context is a text in one of the forms; a visible literal is.
 fn left_good(left: &[u8]) -> bool
     ensures { λ r. ⌜ r ≡ leftGood (now (left .entry)) ⌝ }
 {
-    if rule::is_bare(left) {
+    if rule::is_visible_literal(left) {
         true
     } else if rule::is_rule_text(left) {
         is_faultless(context_fault(regex_optim::left_form(left)))
@@ -121,7 +121,7 @@ fn left_good(left: &[u8]) -> bool
 fn right_good(right: &[u8]) -> bool
     ensures { λ r. ⌜ r ≡ rightGood (now (right .entry)) ⌝ }
 {
-    if rule::is_bare(right) {
+    if rule::is_visible_literal(right) {
         true
     } else if rule::is_rule_text(right) {
         is_faultless(context_fault(regex_optim::right_form(right)))
@@ -130,11 +130,11 @@ fn right_good(right: &[u8]) -> bool
     }
 }
 
-// Whether an expression is a text without a fault; of a bare one only the round brackets matter.
+// Whether an expression is a text without a fault; of a visible literal only the round brackets matter.
 fn expression_good(names: &[u8], expression: &[u8]) -> bool
     ensures { λ r. ⌜ r ≡ expressionGood (now (names .entry)) (now (expression .entry)) ⌝ }
 {
-    if rule::is_bare(expression) {
+    if rule::is_visible_literal(expression) {
         if texts::first_is(expression, b'(') {
             texts::last_is(expression, b')')
         } else {

@@ -21,6 +21,7 @@ use specs.declared.fields.Text.{Text}
 use specs.declared.fields.Field.{Field}
 use specs.declared.fields.Field.the-variants.{Is, No}
 use Rattle.base.proofs.PickLaws.{pick-true, pick-false}
+use borrow.Author.Needs.{needs}
 
 -- ---- kinds of bytes
 module _ (k : Kind) (b : ℕ) (x : Bool) where
@@ -67,7 +68,7 @@ module _ (k : Kind) (s : List ℕ) (x i : ℕ) where
   unfolding spanEnd
   span-low q = omega arith
 
-pub ruleset spans = (span-more, span-stop, span-done)
+pub ruleset spans = (span-more, span-stop, span-done, needs)
 
 -- ---- a field, e or q being the end of a run
 module _ (s : List ℕ) (p : ℕ) where
@@ -157,4 +158,4 @@ module _ (s : List ℕ) (t : Text) where
   unfolding partOf
   part-is = rw add-sub-cancel-left refl
 
-pub ruleset parts = (part-none, part-rest, part-is)
+pub ruleset parts = (part-none, part-rest, part-is, needs)

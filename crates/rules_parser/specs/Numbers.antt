@@ -4,7 +4,6 @@ use mathlib.Core.Bool.{Bool, true, false}
 use mathlib.Core.List.{List, [], _∷_}
 use Rattle.refusals.specs.Numbers.{numberOf}
 use Rattle.refusals.specs.declared.Refusal.the-variants.{LineUnreadable}
-use Rattle.rules_parser.specs.declared.fields.Text.{Text}
 use Rattle.rules_parser.specs.declared.lines.Clause.{Clause}
 use Rattle.rules_parser.specs.declared.lines.Clause.the-variants.{Rule, Include, Guess, Name}
 use Rattle.rules_parser.specs.declared.files.Item.{Item}

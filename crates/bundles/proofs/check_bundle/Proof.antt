@@ -1,4 +1,3 @@
-use borrow.Author.Needs.{needs}
 use Rattle.bundles.proofs.Laws.{Checking, check-laws}
 use Rattle.bundles.proofs.check_bundle.Statement.{statement}
 use Rattle.bundles.proofs.check_bundle.Tie as tie
@@ -11,9 +10,9 @@ abbrev μ-loop : tie.MeasureT-loop
 
 pub check-bundle-spec : {M : Type 1} → statement M
 check-bundle-spec =
-    tie.close (tie.spec Inv-loop μ-loop (λ c κs. search (check-laws, needs)) (λ c. search (check-laws, needs)) (λ c. search (check-laws, needs))
-    (λ c κs. search (check-laws, needs)) (λ c. search (check-laws, needs)) (λ c. search (check-laws, needs)) (λ c. search (check-laws, needs))
-    (λ c. search (check-laws, needs)) (λ c. search (check-laws, needs)) (λ c. search (check-laws, needs)) (λ c. search (check-laws, needs))
-    (λ c κs. search (check-laws, needs)) (λ c. search (check-laws, needs)) (λ c. search (check-laws, needs)) (λ c. search (check-laws, needs))
-    (λ c. search (check-laws, needs)) (λ c. search (check-laws, needs)) (λ c. search (check-laws, needs)) (λ c. search (check-laws, needs))
-    (λ c. search (check-laws, needs)) (λ c. search (check-laws, needs)))
+    tie.close (tie.spec Inv-loop μ-loop (λ c κs. search check-laws) (λ c. search check-laws) (λ c. search check-laws)
+    (λ c κs. search check-laws) (λ c. search check-laws) (λ c. search check-laws) (λ c. search check-laws)
+    (λ c. search check-laws) (λ c. search check-laws) (λ c. search check-laws) (λ c. search check-laws)
+    (λ c κs. search check-laws) (λ c. search check-laws) (λ c. search check-laws) (λ c. search check-laws)
+    (λ c. search check-laws) (λ c. search check-laws) (λ c. search check-laws) (λ c. search check-laws)
+    (λ c. search check-laws) (λ c. search check-laws))

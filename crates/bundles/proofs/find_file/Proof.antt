@@ -1,4 +1,3 @@
-use borrow.Author.Needs.{needs}
 use Rattle.bundles.proofs.Laws.{Seeking, seek-laws}
 use Rattle.bundles.proofs.find_file.Statement.{statement}
 use Rattle.bundles.proofs.find_file.Tie as tie
@@ -11,8 +10,8 @@ abbrev μ-loop : tie.MeasureT-loop
 
 pub find-file-spec : {M : Type 1} → statement M
 find-file-spec =
-    tie.close (tie.spec Inv-loop μ-loop (λ c κs. search (seek-laws, needs)) (λ c. search (seek-laws, needs)) (λ c. search (seek-laws, needs))
-    (λ c κs. search (seek-laws, needs)) (λ c. search (seek-laws, needs)) (λ c. search (seek-laws, needs)) (λ c. search (seek-laws, needs))
-    (λ c. search (seek-laws, needs)) (λ c κs. search (seek-laws, needs)) (λ c. search (seek-laws, needs)) (λ c. search (seek-laws, needs))
-    (λ c. search (seek-laws, needs)) (λ c. search (seek-laws, needs)) (λ c. search (seek-laws, needs)) (λ c. search (seek-laws, needs))
-    (λ c. search (seek-laws, needs)) (λ c. search (seek-laws, needs)) (λ c. search (seek-laws, needs)) (λ c. search (seek-laws, needs)))
+    tie.close (tie.spec Inv-loop μ-loop (λ c κs. search seek-laws) (λ c. search seek-laws) (λ c. search seek-laws)
+    (λ c κs. search seek-laws) (λ c. search seek-laws) (λ c. search seek-laws) (λ c. search seek-laws)
+    (λ c. search seek-laws) (λ c κs. search seek-laws) (λ c. search seek-laws) (λ c. search seek-laws)
+    (λ c. search seek-laws) (λ c. search seek-laws) (λ c. search seek-laws) (λ c. search seek-laws)
+    (λ c. search seek-laws) (λ c. search seek-laws) (λ c. search seek-laws) (λ c. search seek-laws))

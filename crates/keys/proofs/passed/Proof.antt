@@ -16,10 +16,8 @@ module _ (r : Lines) (block size read written : ℕ) (w : Within r block size) (
   unfolding Within
   within-buffer = (rw e at w) .1
 
-answered-requires : tie.Need-answered-requires
-answered-requires c κs = (search needs, search (within-block, needs))
-
 pub passed-spec : {M : Type 1} → statement M
 passed-spec =
-    tie.close (tie.spec (λ c. search needs) (λ c. search needs) (λ c. search needs) (λ c. search (within-buffer, needs)) answered-requires
-    (λ c. search needs) (λ c κs. search needs) (λ c κs. search needs) (λ c. search needs) (λ c. search needs))
+    tie.close (tie.spec (λ c. search needs) (λ c. search needs) (λ c. search needs) (λ c. search (within-buffer, needs))
+    (λ c κs. (search needs, search (within-block, needs))) (λ c. search needs) (λ c κs. search needs) (λ c κs. search needs) (λ c. search needs)
+    (λ c. search needs))

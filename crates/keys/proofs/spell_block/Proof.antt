@@ -18,8 +18,6 @@ unfolding Within
 within (Done read written) x e = (lines-read x, omega (arith, lines-written x))
 within (NoRoom needed) x e = tt
 
-returns : tie.Need-returns
-returns c = within _ (c .before .before .spell-lines .ensures) (c .before .out .given)
-
 pub spell-block-spec : {M : Type 1} → statement M
-spell-block-spec = tie.close (tie.spec (λ c κs. search needs) (λ c. search needs) returns)
+spell-block-spec =
+    tie.close (tie.spec (λ c κs. search needs) (λ c. search needs) (λ c. within _ (c .before .before .spell-lines .ensures) (c .before .out .given)))

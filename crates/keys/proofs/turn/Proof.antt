@@ -14,10 +14,8 @@ unfolding Within
 within-part (Done read written) n size buf w = (omega (arith, w .0, length-take n buf), w .1)
 within-part (NoRoom needed) n size buf w = tt
 
-passed-requires : tie.Need-passed-requires
-passed-requires c κs = (search needs, within-part _ _ _ _ (c .before .before .before .spell-block .ensures))
-
 pub turn-spec : {M : Type 1} → statement M
 turn-spec =
-    tie.close (tie.spec (λ c κs. search needs) (λ c. search needs) (λ c. search needs) (λ c. search needs) (λ c κs. search needs) passed-requires
-    (λ c. search needs) (λ c. search needs) (λ c. search needs) (λ c κs. search needs) (λ c. search needs) (λ c. search needs))
+    tie.close (tie.spec (λ c κs. search needs) (λ c. search needs) (λ c. search needs) (λ c. search needs) (λ c κs. search needs)
+    (λ c κs. (search needs, within-part _ _ _ _ (c .before .before .before .spell-block .ensures))) (λ c. search needs) (λ c. search needs)
+    (λ c. search needs) (λ c κs. search needs) (λ c. search needs) (λ c. search needs))

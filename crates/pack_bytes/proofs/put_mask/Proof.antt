@@ -6,4 +6,4 @@ use Rattle.pack_bytes.proofs.put_mask.Tie as tie
 pub put-mask-spec : {M : Type 1} → statement M
 put-mask-spec =
     tie.close (tie.spec (λ c. search needs) (λ c κs. search needs) (λ c. search needs) (λ c κs. search needs) (λ c. search needs)
-    (λ c. search (put-laws, needs)))
+    (λ c. search put-laws))

@@ -1,11 +1,10 @@
-use borrow.Author.Needs.{needs}
 use Rattle.rule_lines.proofs.Laws.{string-laws}
 use Rattle.rule_lines.proofs.expression_good.Statement.{statement}
 use Rattle.rule_lines.proofs.expression_good.Tie as tie
 
 pub expression-good-spec : {M : Type 1} → statement M
 expression-good-spec =
-    tie.close (tie.spec (λ c κs. search (string-laws, needs)) (λ c κs. search (string-laws, needs)) (λ c κs. search (string-laws, needs))
-    (λ c κs. search (string-laws, needs)) (λ c κs. search (string-laws, needs)) (λ c κs. search (string-laws, needs))
-    (λ c κs. search (string-laws, needs)) (λ c. search (string-laws, needs)) (λ c. search (string-laws, needs)) (λ c. search (string-laws, needs))
-    (λ c. search (string-laws, needs)))
+    tie.close (tie.spec (λ c κs. search string-laws) (λ c κs. search string-laws) (λ c κs. search string-laws)
+    (λ c κs. search string-laws) (λ c κs. search string-laws) (λ c κs. search string-laws)
+    (λ c κs. search string-laws) (λ c. search string-laws) (λ c. search string-laws) (λ c. search string-laws)
+    (λ c. search string-laws))

@@ -5,5 +5,5 @@ use Rattle.bm.proofs.flat.bm_check.Tie as tie
 
 pub bm-check-spec : {M : Type 1} → statement M
 bm-check-spec =
-    tie.close (tie.spec (λ c. search (flat-laws, needs)) (λ c κs. search needs) (λ c. search needs) (λ c. search needs) (λ c. search needs)
-    (λ c. search needs) (λ c. search needs) (λ c. search (flat-laws, needs)) (λ c. search needs) (λ c. search (flat-laws, needs)))
+    tie.close (tie.spec (λ c. search flat-laws) (λ c κs. search needs) (λ c. search needs) (λ c. search needs) (λ c. search needs)
+    (λ c. search needs) (λ c. search needs) (λ c. search flat-laws) (λ c. search needs) (λ c. search flat-laws))

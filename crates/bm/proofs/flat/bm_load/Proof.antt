@@ -5,6 +5,6 @@ use Rattle.bm.proofs.flat.bm_load.Tie as tie
 
 pub bm-load-spec : {M : Type 1} → statement M
 bm-load-spec =
-    tie.close (tie.spec (λ c. search (flat-laws, needs)) (λ c κs. search needs) (λ c. search needs) (λ c. search needs) (λ c. search needs)
+    tie.close (tie.spec (λ c. search flat-laws) (λ c κs. search needs) (λ c. search needs) (λ c. search needs) (λ c. search needs)
     (λ c. search needs) (λ c. search needs) (λ c. search needs) (λ c κs. search needs) (λ c. search needs) (λ c. search needs) (λ c. search needs)
-    (λ c. search (flat-laws, needs)) (λ c. search needs) (λ c. search needs) (λ c. search (flat-laws, needs)))
+    (λ c. search flat-laws) (λ c. search needs) (λ c. search needs) (λ c. search flat-laws))

@@ -72,8 +72,8 @@ pub +spell-bracketed+spell-name+spell-words-spec : {M : Type 1} → statement M
       spell-name-below t,
       spell-name.Post,
     ) (spell-bracketed-at t) spell-bracketed.Post
-    (λ c κs. search needs) (λ c κs. search needs) (λ c κs. (search (bracketed-laws, needs), search (bracketed-laws, needs)))
-    (λ c κs. search needs) (λ c. search (bracketed-laws, needs)) (λ c. search (bracketed-laws, needs)))
+    (λ c κs. search needs) (λ c κs. search needs) (λ c κs. (search bracketed-laws, search bracketed-laws))
+    (λ c κs. search needs) (λ c. search bracketed-laws) (λ c. search bracketed-laws))
     (λ t. spell-name-lts.spec (
       join-parts-reads.Asked,
       join-parts-reads.Learnt,
@@ -91,20 +91,20 @@ pub +spell-bracketed+spell-name+spell-words-spec : {M : Type 1} → statement M
       spell-words.Post,
     )
     (spell-name-at t) spell-name.Post
-    (λ c. search needs) (λ c κs. (search needs, search needs)) (λ c. search needs) (λ c. search (name-laws, needs))
-    (λ c. search (name-laws, needs)) (λ c. search needs) (λ c κs. (search (name-laws, needs), search (name-laws, needs)))
-    (λ c κs. search needs) (λ c. search needs) (λ c. search needs) (λ c. search (name-laws, needs))
-    (λ c κs. (search (name-laws, needs), search (name-laws, needs))) (λ c κs. search needs) (λ c. search needs) (λ c κs. search needs)
-    (λ c κs. (search needs, search needs)) (λ c κs. (search (name-laws, needs), (search (name-laws, needs), search (name-laws, needs))))
-    (λ c. search (name-laws, needs))
+    (λ c. search needs) (λ c κs. (search needs, search needs)) (λ c. search needs) (λ c. search name-laws)
+    (λ c. search name-laws) (λ c. search needs) (λ c κs. (search name-laws, search name-laws))
+    (λ c κs. search needs) (λ c. search needs) (λ c. search needs) (λ c. search name-laws)
+    (λ c κs. (search name-laws, search name-laws)) (λ c κs. search needs) (λ c. search needs) (λ c κs. search needs)
+    (λ c κs. (search needs, search needs)) (λ c κs. (search name-laws, (search name-laws, search name-laws)))
+    (λ c. search name-laws)
     (λ c.
     let d = c .before .before .before .before in let e = d .before .before .before .before in
     let f = e .before .before .before .before in let g = f .before .before .before .before in
     let h = g .before .before .before .before in
-    parted-told _ _ _ _ _ (h .before .before .before .before .join-parts .ensures) _ _ (h .before .skip .given .1) _ _ _ _ _ _ _ _ _
+    parted-told _ _ _ _ _ (h .before .before .before .before .join-parts .ensures) _ _ (h .before .rest .given .1) _ _ _ _ _ _ _ _ _
     (f .before .before .before .spell-bracketed .ensures) (e .before .before .before .push .ensures)
     (c .before .before .before .spell-bracketed2 .ensures) (c .both .ensures))
-    (λ c. search needs) (λ c. search (name-laws, needs)) (λ c. search needs) (λ c. search (name-laws, needs)))
+    (λ c. search needs) (λ c. search name-laws) (λ c. search needs) (λ c. search name-laws))
     λ t. spell-words-lts.spec (
       next-word-reads.Asked,
       next-word-reads.Learnt,
@@ -120,6 +120,6 @@ pub +spell-bracketed+spell-name+spell-words-spec : {M : Type 1} → statement M
       past-word-reads.Learnt,
     )
     (spell-words-at t) spell-words.Post spell-words-Inv-loop spell-words-μ-loop
-    (λ c. search (words-laws, needs)) (λ c κs. search needs) (λ c. search needs) (λ c. search (words-laws, needs)) (λ c κs. search needs)
-    (λ c κs. search needs) (λ c κs. (search (words-laws, needs), search (words-laws, needs))) (λ c κs. search needs) (λ c κs. search needs)
-    (λ c. search (words-laws, needs)) (λ c. search (words-laws, needs))
+    (λ c. search words-laws) (λ c κs. search needs) (λ c. search needs) (λ c. search words-laws) (λ c κs. search needs)
+    (λ c κs. search needs) (λ c κs. (search words-laws, search words-laws)) (λ c κs. search needs) (λ c κs. search needs)
+    (λ c. search words-laws) (λ c. search words-laws)

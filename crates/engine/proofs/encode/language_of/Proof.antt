@@ -5,5 +5,5 @@ use Rattle.engine.proofs.encode.language_of.Tie as tie
 
 pub language-of-spec : {M : Type 1} → statement M
 language-of-spec =
-    tie.close (tie.spec (λ c κs. search needs) (λ c. search needs) (λ c. search needs) (λ c. search needs) (λ c. search (encode-laws, needs))
-    (λ c. search (encode-laws, needs)))
+    tie.close (tie.spec (λ c κs. search needs) (λ c. search needs) (λ c. search needs) (λ c. search needs) (λ c. search encode-laws)
+    (λ c. search encode-laws))

@@ -25,5 +25,5 @@ pub +put-decimal-spec : {M : Type 1} → statement M
 +put-decimal-spec =
     close μ-put-decimal
     λ t. put-decimal-lts.spec (push-reads.Asked, push-reads.Learnt, put-decimal-below t, put-decimal.Post) (put-decimal-at t) put-decimal.Post
-    (λ c. search needs) (λ c. search needs) (λ c κs. search needs) (λ c. search (lines-laws, needs)) (λ c. search (lines-laws, needs))
-    (λ c κs. search (lines-laws, needs)) (λ c κs. search needs) (λ c. search (lines-laws, needs)) (λ c. search (lines-laws, needs))
+    (λ c. search needs) (λ c. search needs) (λ c κs. search needs) (λ c. search lines-laws) (λ c. search lines-laws)
+    (λ c κs. search lines-laws) (λ c κs. search needs) (λ c. search lines-laws) (λ c. search lines-laws)

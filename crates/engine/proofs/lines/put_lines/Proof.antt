@@ -2,7 +2,6 @@ use Prim.Native.Nat.{_-_}
 use lib.ListN.{length}
 use Rattle.engine.specs.Contracts.{outcomeFor}
 use Rattle.engine.proofs.LinesLaws.{Going, going-laws}
-use borrow.Author.Needs.{needs}
 use Rattle.engine.proofs.lines.put_lines.Statement.{statement}
 use Rattle.engine.proofs.lines.put_lines.Tie as tie
 
@@ -16,9 +15,9 @@ abbrev μ-loop : tie.MeasureT-loop
 
 pub put-lines-spec : {M : Type 1} → statement M
 put-lines-spec =
-    tie.close (tie.spec Inv-loop μ-loop (λ c κs. search (going-laws, needs)) (λ c. search (going-laws, needs)) (λ c. search (going-laws, needs))
-    (λ c. search (going-laws, needs)) (λ c. search (going-laws, needs)) (λ c κs. search (going-laws, needs)) (λ c. search (going-laws, needs))
-    (λ c. search (going-laws, needs)) (λ c. search (going-laws, needs)) (λ c. search (going-laws, needs)) (λ c. search (going-laws, needs))
-    (λ c κs. search (going-laws, needs)) (λ c. search (going-laws, needs)) (λ c κs. search (going-laws, needs)) (λ c. search (going-laws, needs))
-    (λ c. search (going-laws, needs)) (λ c. search (going-laws, needs)) (λ c κs. search (going-laws, needs)) (λ c. search (going-laws, needs))
-    (λ c. search (going-laws, needs)))
+    tie.close (tie.spec Inv-loop μ-loop (λ c κs. search going-laws) (λ c. search going-laws) (λ c. search going-laws)
+    (λ c. search going-laws) (λ c. search going-laws) (λ c κs. search going-laws) (λ c. search going-laws)
+    (λ c. search going-laws) (λ c. search going-laws) (λ c. search going-laws) (λ c. search going-laws)
+    (λ c κs. search going-laws) (λ c. search going-laws) (λ c κs. search going-laws) (λ c. search going-laws)
+    (λ c. search going-laws) (λ c. search going-laws) (λ c κs. search going-laws) (λ c. search going-laws)
+    (λ c. search going-laws))

@@ -5,6 +5,6 @@ use Rattle.engine.proofs.lines.spell_behind.Tie as tie
 
 pub spell-behind-spec : {M : Type 1} → statement M
 spell-behind-spec =
-    tie.close (tie.spec (λ c κs. search (lent-laws, needs)) (λ c κs. search (lent-laws, needs)) (λ c. search (lent-laws, needs))
-    (λ c. search (lent-laws, needs)) (λ c. search (lent-laws, needs)) (λ c κs. search needs) (λ c. search (lent-laws, needs))
-    (λ c. search (lent-laws, needs)))
+    tie.close (tie.spec (λ c κs. search lent-laws) (λ c κs. search lent-laws) (λ c. search lent-laws)
+    (λ c. search lent-laws) (λ c. search lent-laws) (λ c κs. search needs) (λ c. search lent-laws)
+    (λ c. search lent-laws))

@@ -1,7 +1,6 @@
-use borrow.Author.Needs.{needs}
 use Rattle.engine.proofs.LineLaws.{lines-laws}
 use Rattle.engine.proofs.lines.waits.Statement.{statement}
 use Rattle.engine.proofs.lines.waits.Tie as tie
 
 pub waits-spec : {M : Type 1} → statement M
-waits-spec = tie.close (tie.spec (λ c κs. search (lines-laws, needs)) (λ c. search (lines-laws, needs)) (λ c. search (lines-laws, needs)))
+waits-spec = tie.close (tie.spec (λ c κs. search lines-laws) (λ c. search lines-laws) (λ c. search lines-laws))

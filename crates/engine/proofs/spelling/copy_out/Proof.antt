@@ -1,10 +1,9 @@
 use Rattle.engine.proofs.AnswerLaws.{copy-laws}
-use borrow.Author.Needs.{needs}
 use Rattle.engine.proofs.spelling.copy_out.Statement.{statement}
 use Rattle.engine.proofs.spelling.copy_out.Tie as tie
 
 pub copy-out-spec : {M : Type 1} → statement M
 copy-out-spec =
-    tie.close (tie.spec (λ c. search (copy-laws, needs)) (λ c. search (copy-laws, needs)) (λ c. search (copy-laws, needs))
-    (λ c κs. search (copy-laws, needs)) (λ c. search (copy-laws, needs)) (λ c. search (copy-laws, needs)) (λ c. search (copy-laws, needs))
-    (λ c. search (copy-laws, needs)) (λ c. search (copy-laws, needs)))
+    tie.close (tie.spec (λ c. search copy-laws) (λ c. search copy-laws) (λ c. search copy-laws)
+    (λ c κs. search copy-laws) (λ c. search copy-laws) (λ c. search copy-laws) (λ c. search copy-laws)
+    (λ c. search copy-laws) (λ c. search copy-laws))

@@ -5,4 +5,4 @@ use Rattle.engine.proofs.spelling.refusal_of.Tie as tie
 
 pub refusal-of-spec : {M : Type 1} → statement M
 refusal-of-spec =
-    tie.close (tie.spec (λ c κs. search needs) (λ c κs. search needs) (λ c. search (found-laws, needs)) (λ c. search (found-laws, needs)))
+    tie.close (tie.spec (λ c κs. search needs) (λ c κs. search needs) (λ c. search found-laws) (λ c. search found-laws))

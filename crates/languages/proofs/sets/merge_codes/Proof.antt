@@ -3,9 +3,6 @@ use borrow.Author.Needs.{needs}
 use Rattle.languages.proofs.sets.merge_codes.Statement.{statement}
 use Rattle.languages.proofs.sets.merge_codes.Tie as tie
 
-returns : tie.Need-returns
-unfolding codesMerged
-returns c = search needs
-
 pub merge-codes-spec : {M : Type 1} → statement M
-merge-codes-spec = tie.close (tie.spec returns)
+unfolding codesMerged
+merge-codes-spec = tie.close (tie.spec (λ c. search needs))

@@ -3,9 +3,6 @@ use borrow.Author.Needs.{needs}
 use Rattle.languages.proofs.sets.narrow_codes.Statement.{statement}
 use Rattle.languages.proofs.sets.narrow_codes.Tie as tie
 
-returns : tie.Need-returns
-unfolding codesNarrowed
-returns c = search needs
-
 pub narrow-codes-spec : {M : Type 1} → statement M
-narrow-codes-spec = tie.close (tie.spec returns)
+unfolding codesNarrowed
+narrow-codes-spec = tie.close (tie.spec (λ c. search needs))

@@ -4,9 +4,6 @@ use borrow.Author.Needs.{needs}
 use Rattle.letters.proofs.utf8.code_2.Statement.{statement}
 use Rattle.letters.proofs.utf8.code_2.Tie as tie
 
-returns : tie.Need-returns
-unfolding code2
-returns c = refl
-
 pub code-2-spec : {M : Type 1} → statement M
-code-2-spec = tie.close (tie.spec (λ c. search needs) (λ c. search needs) (λ c. search needs) (λ c. search needs) returns)
+unfolding code2
+code-2-spec = tie.close (tie.spec (λ c. search needs) (λ c. search needs) (λ c. search needs) (λ c. search needs) (λ c. refl))

@@ -5,11 +5,8 @@ use Rattle.letters.proofs.utf8.decode_long.Statement.{statement}
 use Rattle.letters.proofs.utf8.decode_long.Tie as tie
 use Rattle.base.proofs.PickLaws.{cases}
 
-returns-2 : tie.Need-returns-2
-unfolding decodeAt
-returns-2 c = search cases
-
 pub decode-long-spec : {M : Type 1} → statement M
+unfolding decodeAt
 decode-long-spec =
     tie.close (tie.spec (λ c κs. search needs) (λ c. search needs) (λ c κs. search needs) (λ c. search needs) (λ c κs. search needs)
-    (λ c. search needs) (λ c κs. search needs) (λ c κs. search needs) (λ c. search decodeAt-in) returns-2)
+    (λ c. search needs) (λ c κs. search needs) (λ c κs. search needs) (λ c. search decodeAt-in) (λ c. search cases))

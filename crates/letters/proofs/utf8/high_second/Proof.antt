@@ -3,17 +3,6 @@ use Rattle.letters.proofs.utf8.high_second.Statement.{statement}
 use Rattle.letters.proofs.utf8.high_second.Tie as tie
 use Rattle.base.proofs.PickLaws.{cases}
 
-returns : tie.Need-returns
-unfolding highSecond
-returns c = search cases
-
-returns-2 : tie.Need-returns-2
-unfolding highSecond
-returns-2 c = search cases
-
-returns-3 : tie.Need-returns-3
-unfolding highSecond
-returns-3 c = search cases
-
 pub high-second-spec : {M : Type 1} → statement M
-high-second-spec = tie.close (tie.spec returns returns-2 returns-3)
+unfolding highSecond
+high-second-spec = tie.close (tie.spec (λ c. search cases) (λ c. search cases) (λ c. search cases))

@@ -6,13 +6,6 @@ use Rattle.letters.proofs.utf8.is_within.Statement.{statement}
 use Rattle.letters.proofs.utf8.is_within.Tie as tie
 use Rattle.base.proofs.PickLaws.{cases}
 
-returns : tie.Need-returns
-unfolding within and
-returns c = rw (le-leb _ _ (c .if1 .taken)) refl
-
-returns-2 : tie.Need-returns-2
-unfolding within
-returns-2 c = search cases
-
 pub is-within-spec : {M : Type 1} → statement M
-is-within-spec = tie.close (tie.spec returns returns-2)
+unfolding within and
+is-within-spec = tie.close (tie.spec (λ c. rw (le-leb _ _ (c .if1 .taken)) refl) (λ c. search cases))

@@ -4,11 +4,8 @@ use Rattle.prefixes.proofs.PrefixLaws.{prefix-laws}
 use Rattle.prefixes.proofs.prefixes.prefix_of.Statement.{statement}
 use Rattle.prefixes.proofs.prefixes.prefix_of.Tie as tie
 
-returns-2 : tie.Need-returns-2
-unfolding stringsOf strings pick
-returns-2 c = search prefix-laws
-
 pub prefix-of-spec : {M : Type 1} → statement M
+unfolding stringsOf strings pick
 prefix-of-spec =
     tie.close (tie.spec (λ c. search prefix-laws) (λ c κs. search prefix-laws) (λ c. search prefix-laws) (λ c. search prefix-laws)
-    (λ c κs. search prefix-laws) returns-2)
+    (λ c κs. search prefix-laws) (λ c. search prefix-laws))

@@ -1,6 +1,6 @@
 use Prim.Native.Nat.{_-_}
 use lib.ListN.{length}
-use Rattle.rule.proofs.Bare.{Seeing, bare-laws}
+use Rattle.rule.proofs.Visible.{Seeing, literal-laws}
 use Rattle.rule.proofs.matching.all_visible.Statement.{statement}
 use Rattle.rule.proofs.matching.all_visible.Tie as tie
 
@@ -12,5 +12,5 @@ abbrev μ-loop : tie.MeasureT-loop
 
 pub all-visible-spec : {M : Type 1} → statement M
 all-visible-spec =
-    tie.close (tie.spec Inv-loop μ-loop (λ c. search bare-laws) (λ c. search bare-laws) (λ c κs. search bare-laws) (λ c. search bare-laws)
-    (λ c. search bare-laws) (λ c. search bare-laws) (λ c. search bare-laws) (λ c. search bare-laws))
+    tie.close (tie.spec Inv-loop μ-loop (λ c. search literal-laws) (λ c. search literal-laws) (λ c κs. search literal-laws) (λ c. search literal-laws)
+    (λ c. search literal-laws) (λ c. search literal-laws) (λ c. search literal-laws) (λ c. search literal-laws))

@@ -2,7 +2,6 @@ use native.Mathlib.Omega.{arith}
 use lib.ListN.{length}
 use Prim.Native.Nat.{ℕ, _+_, _-_, _*_, _<_}
 use borrow.Author.Needs.{needs}
-use borrow.Fn.Kinds.{In}
 use borrow.Fn.PlainCycle.{Measures, is, falls, and}
 use Rattle.rule_lists.proofs.FollowLaws.{follow-laws}
 use Rattle.rule_lists.proofs.GoingLaws.{Going, going-laws}

@@ -7,5 +7,5 @@ use own.fields.part.Tie as tie
 pub part-spec : {M : Type 1} → statement M
 part-spec =
     tie.close (tie.spec (λ c. search needs) (λ c. search needs) (λ c. search needs) (λ c. search needs) (λ c. search needs) (λ c. search needs)
-    (λ c. search needs) (λ c. search needs) (λ c. search needs) (λ c. search needs) (λ c. search needs) (λ c. search (parts, needs))
-    (λ c. search (parts, needs)) (λ c. search (parts, needs)))
+    (λ c. search needs) (λ c. search needs) (λ c. search needs) (λ c. search needs) (λ c. search needs) (λ c. search parts)
+    (λ c. search parts) (λ c. search parts))

@@ -17,4 +17,4 @@ abbrev μ-loop : tie.MeasureT-loop
 pub span-spec : {M : Type 1} → statement M
 span-spec =
     tie.close (tie.spec Inv-loop μ-loop (λ c. search needs) (λ c. search needs) (λ c κs. search needs) (λ c. search needs) (λ c. search needs)
-    (λ c. search (spans, needs)) (λ c. search (spans, needs)) (λ c. search (spans, needs)))
+    (λ c. search spans) (λ c. search spans) (λ c. search spans))

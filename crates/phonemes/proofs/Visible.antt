@@ -6,7 +6,7 @@ use Prim.Native.Nat.{ℕ}
 use lib.ListN.{length}
 use Rattle.base.specs.Pick.{pick, and}
 use Rattle.texts.specs.Parts.{firstIs, lastIs}
-use Rattle.rule.proofs.Bare.{Clear, none, more, clear-has, clear-tail, clear-front}
+use Rattle.rule.proofs.Visible.{Clear, none, more, clear-has, clear-tail, clear-front}
 use Rattle.phonemes.specs
 use specs.Expressions.{round, unround, bar, opening, onFirst, cutAt, inside, extra, piecesIn, allOf, formedPiece, formed, pieceMask, isListed, checkedOf}
 use specs.declared.answers.Expression.the-variants.{Good, Malformed}

@@ -19,7 +19,7 @@ use Rattle.letters.proofs.ReadingLaws.{Pieces, end, one, bad, pieces-of}
 use Rattle.texts.specs.Parts.{tail, front, placeOf, has, opening}
 use Rattle.rule.specs.Matching.{plainCode, plainIn, ruleText}
 use Rattle.base.proofs.PickLaws.{pick-true, and-inv, and-first, pick-past}
-use Rattle.rule.specs.Contracts.{visible, allVisible, bare}
+use Rattle.rule.specs.Contracts.{visible, allVisible, visibleLiteral}
 use Rattle.base.proofs.Arms.{clash}
 
 -- ---- the loop: what is left from i on decides
@@ -46,9 +46,9 @@ module _ {but : ℕ} {s : List ℕ} {i : ℕ} (w : Seeing but s i) where
   unfolding allVisible
   seeing-end h = sym (w .rest ∙ ap (allVisible but) (drop-of-length-le s h))
 
-pub bare-by : (s : List ℕ) (t : Bool) → t ≡ allVisible opening s → t ≡ bare s
-unfolding bare
-bare-by s t e = e
+pub literal-by : (s : List ℕ) (t : Bool) → t ≡ allVisible opening s → t ≡ visibleLiteral s
+unfolding visibleLiteral
+literal-by s t e = e
 
 -- ---- what a byte that passes is
 
@@ -101,11 +101,11 @@ module _ (but : ℕ) (s : List ℕ) (v : allVisible but s ≡ true) where
 pub text-by : (s : List ℕ) (but : ℕ) (t : Bool) → t ≡ allVisible but s → t ≡ true → true ≡ ruleText s
 text-by s but t e p = sym (visible-text but s (sym e ∙ p))
 
-pub bare-text : (s : List ℕ) → bare s ≡ true → ruleText s ≡ true
-unfolding bare
-bare-text s e = visible-text opening s e
+pub literal-text : (s : List ℕ) → visibleLiteral s ≡ true → ruleText s ≡ true
+unfolding visibleLiteral
+literal-text s e = visible-text opening s e
 
-pub ruleset bare-laws = (seeing-start, seeing-next, seeing-stop, seeing-end, bare-by, text-by, needs)
+pub ruleset literal-laws = (seeing-start, seeing-next, seeing-stop, seeing-end, literal-by, text-by, needs)
 
 -- ---- it has no `[`, and neither has a part of it
 
@@ -118,9 +118,9 @@ unfolding allVisible
 clear-by [] e = none
 clear-by (x ∷ s) e = let w = and-inv _ _ e in more (seen opening x (w .0) .other) (clear-by s (w .1))
 
-pub bare-clear : (s : List ℕ) → bare s ≡ true → Clear s
-unfolding bare
-bare-clear s e = clear-by s e
+pub literal-clear : (s : List ℕ) → visibleLiteral s ≡ true → Clear s
+unfolding visibleLiteral
+literal-clear s e = clear-by s e
 
 pub clear-has : {l : List ℕ} → Clear l → has opening l ≡ false
 unfolding has placeOf pick
