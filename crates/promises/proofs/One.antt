@@ -254,6 +254,9 @@ rule-first-code κs a = (tt, λ x y v w p q. (one p q, refl))
 pub rule-rule-matches : Settled rule.rule_matches.ended rule.rule_matches.Reads.Asked rule.rule_matches.Reads.Learnt
 rule-rule-matches κs a = (tt, λ x y v w p q. (one p q, refl))
 
+pub rule-is-visible-literal : Settled rule.is_visible_literal.ended rule.is_visible_literal.Reads.Asked rule.is_visible_literal.Reads.Learnt
+rule-is-visible-literal κs a = (tt, λ x y v w p q. (one p q, refl))
+
 -- ---- phonemes
 
 pub phonemes-names-mask : Settled phonemes.names_mask.ended phonemes.names_mask.Reads.Asked phonemes.names_mask.Reads.Learnt
@@ -264,11 +267,6 @@ phonemes-check-expression κs a = (tt, λ x y v w p q. (expression-one x y (one 
 
 pub phonemes-alternative : Settled phonemes.alternative.ended phonemes.alternative.Reads.Asked phonemes.alternative.Reads.Learnt
 phonemes-alternative κs a = (tt, λ x y v w p q. (one p q, refl))
-
--- ---- rule
-
-pub rule-is-visible-literal : Settled rule.is_visible_literal.ended rule.is_visible_literal.Reads.Asked rule.is_visible_literal.Reads.Learnt
-rule-is-visible-literal κs a = (tt, λ x y v w p q. (one p q, refl))
 
 -- ---- rule_lines
 
