@@ -373,14 +373,16 @@ module _ (s : List ℕ) (p : Pack) (g : ℕ) (e : packOf s ≡ accepted p) (q : 
   pub guesses-within : g ≤ length s
   guesses-within = omega (arith, is .front .fits, place-is)
 
-  -- the strings of the names' bytes are the names
-  pub names-strings : stringsOf (take (g - 1) (drop 1 s)) ≡ p .names
-  names-strings =
+  -- the names' bytes are the names, each behind its length byte
+  pub names-held : take (g - 1) (drop 1 s) ≡ written (p .names)
+  names-held =
       let w = is .front in
       let size : g - 1 ≡ length (written (w .value)) = omega (arith, written-length (w .value), ap stringsLength (is .names)) in
-      let bytes : take (g - 1) (drop 1 s) ≡ written (w .value) =
-      ap₂ take size (names-written s (w .value) _ (w .reads)) ∙ take-append-seam (written (w .value)) (drop (is .guesses) s) in
-      ap stringsOf bytes ∙ strings-all (written (w .value)) ∙ written-strings _ (w .value) (omega arith) ∙ is .names
+      ap₂ take size (names-written s (w .value) _ (w .reads)) ∙ take-append-seam (written (w .value)) (drop (is .guesses) s) ∙ ap written (is .names)
+
+  -- their strings are the names
+  pub names-strings : stringsOf (take (g - 1) (drop 1 s)) ≡ p .names
+  names-strings = ap stringsOf names-held ∙ strings-all (written (p .names)) ∙ written-strings _ (p .names) (omega arith)
 
   -- the guessing rules at g are the pack's
   pub guesses-held : guessesAt s g ≡ p .guesses
