@@ -586,6 +586,32 @@ def spelling_random(rng, count):
             yield spell_case(data, settings, given, rng.choice((0, 5, 20, 80, 80, 200)), name_over(rng, sounds))
 
 
+# ---- request 12: in which order languages are narrowed
+
+# languages, main rules, which two of them change places, a name, and its keys before and after
+Moved = collections.namedtuple("Moved", "languages rules swapped name before after")
+MOVED = [
+    Moved(["any"], [("a", "o"), ("a", "u")], (0, 1), "a", "o", "u"),
+    Moved(["any", "b"], [("a", "o"), ("a", "o[b]"), ("c", "i[any]")], (0, 1), "ac", "oi", ""),
+]
+
+
+def after_move(rules, places):
+    """The rules with those at two places changed round."""
+    one, other = places
+    rules = list(rules)
+    rules[one], rules[other] = rules[other], rules[one]
+    return rules
+
+
+def narrowing_all():
+    """All pairs of sets of three languages, and packs in which two rules change places and another one matches first."""
+    yield from pairs_of(["any", "none"] + list(range(8)))
+    for moved in MOVED:
+        for rules in (moved.rules, after_move(moved.rules, moved.swapped)):
+            yield spell_case(edge_pack(moved.languages, rules, []), (1, 0, 0, 20), None, 8, moved.name.encode())
+
+
 # ---- loading a bundle
 
 LINE = b'"a" "" "" "o"'
@@ -941,6 +967,7 @@ LAYERS = {
     "spelling": (spelling_all, spelling_random),
     "loading": (loading_all, loading_random),
     "blocks": (block_all, block_random),
+    "narrowing": (narrowing_all, None),
 }
 
 
@@ -948,4 +975,5 @@ def cases_of(layer, seed, count, exhaustive=True):
     every, some = LAYERS[layer]
     if exhaustive and every:
         yield from every()
-    yield from some(random.Random("%s %d" % (layer, seed)), count)
+    if some:
+        yield from some(random.Random("%s %d" % (layer, seed)), count)

@@ -77,11 +77,13 @@ def sampled(layer, seed, count, sample):
 
 def stored(layer):
     """Some cases of each kind, by the last line's word; of spelling and blocks those of some packs, all of them; of loading as cases.py
-    says."""
+    says; of narrowing all."""
     if layer in ("spelling", "blocks"):
         return list(cases.cases_of(layer, 1, 40 if layer == "spelling" else 10))
     if layer == "loading":
         return list(cases.loading_stored())
+    if layer == "narrowing":
+        return list(cases.narrowing_all())
     kinds = {}
     for case in cases.cases_of(layer, 1, 2000):
         kinds.setdefault(case[0].split("\n")[-1].split(" ")[0], []).append(case)

@@ -11,9 +11,9 @@ use Rattle.languages.specs.Sets.{narrowed, merged}
 use Rattle.languages.specs.declared.sets.LanguageSet.{LanguageSet}
 use Rattle.languages.specs.declared.sets.LanguageSet.the-variants.{Any, NoLanguages, SomeLanguages}
 use Rattle.narrowing.specs.Order.{HasLanguage, SetBelow, none-least, any-greatest, some-among, SetAbove}
-use Rattle.narrowing.specs.Order.{GivesBack, PartialOrder, LastBeforeBoth}
+use Rattle.narrowing.specs.Order.{PartialOrder, LastBeforeBoth}
 use Rattle.narrowing.proofs.Sets.{narrowing-semilattice, merging-semilattice, language-lattice, narrowing-commutes}
-use Rattle.narrowing.proofs.Sequences.{makes-order, gives-last, opposite-orders}
+use Rattle.narrowing.proofs.Sequences.{GivesBack, makes-order, gives-last, opposite-orders}
 
 -- ---- x is below y exactly when narrowing x by y gives x
 

@@ -6,7 +6,11 @@ use mathlib.Core.List.{List, [], _∷_, foldl, List·Memᴰ, List·Memᴰ·head,
 use mathlib.Core.List.{List·Permᴰ, List·Permᴰ·nil, List·Permᴰ·cons, List·Permᴰ·swap, List·Permᴰ·trans, Permᴰ·symm}
 use Rattle.languages.specs.declared.sets.LanguageSet.{LanguageSet}
 use Rattle.narrowing.specs.Laws.{Operation, SpreadsOver, Semilattice, DistributiveLattice, Orderless}
-use Rattle.narrowing.specs.Order.{GivesBack, PartialOrder, LastBeforeBoth}
+use Rattle.narrowing.specs.Order.{PartialOrder, LastBeforeBoth}
+
+-- the order that an operation makes
+abbrev pub GivesBack : Operation → LanguageSet → LanguageSet → Type 0
+GivesBack op x y = op x y ≡ x
 
 -- a rearrangement holds the same
 pub rearranged-has : {A : Type 0} {xs ys : List A} → List·Permᴰ xs ys → (x : A) → List·Memᴰ x xs → List·Memᴰ x ys
@@ -23,8 +27,6 @@ again m (inl e) = Memᴰ·cast e m
 again m (inr n) = n
 
 module _ (op : Operation) (law : Semilattice op) where
-  -- ---- the order that an operation makes
-
   by-turns : (x y z : LanguageSet) → GivesBack op x y → GivesBack op y z → GivesBack op x z
   by-turns x y z p q = ap (λ (t : LanguageSet). op t z) (sym p) ∙ law .associative x y z ∙ ap (op x) q ∙ p
 

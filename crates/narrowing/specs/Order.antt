@@ -4,7 +4,6 @@ use Prim.Native.Nat.{ℕ, _/_, _%_, _^_}
 use Prim.{Unit}
 use Rattle.languages.specs.declared.sets.LanguageSet.{LanguageSet}
 use Rattle.languages.specs.declared.sets.LanguageSet.the-variants.{Any, NoLanguages, SomeLanguages}
-use Rattle.narrowing.specs.Laws.{Operation}
 
 -- language k is one of the set's: "kept as a bit each" (01, Language sets)
 unfoldable pub HasLanguage : LanguageSet → ℕ → Type 0
@@ -21,10 +20,6 @@ pub data SetBelow : LanguageSet → LanguageSet → Type 0 where
 
 abbrev pub SetAbove : LanguageSet → LanguageSet → Type 0
 SetAbove x y = SetBelow y x
-
--- the order that an operation makes
-abbrev pub GivesBack : Operation → LanguageSet → LanguageSet → Type 0
-GivesBack op x y = op x y ≡ x
 
 pub record PartialOrder (R : LanguageSet → LanguageSet → Type 0) : Type 0 where
   pub reflexive : (x : LanguageSet) → R x x

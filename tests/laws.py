@@ -1,0 +1,270 @@
+#!/usr/bin/env python3
+"""Request 12, run on the port and on the original: the laws of narrowing and merging, and rule files whose lines are moved.
+
+    tests/laws.py [--languages N] [--moves N] [--seed N]
+
+The sets are Any, None and every Some of N languages, the one without bits too. Each law is tried on all pairs and triples of them, on what the program
+`ask` and the original's `bm-answers` say of `narrow` and `merge`; the order of sets on all pairs; and narrowings one after the other in every order, each
+list of up to four sets of two languages. Then two pairs of rule files are spelled in which lines are moved and another rule matches first, and the real
+rules (oracle/rules) of each type N times: with the guessing lines in any order and rules moved past others that can not match where they do, which changes no
+key, and with rules moved anywhere, where it is counted how many keys change. Every fault is printed; the exit status is 1 where there is one.
+The original is built by oracle/build.
+"""
+import argparse
+import collections
+import itertools
+import os
+import random
+import subprocess
+import sys
+import tempfile
+
+HERE = os.path.dirname(os.path.abspath(__file__))
+ROOT = os.path.dirname(HERE)
+sys.path.insert(0, HERE)
+import cases  # noqa: E402
+import compare  # noqa: E402
+import real  # noqa: E402
+import second  # noqa: E402
+
+BIN = os.path.join(ROOT, "bin")
+ORACLE = os.path.join(ROOT, "oracle", "made", "bin", "bm-oracle")
+FILL = os.path.join(ROOT, "oracle", "mkdir-rules.py")
+REAL_RULES = os.path.join(ROOT, "oracle", "made", "rules")
+LIMIT = "20"
+
+
+# ---- terms of narrowing and merging
+
+def narrow(x, y):
+    return "narrow", x, y
+
+
+def merge(x, y):
+    return "merge", x, y
+
+
+def both(law):
+    """A law of one operation, said of each."""
+    return [lambda *sets, op=op: law(op, *sets) for op in (narrow, merge)]
+
+
+def crossed(law):
+    """A law of an operation and the other one, said of each."""
+    return [lambda *sets: law(narrow, merge, *sets), lambda *sets: law(merge, narrow, *sets)]
+
+
+# how many sets a law is about, and its two sides
+LAWS = {
+    "commutative": (2, both(lambda op, x, y: (op(x, y), op(y, x)))),
+    "associative": (3, both(lambda op, x, y, z: (op(op(x, y), z), op(x, op(y, z))))),
+    "gives back x for x with x": (1, both(lambda op, x: (op(x, x), x))),
+    "Any neutral for narrowing": (1, [lambda x: (narrow(x, "any"), x), lambda x: (narrow("any", x), x)]),
+    "None neutral for merging": (1, [lambda x: (merge(x, "none"), x), lambda x: (merge("none", x), x)]),
+    "each absorbs the other": (2, crossed(lambda op, other, x, y: (op(x, other(x, y)), x))),
+    "each spreads over the other": (3, crossed(lambda op, other, x, y, z: (op(x, other(y, z)), other(op(x, y), op(x, z))))),
+}
+
+
+def values(command, terms):
+    """The set of each term, as the program says: what stands inside is asked first, then what stands round it."""
+    terms = set(terms)
+    inner = {side for term in terms if isinstance(term, tuple) for side in term[1:] if isinstance(side, tuple)}
+    known = values(command, inner) if inner else {}
+    asked = sorted((term for term in terms if isinstance(term, tuple)), key=repr)
+    answers = compare.run(command, ["%s %s %s" % (op, known.get(x, x), known.get(y, y)) for op, x, y in asked])
+    known.update(zip(asked, answers))
+    known.update((term, term) for term in terms if isinstance(term, str))
+    return known
+
+
+def sets_of(languages):
+    return ["any", "none"] + ["some:%d" % bits for bits in range(1 << languages)]
+
+
+def tried(command, equations):
+    """How many of the equations fail."""
+    known = values(command, [side for equation in equations for side in equation])
+    wrong = [(one, other) for one, other in equations if known[one] != known[other]]
+    for one, other in wrong[:5]:
+        print("  %s is %s, %s is %s" % (one, known[one], other, known[other]))
+    return len(wrong)
+
+
+def below(x, y):
+    """None below every set, every set below Any, of two Some the one whose languages the other has too."""
+    if x == "none" or y == "any":
+        return True
+    if x == "any" or y == "none":
+        return False
+    one, other = (int(word.split(":")[1]) for word in (x, y))
+    return one & ~other == 0
+
+
+def order_faults(command, sets):
+    pairs = list(itertools.product(sets, repeat=2))
+    known = values(command, [op(x, y) for x, y in pairs for op in (narrow, merge)])
+    wrong = [(x, y) for x, y in pairs if not below(x, y) == (known[narrow(x, y)] == x) == (known[merge(x, y)] == y)]
+    for x, y in wrong[:5]:
+        print("  %s and %s are not in order" % (x, y))
+    return len(wrong), len(pairs)
+
+
+def in_turn(op, start, sets):
+    for some in sets:
+        start = op(start, some)
+    return start
+
+
+def sequence_equations(sets):
+    """Lists of up to four sets with the first of them once more, each in every order: all come to what the list itself comes to."""
+    for op, length in itertools.product((narrow, merge), range(1, 5)):
+        for some in itertools.combinations_with_replacement(sets, length):
+            plain = in_turn(op, sets[0] if op == narrow else sets[1], some)
+            for other in set(itertools.permutations(some)):
+                yield plain, in_turn(op, sets[0] if op == narrow else sets[1], other)
+            yield plain, in_turn(op, plain, some[:1])
+
+
+def laws(who, command, languages):
+    sets, faults = sets_of(languages), 0
+    for name, (number, sides) in LAWS.items():
+        equations = [law(*some) for law in sides for some in itertools.product(sets, repeat=number)]
+        wrong = tried(command, equations)
+        faults += wrong
+        print("%s: %s: %d equations, %d fail" % (who, name, len(equations), wrong))
+    wrong, pairs = order_faults(command, sets)
+    print("%s: below exactly when narrowing gives it, and when merging adds nothing: %d pairs, %d fail" % (who, pairs, wrong))
+    equations = list(sequence_equations(sets_of(2)))
+    late = tried(command, equations)
+    print("%s: in any order, and once more: %d equations, %d fail" % (who, len(equations), late))
+    return faults + wrong + late
+
+
+# ---- moved lines
+
+class Folder:
+    """Rule files of one type for both programs, in a folder of their own."""
+
+    def __init__(self, path, prefix, files):
+        self.path, self.prefix = path, prefix
+        os.makedirs(path, exist_ok=True)
+        for name, content in files.items():
+            with open(os.path.join(path, name + ".txt"), "wb") as file:
+                file.write(content)
+
+    def port(self, names):
+        """The keys of the port, by bin/desk: `CODE FLAG KEY`, or a refusal."""
+        return self.run([os.path.join(BIN, "desk"), self.prefix, self.path], names)
+
+    def original(self, names):
+        whole = self.path + "-filled"
+        subprocess.run([sys.executable, FILL, whole, self.path], check=True)
+        return self.run([ORACLE, whole, self.prefix, "approx", "0", LIMIT], names)
+
+    def run(self, command, names):
+        done = subprocess.run(command, input="".join(name + "\n" for name in names).encode(), stdout=subprocess.PIPE, check=True)
+        return done.stdout.decode().split("\n")[:-1]
+
+
+def pair_faults(work):
+    faults = 0
+    for moved, late in itertools.product(cases.MOVED, (False, True)):
+        rules = cases.after_move(moved.rules, moved.swapped) if late else moved.rules
+        lines = [cases.rule_line(pattern.encode(), b"", b"", expression.encode()) for pattern, expression in rules]
+        files = cases.files_with({"gen_rules_any": b"\n".join(lines) + b"\n"}, moved.languages)
+        folder = Folder(tempfile.mkdtemp(dir=work), "gen", files)
+        port, original = folder.port([moved.name]), folder.original([moved.name])
+        print("%s: %s gives %r by the port, %r by the original" % (b", ".join(lines).decode(), moved.name, port, original))
+        key = moved.after if late else moved.before
+        faults += port != ["0 0 " + key] or original != [key]
+    return faults
+
+
+def pattern_of(line):
+    return line.split(b'"')[1]
+
+
+def may_both_match(one, other):
+    """Whether two rules can match at one place: a pattern that begins the other, or is it."""
+    one, other = pattern_of(one), pattern_of(other)
+    return one.startswith(other) or other.startswith(one)
+
+
+def moved_apart(rng, lines):
+    """The rules of a list after many swaps of neighbours that can not match at one place."""
+    lines = list(lines)
+    for _ in range(20 * len(lines)):
+        place = rng.randrange(len(lines) - 1) if len(lines) > 1 else None
+        if place is not None and not may_both_match(*lines[place:place + 2]):
+            lines[place:place + 2] = lines[place + 1], lines[place]
+    return lines
+
+
+def shuffled(rng, lines):
+    return rng.sample(lines, len(lines))
+
+
+def moved_files(rng, prefix, files, move):
+    """The same files with the guessing lines in any order and each list's rules moved."""
+    changed = {}
+    for name, content in files.items():
+        lines = content.splitlines(True)
+        if name == prefix + "_lang":
+            lines = shuffled(rng, lines)
+        elif name != prefix + "_languages":
+            lines = move(rng, lines)
+        changed[name] = b"".join(lines)
+    return changed
+
+
+def unlike(some, others):
+    return sum(one != other for one, other in zip(some, others))
+
+
+def key_of(line):
+    """The key of a line `0 FLAG KEY`; a refusal stays as it is, and is no key of the original's."""
+    return line.split(" ", 2)[2] if line.startswith("0 ") else line
+
+
+def real_faults(work, rng, moves):
+    with open(os.path.join(HERE, "surnames.txt"), encoding="utf-8") as file:
+        names = file.read().splitlines()
+    faults = 0
+    for number, prefix in enumerate(real.TYPES):
+        data, _ = real.pack_of(number, real.files_of(REAL_RULES, prefix))
+        files = second.plain_files(number, second.check_pack(data))
+        plain = Folder(os.path.join(work, prefix), prefix, files)
+        port, original = plain.port(names), plain.original(names)
+        counts = collections.Counter()
+        for turn in range(moves):
+            apart = Folder(os.path.join(work, "%s-apart%d" % (prefix, turn)), prefix, moved_files(rng, prefix, files, moved_apart))
+            counts["harmless"] += unlike(port, apart.port(names)) + unlike(original, apart.original(names))
+            anywhere = Folder(os.path.join(work, "%s-anywhere%d" % (prefix, turn)), prefix, moved_files(rng, prefix, files, shuffled))
+            late_port, late_original = anywhere.port(names), anywhere.original(names)
+            counts["port"] += unlike(map(key_of, port), map(key_of, late_port))
+            counts["original"] += unlike(original, late_original)
+            counts["differ"] += unlike(map(key_of, late_port), late_original)
+        counts["differ"] += unlike(map(key_of, port), original)
+        print("%s: %d names, moved %d times: %d keys of either changed where no first match did; with rules moved anywhere %d of the port and %d of the "
+              "original; %d differ between them" % (prefix, len(names), moves, *(counts[word] for word in ("harmless", "port", "original", "differ"))))
+        faults += counts["harmless"] + counts["differ"]
+    return faults
+
+
+def main():
+    parser = argparse.ArgumentParser(usage=__doc__)
+    parser.add_argument("--languages", type=int, default=3)
+    parser.add_argument("--moves", type=int, default=5)
+    parser.add_argument("--seed", type=int, default=1)
+    given = parser.parse_args()
+    faults = laws("port", compare.ASK, given.languages) + laws("original", compare.ORIGINAL, given.languages)
+    with tempfile.TemporaryDirectory() as work:
+        faults += pair_faults(work)
+        faults += real_faults(work, random.Random(given.seed), given.moves)
+    print("%d faults" % faults)
+    sys.exit(1 if faults else 0)
+
+
+if __name__ == "__main__":
+    main()
