@@ -82,13 +82,14 @@ def sets_of(languages):
     return ["any", "none"] + ["some:%d" % bits for bits in range(1 << languages)]
 
 
-def tried(command, equations):
-    """How many of the equations fail."""
-    known = values(command, [side for equation in equations for side in equation])
-    wrong = [(one, other) for one, other in equations if known[one] != known[other]]
-    for one, other in wrong[:5]:
-        print("  %s is %s, %s is %s" % (one, known[one], other, known[other]))
-    return len(wrong)
+def tried(name, equations):
+    """Both sides of each equation, asked of both programs: how many of all fail, or differ between the programs."""
+    terms = [side for equation in equations for side in equation]
+    port, original = (values(command, terms) for command in (compare.ASK, compare.ORIGINAL))
+    fail = sum(known[one] != known[other] for known in (port, original) for one, other in equations)
+    differ = sum(port[term] != original[term] for term in terms)
+    print("%s: %d equations, asked of both: %d fail, %d sets differ" % (name, len(equations), fail, differ))
+    return fail + differ
 
 
 def below(x, y):
@@ -101,13 +102,14 @@ def below(x, y):
     return one & ~other == 0
 
 
-def order_faults(command, sets):
+def order_faults(sets):
     pairs = list(itertools.product(sets, repeat=2))
-    known = values(command, [op(x, y) for x, y in pairs for op in (narrow, merge)])
-    wrong = [(x, y) for x, y in pairs if not below(x, y) == (known[narrow(x, y)] == x) == (known[merge(x, y)] == y)]
-    for x, y in wrong[:5]:
-        print("  %s and %s are not in order" % (x, y))
-    return len(wrong), len(pairs)
+    wrong = 0
+    for command in (compare.ASK, compare.ORIGINAL):
+        known = values(command, [op(x, y) for x, y in pairs for op in (narrow, merge)])
+        wrong += sum(not below(x, y) == (known[narrow(x, y)] == x) == (known[merge(x, y)] == y) for x, y in pairs)
+    print("below exactly when narrowing gives it, and when merging adds nothing: %d pairs, asked of both: %d fail" % (len(pairs), wrong))
+    return wrong
 
 
 def in_turn(op, start, sets):
@@ -117,28 +119,20 @@ def in_turn(op, start, sets):
 
 
 def sequence_equations(sets):
-    """Lists of up to four sets with the first of them once more, each in every order: all come to what the list itself comes to."""
+    """Lists of up to four sets: in every order, and with the first once more, they come to what the list itself comes to."""
     for op, length in itertools.product((narrow, merge), range(1, 5)):
         for some in itertools.combinations_with_replacement(sets, length):
-            plain = in_turn(op, sets[0] if op == narrow else sets[1], some)
+            start = "any" if op == narrow else "none"
+            plain = in_turn(op, start, some)
             for other in set(itertools.permutations(some)):
-                yield plain, in_turn(op, sets[0] if op == narrow else sets[1], other)
+                yield plain, in_turn(op, start, other)
             yield plain, in_turn(op, plain, some[:1])
 
 
-def laws(who, command, languages):
-    sets, faults = sets_of(languages), 0
-    for name, (number, sides) in LAWS.items():
-        equations = [law(*some) for law in sides for some in itertools.product(sets, repeat=number)]
-        wrong = tried(command, equations)
-        faults += wrong
-        print("%s: %s: %d equations, %d fail" % (who, name, len(equations), wrong))
-    wrong, pairs = order_faults(command, sets)
-    print("%s: below exactly when narrowing gives it, and when merging adds nothing: %d pairs, %d fail" % (who, pairs, wrong))
-    equations = list(sequence_equations(sets_of(2)))
-    late = tried(command, equations)
-    print("%s: in any order, and once more: %d equations, %d fail" % (who, len(equations), late))
-    return faults + wrong + late
+def law_faults(languages):
+    sets = sets_of(languages)
+    faults = sum(tried(name, [law(*some) for law in sides for some in itertools.product(sets, repeat=number)]) for name, (number, sides) in LAWS.items())
+    return faults + order_faults(sets) + tried("in any order, and once more", list(sequence_equations(sets_of(2))))
 
 
 # ---- moved lines
@@ -258,7 +252,7 @@ def main():
     parser.add_argument("--moves", type=int, default=5)
     parser.add_argument("--seed", type=int, default=1)
     given = parser.parse_args()
-    faults = laws("port", compare.ASK, given.languages) + laws("original", compare.ORIGINAL, given.languages)
+    faults = law_faults(given.languages)
     with tempfile.TemporaryDirectory() as work:
         faults += pair_faults(work)
         faults += real_faults(work, random.Random(given.seed), given.moves)
