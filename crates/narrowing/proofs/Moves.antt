@@ -32,7 +32,10 @@ use Rattle.engine.specs.Calls.{CallOutcome, refusedBy, outcomeOf, spelledBy, on
 use Rattle.engine.specs.declared.call.Settings.{Settings}
 use Rattle.engine.specs.declared.call.Start.{Start}
 use Rattle.engine.specs.declared.spelling.Spelled.{Spelled}
+use Rattle.engine.specs.Lines.{LinesIs}
+use Rattle.engine.specs.declared.lines.Lines.{Lines}
 use Rattle.engine.proofs.AnswerLaws.{spell-one}
+use Rattle.engine.proofs.LinesLaws.{lines-one}
 use Rattle.narrowing.specs.Moves.{SameFirstMatches}
 use Rattle.narrowing.proofs.Sets.{narrowing-orderless}
 
@@ -135,11 +138,17 @@ module _ {s t : List ℕ} (same : SameFirstMatches s t) where
       ap (checkedThen c start name)
       (ap (onPack c start s name) (same .reads-one) ∙ on-packs c start name ∙ sym (ap (onPack c start t name) (same .reads-other)))
 
--- and so does what is promised of it: one answer, and one content of the buffer
+-- and so does what is promised of it, one answer and one content of the buffer: of a name
 pub same-first-matches-same-answer : {s t : List ℕ} → SameFirstMatches s t → (c : Settings) (start : Start) (name : Text)
     {out o u : List ℕ} {r v : Spelled} → SpellIs (callOf c start s name) out r o → SpellIs (callOf c start t name) out v u → (r ≡ v) × (o ≡ u)
 same-first-matches-same-answer same c start name {out} {o} {u} {r} {v} a b =
     spell-one a (subst (λ (x : CallOutcome). SpellIs x out v u) (sym (same-first-matches-same-call same c start name)) b)
+
+-- and of a block of names
+pub same-first-matches-same-block : {s t : List ℕ} → SameFirstMatches s t → (c : Settings) (start : Start)
+    {block out o u : List ℕ} {r v : Lines} → LinesIs (callOf c start s) block out r o → LinesIs (callOf c start t) block out v u → (r ≡ v) × (o ≡ u)
+same-first-matches-same-block same c start {block} {out} {o} {u} {r} {v} a b =
+    lines-one a (subst (λ (f : Text → CallOutcome). LinesIs f block out v u) (sym (fun-ext (same-first-matches-same-call same c start))) b)
 
 -- ---- which move is sure to be harmless
 
