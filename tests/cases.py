@@ -588,27 +588,23 @@ def spelling_random(rng, count):
 
 # ---- request 12: in which order languages are narrowed
 
-# languages, main rules, which two of them change places, a name, and its keys before and after
-Moved = collections.namedtuple("Moved", "languages rules swapped name before after")
+# languages, main rules before and after a move, a name, and its keys before and after
+Moved = collections.namedtuple("Moved", "languages rules_before rules_after name key_before key_after")
 MOVED = [
-    Moved(["any"], [("a", "o"), ("a", "u")], (0, 1), "a", "o", "u"),
-    Moved(["any", "b"], [("a", "o"), ("a", "o[b]"), ("c", "i[any]")], (0, 1), "ac", "oi", ""),
+    # another rule matches first
+    Moved(["any"], [("a", "o"), ("a", "u")], [("a", "u"), ("a", "o")], "a", "o", "u"),
+    # so that a language is lost
+    Moved(["any", "b"], [("a", "o"), ("a", "o[b]"), ("c", "i[any]")], [("a", "o[b]"), ("a", "o"), ("c", "i[any]")], "ac", "oi", ""),
+    # another alternative enters first, and "an equal text already there stays as it was"
+    Moved(["any", "b"], [("a", "(o|o[b])"), ("c", "i[any]")], [("a", "(o[b]|o)"), ("c", "i[any]")], "ac", "oi", ""),
 ]
 
 
-def after_move(rules, places):
-    """The rules with those at two places changed round."""
-    one, other = places
-    rules = list(rules)
-    rules[one], rules[other] = rules[other], rules[one]
-    return rules
-
-
 def narrowing_all():
-    """All pairs of sets of three languages, and packs in which two rules change places and another one matches first."""
+    """All pairs of sets of three languages, and packs before and after a move."""
     yield from pairs_of(["any", "none"] + list(range(8)))
     for moved in MOVED:
-        for rules in (moved.rules, after_move(moved.rules, moved.swapped)):
+        for rules in (moved.rules_before, moved.rules_after):
             yield spell_case(edge_pack(moved.languages, rules, []), (1, 0, 0, 20), None, 8, moved.name.encode())
 
 

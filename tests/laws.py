@@ -5,9 +5,9 @@
 
 The sets are Any, None and every Some of N languages, the one without bits too. Each law is tried on all pairs and triples of them, on what the program
 `ask` and the original's `bm-answers` say of `narrow` and `merge`; the order of sets on all pairs; and narrowings one after the other in every order, each
-list of up to four sets of two languages. Then two pairs of rule files are spelled in which lines are moved and another rule matches first, and the real
+list of up to four sets of two languages. Then pairs of small rule files are spelled, before and after a move (cases.py), and the real
 rules (oracle/rules) of each type N times: with the guessing lines in any order and rules moved past others that can not match where they do, which changes no
-key, and with rules moved anywhere, where it is counted how many keys change. Every fault is printed; the exit status is 1 where there is one.
+key, and with rules moved anywhere, where it is counted how many keys change. Faults are counted, the first of each law printed; the exit status is 1 where there is one.
 The original is built by oracle/build.
 """
 import argparse
@@ -32,6 +32,7 @@ ORACLE = os.path.join(ROOT, "oracle", "made", "bin", "bm-oracle")
 FILL = os.path.join(ROOT, "oracle", "mkdir-rules.py")
 REAL_RULES = os.path.join(ROOT, "oracle", "made", "rules")
 LIMIT = "20"
+SHOWN = 5               # how many faults of a law are printed
 
 
 # ---- terms of narrowing and merging
@@ -86,10 +87,13 @@ def tried(name, equations):
     """Both sides of each equation, asked of both programs: how many of all fail, or differ between the programs."""
     terms = [side for equation in equations for side in equation]
     port, original = (values(command, terms) for command in (compare.ASK, compare.ORIGINAL))
-    fail = sum(known[one] != known[other] for known in (port, original) for one, other in equations)
-    differ = sum(port[term] != original[term] for term in terms)
-    print("%s: %d equations, asked of both: %d fail, %d sets differ" % (name, len(equations), fail, differ))
-    return fail + differ
+    fail = ["%s is %s, %s is %s" % (one, known[one], other, known[other])
+            for known in (port, original) for one, other in equations if known[one] != known[other]]
+    differ = ["%s is %s by the port, %s by the original" % (term, port[term], original[term]) for term in terms if port[term] != original[term]]
+    print("%s: %d equations, asked of both: %d fail, %d sets differ" % (name, len(equations), len(fail), len(differ)))
+    for fault in (fail + differ)[:SHOWN]:
+        print("  " + fault)
+    return len(fail) + len(differ)
 
 
 def below(x, y):
@@ -161,18 +165,19 @@ class Folder:
         return done.stdout.decode().split("\n")[:-1]
 
 
+def key_faults(work, languages, rules, name, key):
+    """Whether both programs give a name this key by these rules."""
+    lines = [cases.rule_line(pattern.encode(), b"", b"", expression.encode()) for pattern, expression in rules]
+    files = cases.files_with({"gen_rules_any": b"\n".join(lines) + b"\n"}, languages)
+    folder = Folder(tempfile.mkdtemp(dir=work), "gen", files)
+    port, original = folder.port([name]), folder.original([name])
+    print("%s: %s gives %r by the port, %r by the original" % (b", ".join(lines).decode(), name, port, original))
+    return port != ["0 0 " + key] or original != [key]
+
+
 def pair_faults(work):
-    faults = 0
-    for moved, late in itertools.product(cases.MOVED, (False, True)):
-        rules = cases.after_move(moved.rules, moved.swapped) if late else moved.rules
-        lines = [cases.rule_line(pattern.encode(), b"", b"", expression.encode()) for pattern, expression in rules]
-        files = cases.files_with({"gen_rules_any": b"\n".join(lines) + b"\n"}, moved.languages)
-        folder = Folder(tempfile.mkdtemp(dir=work), "gen", files)
-        port, original = folder.port([moved.name]), folder.original([moved.name])
-        print("%s: %s gives %r by the port, %r by the original" % (b", ".join(lines).decode(), moved.name, port, original))
-        key = moved.after if late else moved.before
-        faults += port != ["0 0 " + key] or original != [key]
-    return faults
+    return sum(key_faults(work, moved.languages, moved.rules_before, moved.name, moved.key_before)
+               + key_faults(work, moved.languages, moved.rules_after, moved.name, moved.key_after) for moved in cases.MOVED)
 
 
 def pattern_of(line):
