@@ -3,7 +3,7 @@
 use mathlib.Core.Path.{_≡_, refl, sym, ap, ap₂, _∙_, subst, fun-ext}
 use mathlib.Core.Bool.{Bool, true, false}
 use mathlib.Core.Logic.{_↔_}
-use mathlib.Core.List.{List, [], _∷_, _++_, map, foldl, List·Memᴰ, List·Memᴰ·head, List·Memᴰ·tail}
+use mathlib.Core.List.{List, [], _∷_, _++_, map, foldl, List·Memᴰ, Memᴰ·cast, Memᴰ·map, Memᴰ·of-map}
 use Prim.Native.Nat.{ℕ, _+_, _-_, _*_, _^_}
 use lib.Bits.{bitAnd}
 use lib.Dec.{eqb}
@@ -60,14 +60,9 @@ by-all name (g ∷ gs) m =
     by-all name gs (narrowedBy name g m)
     ∙ ap (λ (s : LanguageSet). foldl narrowed s (map (narrowedFor name) gs)) (by-one (matchesOf (g .pattern) name) (eqb (g .accept) 0) m (g .mask))
 
-in-map : {A B : Type 0} (f : A → B) {a : A} {b : B} {ys : List A} → b ≡ f a → List·Memᴰ a ys → List·Memᴰ b (map f ys)
-in-map f e (List·Memᴰ·head p) = List·Memᴰ·head (e ∙ ap f p)
-in-map f e (List·Memᴰ·tail m) = List·Memᴰ·tail (in-map f e m)
-
 map-has : {A B : Type 0} (f : A → B) (xs ys : List A) → ((a : A) → List·Memᴰ a xs → List·Memᴰ a ys) → (b : B)
     → List·Memᴰ b (map f xs) → List·Memᴰ b (map f ys)
-map-has f (x ∷ xs) ys has b (List·Memᴰ·head e) = in-map f e (has x (List·Memᴰ·head refl))
-map-has f (x ∷ xs) ys has b (List·Memᴰ·tail m) = map-has f xs ys (λ a n. has a (List·Memᴰ·tail n)) b m
+map-has f xs ys has b m = let (a, n, e) = Memᴰ·of-map f xs m in Memᴰ·cast (sym e) (Memᴰ·map f (has a n))
 
 -- so guessing rules may stand in any order
 pub moved-guessing-rules-same-guess : (gs hs : List Guess) → ((g : Guess) → List·Memᴰ g gs ↔ List·Memᴰ g hs)
