@@ -1,6 +1,6 @@
 -- Laws on `insert` and `enter`: what comes in, what stays, and the order. Assumes nothing.
 -- They speak of entries by `Holds l t g` alone, so that a further field of an entry touches few of them.
-use mathlib.Core.Path.{_≡_, refl, ap, subst}
+use mathlib.Core.Path.{_≡_, refl, sym, ap, subst}
 use mathlib.Core.Bool.{Bool, true, false}
 use mathlib.Core.Logic.{_⊎_, inl, inr}
 use mathlib.Core.List.{List, [], _∷_}
@@ -17,7 +17,7 @@ use Rattle.letters.specs.declared.order.Order.the-variants.{Less, Equal, Greate
 use Rattle.choices.specs.Apply.{Entry, textsOf, insert, enter, NextSet, overlong, nextSet}
 use Rattle.choices.specs.Choices.{Holds, first, later, First, Increasing, times}
 use Rattle.languages.specs.declared.sets.LanguageSet.{LanguageSet}
-use Rattle.letters.proofs.StrictOrder.{compare-same, compare-refl, compare-flip, compare-trans}
+use Rattle.letters.proofs.StrictOrder.{compare-same, compare-refl, compare-flip, compare-back, compare-trans}
 use Rattle.base.proofs.Arms.{clash}
 
 -- ---- insert, by the order of the text at the front and the new one
@@ -95,6 +95,35 @@ pub insert-increasing : (e : Entry) (l : List Entry) → Increasing (textsOf l) 
 unfolding Increasing First insert
 insert-increasing e [] i = (tt, tt)
 insert-increasing e (x ∷ l) i = increasing-by e x l (orderOf (x .text) (e .text)) refl (i .0) (i .1) (insert-increasing e l (i .1))
+
+-- ---- two texts come in
+
+-- the one that stands before, then the other: by the order of the text at the front and each of them
+module _ (e f : Entry) (before : orderOf (e .text) (f .text) ≡ Less) where
+  swap-by : (x : Entry) (l : List Entry) (o p : Order) → orderOf (x .text) (e .text) ≡ o → orderOf (x .text) (f .text) ≡ p
+      → insert f (insert e l) ≡ insert e (insert f l) → insert f (insert e (x ∷ l)) ≡ insert e (insert f (x ∷ l))
+  unfolding insert byOrder
+  swap-by x l Less p q r ih = simp (q, compare-trans (x .text) (e .text) (f .text) q before) (ap (_∷_ x) ih)
+  swap-by x l Equal p q r ih =
+      let less : orderOf (x .text) (f .text) ≡ Less = rw (compare-same (x .text) (e .text) q) before in
+      simp (q, less)
+  swap-by x l Greater Less q r ih = simp (q, before, r)
+  swap-by x l Greater Equal q r ih = simp (q, before, r)
+  swap-by x l Greater Greater q r ih = simp (q, before, r, compare-back (e .text) (f .text) before)
+
+  insert-swap : (l : List Entry) → insert f (insert e l) ≡ insert e (insert f l)
+  unfolding insert byOrder
+  insert-swap [] = simp (before, compare-back (e .text) (f .text) before)
+  insert-swap (x ∷ l) = swap-by x l (orderOf (x .text) (e .text)) (orderOf (x .text) (f .text)) refl refl (insert-swap l)
+
+-- two that spell differently may come in either order
+pub insert-either : (e f : Entry) → (e .text ≡ f .text → ⊥) → (l : List Entry) → insert f (insert e l) ≡ insert e (insert f l)
+insert-either e f apart l = go (orderOf (e .text) (f .text)) refl
+  where
+    go : (o : Order) → orderOf (e .text) (f .text) ≡ o → insert f (insert e l) ≡ insert e (insert f l)
+    go Less q = insert-swap e f q l
+    go Equal q = absurd (apart (compare-same _ _ q))
+    go Greater q = sym (insert-swap f e (compare-flip _ _ q) l)
 
 -- ---- a text of an increasing list stands there once
 

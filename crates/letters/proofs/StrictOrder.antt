@@ -98,3 +98,11 @@ compare-trans (x ∷ s) (y ∷ t) (z ∷ u) d e = go (compare-trans s t u) (befo
     go ih (inl p) (inr w) = lt-before x z s u (omega arith)
     go ih (inr v) (inl q) = lt-before x z s u (omega arith)
     go ih (inr v) (inr w) = eq-compare x z s u (omega arith) ∙ ih (v .1) (w .1)
+
+back-by : (s t : List ℕ) (o : Order) → orderOf t s ≡ o → orderOf s t ≡ Less → o ≡ Greater
+back-by s t Less e d = clash (let a = compare-refl s in let b = compare-trans s t s d e in cc)
+back-by s t Equal e d = clash (let a = compare-refl t in let b : orderOf t t ≡ Less = rw (← compare-same t s e) at d in cc)
+back-by s t Greater e d = refl
+
+pub compare-back : (s t : List ℕ) → orderOf s t ≡ Less → orderOf t s ≡ Greater
+compare-back s t d = back-by s t _ refl d
