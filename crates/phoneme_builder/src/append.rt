@@ -32,21 +32,22 @@ fn lengthen(
     Applied::Now(add_to(store, slots, to, &row[0..e], c, langs))
 }
 
-// c behind every text, sorted anew in the other set: from the last on, each goes to its place among those behind it.
+// c behind every text, sorted anew in the other set: each goes to its place among those before it, which is mostly behind them.
 pub(crate) fn append(store: &mut Store, slots: &mut Slots, sets: Between, c: &[u8]) -> Applied
     requires { ⌜ BetweenIn (arena (now store) (now slots)) sets ⌝ }
     ensures { λ r. ⌜ AppendedTo (arena (now (store .entry)) (now (slots .entry))) (arena (now (store .exit)) (now (slots .exit)))
         sets (now (c .entry)) r ⌝ }
 {
-    let mut i = sets.count;
+    let mut i = 0;
     let mut count = 0;
-    while 0 < i {
-        i -= 1;
+    while i < sets.count {
+        let next = i;
+        i += 1;
         match lengthen(
             store,
             slots,
             sets.from,
-            i,
+            next,
             Target {
                 set: sets.to,
                 count,

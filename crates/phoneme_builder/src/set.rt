@@ -3,7 +3,7 @@
 // Four sets stand side by side, by number: 256 rows of 128 bytes and 256 slots each.
 ghost use mathlib.Core.Path.{_≡_};
 ghost use mathlib.Core.List.{_++_};
-ghost use Prim.Native.Nat.{_+_, _*_, _≤_};
+ghost use Prim.Native.Nat.{_+_, _*_, _≤_, _<_};
 ghost use lib.ListN.{length, take, drop};
 ghost use Rattle.phoneme_builder.specs.BufferContracts.{ROW, findL, insAt, put, slotOf, InsertsText, firstOf, secondOf, slotText, slotTexts, added, IsSet, SetIs, Enters, arena, Opens, AddsTo, AddedTo, Begins, BegunAs, TextIn, textIn, langsIn, CopiedIs};
 use crate::slots::NO_LANGUAGES;
@@ -57,26 +57,40 @@ fn row<'a>(store: &'a [u8], slot: u64) -> &'a [u8]
     &store[a..e]
 }
 
-// Where t stands among the texts, or where it would go.
+// Which text is asked next: the last one as long as none is known to stand behind, since most go behind it; then the middle one.
+fn ask_next(low: usize, high: usize, count: usize) -> usize
+    requires { ⌜ low < high ⌝ }
+    ensures { λ r. ⌜ (low ≤ r) × (r < high) ⌝ }
+{
+    if high == count {
+        high - 1
+    } else {
+        low + (high - low) / 2
+    }
+}
+
+// Where t stands among the texts, or where it would go, by halves: it stands behind those before `low`, and before those from `high` on.
 pub(crate) fn find(store: &[u8], slots: &[u64], count: usize, t: &[u8]) -> Found
     requires { ⌜ IsSet (now store) (now slots) count ⌝ }
     ensures { λ r. ⌜ r ≡ findL (now (t .entry)) (slotTexts (now (store .entry)) (now (slots .entry)) count) ⌝ }
 {
-    let mut i = 0;
-    while i < count {
-        match letters::compare(row(store, slots[i]), t) {
+    let mut low: usize = 0;
+    let mut high = count;
+    while low < high {
+        let asked = ask_next(low, high, count);
+        match letters::compare(row(store, slots[asked]), t) {
             letters::Order::Less => {
-                i += 1;
+                low = asked + 1;
             }
             letters::Order::Equal => {
-                return Found::At(i);
+                return Found::At(asked);
             }
             letters::Order::Greater => {
-                return Found::Free(i);
+                high = asked;
             }
         }
     }
-    Found::Free(i)
+    Found::Free(low)
 }
 
 // Puts v at index p of the first n, and moves the others up by one.
