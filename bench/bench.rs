@@ -3,13 +3,15 @@
 //!     bench DIR SURNAMES                            prints the tables
 //!     bench DIR SURNAMES port|original KIND LIMIT   one bulk round of a side, in a function whose instructions can be counted
 //!
-//! DIR holds what bench/run has made: the folders `all`, `half` and `quarter` for the original, the packs of the same rules, and `bundle`.
+//! DIR holds what bench/run has made: the folders `all`, `half` and `quarter` for the original, the packs of the same rules, and `bundle`;
+//! and in `slow` the packs that are made to be slow. Compiled with `--cfg before`, an earlier library is measured beside the port's.
 use rphonetic::{BeiderMorse, BeiderMorseBuilder, ConfigFiles, Encoder, NameType, RuleType};
 use std::fmt::Display;
 use std::hint::black_box;
 use std::path::{Path, PathBuf};
 
 const ROUNDS: usize = 25;
+const SECONDS: f64 = 20.0;
 const KINDS: [&str; 2] = ["approx", "exact"];
 const GENERIC: u32 = 1;
 
@@ -28,6 +30,42 @@ mod face {
     }
 }
 
+/// Of an earlier library, whose names bench/run has put `before_` in front of, what bulk needs.
+#[cfg(before)]
+#[rustfmt::skip]
+mod before {
+    extern "C" {
+        pub fn before_bm_check(pack: *const u8, pack_length: usize, tail: *mut u64, tail_length: usize) -> u32;
+        pub fn before_bm_spell_lines(
+            name_type: u32, rule_type: u32, concat: u32, limit: u32, given: u32, kind: u32, bits: u32, pack: *const u8, pack_length: usize,
+            block: *const u8, block_length: usize, out: *mut u8, out_length: usize, tail: *mut u64, tail_length: usize) -> u32;
+    }
+}
+
+type Check = unsafe extern "C" fn(*const u8, usize, *mut u64, usize) -> u32;
+#[rustfmt::skip]
+type Lines = unsafe extern "C" fn(u32, u32, u32, u32, u32, u32, u32, *const u8, usize, *const u8, usize, *mut u8, usize, *mut u64, usize) -> u32;
+
+/// The two functions of a library by which names are spelled in bulk.
+#[derive(Clone, Copy)]
+struct Bulk {
+    check: Check,
+    lines: Lines,
+}
+
+const NOW: Bulk = Bulk {
+    check: face::bm_check,
+    lines: face::bm_spell_lines,
+};
+
+#[cfg(before)]
+const BEFORE: Option<Bulk> = Some(Bulk {
+    check: before::before_bm_check,
+    lines: before::before_bm_spell_lines,
+});
+#[cfg(not(before))]
+const BEFORE: Option<Bulk> = None;
+
 /// A rule kind (0 approx, 1 exact) and a limit; Generic, no concat.
 #[derive(Clone, Copy)]
 struct Setting {
@@ -35,16 +73,36 @@ struct Setting {
     limit: u32,
 }
 
-/// A pack and the buffers that are lent.
+impl Display for Setting {
+    fn fmt(&self, out: &mut std::fmt::Formatter) -> std::fmt::Result {
+        write!(out, "{}, limit {}", KINDS[self.kind as usize], self.limit)
+    }
+}
+
+const APPROX_20: Setting = Setting { kind: 0, limit: 20 };
+const APPROX_256: Setting = Setting {
+    kind: 0,
+    limit: 256,
+};
+const EXACT_20: Setting = Setting { kind: 1, limit: 20 };
+const EXACT_256: Setting = Setting {
+    kind: 1,
+    limit: 256,
+};
+const FOUR: [Setting; 4] = [APPROX_20, APPROX_256, EXACT_20, EXACT_256];
+
+/// A library, a pack and the buffers that are lent.
 struct Port {
+    bulk: Bulk,
     pack: Vec<u8>,
     out: Vec<u8>,
     tail: [u64; 2],
 }
 
 impl Port {
-    fn new(pack: Vec<u8>) -> Port {
+    fn new(bulk: Bulk, pack: Vec<u8>) -> Port {
         let mut port = Port {
+            bulk,
             pack,
             out: vec![0; 8 << 20],
             tail: [0; 2],
@@ -64,7 +122,7 @@ impl Port {
 
     #[rustfmt::skip]
     fn check(&mut self) -> u32 {
-        unsafe { face::bm_check(black_box(self.pack.as_ptr()), self.pack.len(), self.tail.as_mut_ptr(), 2) }
+        unsafe { (self.bulk.check)(black_box(self.pack.as_ptr()), self.pack.len(), self.tail.as_mut_ptr(), 2) }
     }
 
     /// The code of a checked call; the answer is in `out`, its length in `tail`.
@@ -81,7 +139,7 @@ impl Port {
     #[rustfmt::skip]
     fn lines(&mut self, setting: Setting, block: &[u8]) -> &[u8] {
         let code = unsafe {
-            face::bm_spell_lines(
+            (self.bulk.lines)(
                 GENERIC, setting.kind, 0, setting.limit, 0, 0, 0, self.pack.as_ptr(), self.pack.len(), block.as_ptr(), block.len(),
                 self.out.as_mut_ptr(), self.out.len(), self.tail.as_mut_ptr(), 2)
         };
@@ -118,13 +176,19 @@ fn block_of(names: &[String]) -> Vec<u8> {
         .collect()
 }
 
-/// Every key of the port, from a block and from a call of its own, is the original's.
-fn assert_equal(port: &mut Port, morse: &BeiderMorse, setting: Setting, names: &[String]) {
+/// Every key from a block is the original's.
+fn assert_lines(port: &mut Port, keys: &[String], setting: Setting, names: &[String]) {
     let lines = String::from_utf8(port.lines(setting, &block_of(names)).to_vec()).unwrap();
     assert_eq!(lines.lines().count(), names.len());
-    for (name, line) in names.iter().zip(lines.lines()) {
-        let key = morse.encode(name);
+    for ((name, key), line) in names.iter().zip(keys).zip(lines.lines()) {
         assert_eq!(&line[4..], key, "{name}");
+    }
+}
+
+/// Every key of the port, from a block and from a call of its own, is the original's.
+fn assert_equal(port: &mut Port, keys: &[String], setting: Setting, names: &[String]) {
+    assert_lines(port, keys, setting, names);
+    for (name, key) in names.iter().zip(keys) {
         assert_eq!(port.spell(setting, name), 0);
         assert_eq!(&port.out[..port.tail[0] as usize], key.as_bytes(), "{name}");
     }
@@ -165,18 +229,25 @@ fn used() -> f64 {
     time[0] as f64 + time[1] as f64 * 1e-9
 }
 
-/// Seconds of the quickest of rounds in which the sides take turns.
-fn fastest(mut one: impl FnMut(), mut other: impl FnMut()) -> (f64, f64) {
-    let timed = |work: &mut dyn FnMut()| {
-        let start = used();
-        work();
-        used() - start
-    };
-    let mut best = (f64::MAX, f64::MAX);
+/// Seconds of the quickest of rounds in which the sides take turns; after SECONDS no further round begins.
+fn quickest<const N: usize>(mut sides: [&mut dyn FnMut(); N]) -> [f64; N] {
+    let (mut best, begun) = ([f64::MAX; N], used());
     for _ in 0..ROUNDS {
-        best = (best.0.min(timed(&mut one)), best.1.min(timed(&mut other)));
+        for (side, best) in sides.iter_mut().zip(&mut best) {
+            let start = used();
+            side();
+            *best = best.min(used() - start);
+        }
+        if SECONDS < used() - begun {
+            break;
+        }
     }
     best
+}
+
+fn fastest(mut one: impl FnMut(), mut other: impl FnMut()) -> (f64, f64) {
+    let [one, other] = quickest([&mut one, &mut other]);
+    (one, other)
 }
 
 fn row(what: impl Display, port: f64, original: f64) {
@@ -186,10 +257,34 @@ fn row(what: impl Display, port: f64, original: f64) {
     );
 }
 
-fn head(title: &str, first: &str) {
-    println!(
-        "\n{title}\n\n| {first} | port, µs | original, µs | original / port |\n|---|---|---|---|"
-    );
+/// Microseconds a name in bulk of the port, of the original and of an earlier library.
+struct Times {
+    port: f64,
+    original: f64,
+    before: Option<f64>,
+}
+
+impl Times {
+    fn head(title: &str, first: &str) {
+        println!("\n{title}\n");
+        match BEFORE {
+            Some(_) => println!("| {first} | before, µs | port, µs | before / port | original, µs | original / port |\n|---|---|---|---|---|---|"),
+            None => println!("| {first} | port, µs | original, µs | original / port |\n|---|---|---|---|"),
+        }
+    }
+
+    fn row(&self, what: impl Display) {
+        match self.before {
+            Some(before) => println!(
+                "| {what} | {before:.1} | {:.1} | {:.2} | {:.1} | {:.2} |",
+                self.port,
+                before / self.port,
+                self.original,
+                self.original / self.port
+            ),
+            None => row(what, self.port, self.original),
+        }
+    }
 }
 
 struct Bench {
@@ -199,32 +294,57 @@ struct Bench {
 }
 
 impl Bench {
-    /// Microseconds a name in bulk, of the port and of the original, whose keys are equal first.
-    fn bulk(&mut self, setting: Setting, names: &[String]) -> (f64, f64) {
+    /// The rules of a folder and of the pack beside it.
+    fn of_folder(folder: &Path) -> Bench {
+        Bench {
+            port: Port::new(NOW, std::fs::read(folder.with_extension("pack")).unwrap()),
+            config: ConfigFiles::new(&folder.to_path_buf()).unwrap(),
+            names: Vec::new(),
+        }
+    }
+
+    /// What a name takes in bulk, whose keys are equal first.
+    fn bulk(&mut self, setting: Setting, names: &[String]) -> Times {
         let morse = original(&self.config, setting);
-        assert_equal(&mut self.port, &morse, setting, names);
+        let keys: Vec<String> = names.iter().map(|name| morse.encode(name)).collect();
+        assert_equal(&mut self.port, &keys, setting, names);
         let (block, count) = (block_of(names), 1e6 / names.len() as f64);
-        let (one, other) = fastest(
+        let earlier = BEFORE.map(|bulk| Port::new(bulk, self.port.pack.clone()));
+        let (mut one, mut other) = (
             || port_round(&mut self.port, setting, &block),
             || original_round(&morse, names),
         );
-        (one * count, other * count)
+        let Some(mut earlier) = earlier else {
+            let [port, original] = quickest([&mut one, &mut other]).map(|time| time * count);
+            return Times {
+                port,
+                original,
+                before: None,
+            };
+        };
+        assert_lines(&mut earlier, &keys, setting, names);
+        let mut third = || port_round(&mut earlier, setting, &block);
+        let [port, original, before] =
+            quickest([&mut one, &mut other, &mut third]).map(|time| time * count);
+        Times {
+            port,
+            original,
+            before: Some(before),
+        }
     }
 
     fn main_table(&mut self, dir: &Path) {
         println!("| what | port | original | original's time / port's |\n|---|---|---|---|");
         let mut checked = Vec::new();
-        for (kind, limit) in [(0, 20), (0, 256), (1, 20), (1, 256)] {
-            let setting = Setting { kind, limit };
+        for setting in FOUR {
             let names = self.port.answered(&[setting], &self.names);
-            let what = format!("{}, limit {limit}", KINDS[kind as usize]);
-            let (one, other) = self.bulk(setting, &names);
+            let times = self.bulk(setting, &names);
             println!(
-                "| names a second in bulk, {what} ({} names) | {:.0} | {:.0} | {:.2} |",
+                "| names a second in bulk, {setting} ({} names) | {:.0} | {:.0} | {:.2} |",
                 names.len(),
-                1e6 / one,
-                1e6 / other,
-                other / one
+                1e6 / times.port,
+                1e6 / times.original,
+                times.original / times.port
             );
             let morse = original(&self.config, setting);
             let (one, other) = fastest(
@@ -233,7 +353,7 @@ impl Bench {
             );
             let count = 1e6 / names.len() as f64;
             checked.push((
-                format!("one checked call, µs, {what}"),
+                format!("one checked call, µs, {setting}"),
                 one * count,
                 other * count,
             ));
@@ -255,37 +375,44 @@ impl Bench {
         );
     }
 
-    fn by_length(&mut self, setting: Setting) {
+    /// Names of one word and of so many bytes.
+    fn pieces(&self, length: usize) -> Vec<String> {
         let letters: String = self
             .names
             .iter()
             .flat_map(|name| name.chars())
             .filter(|c| c.is_ascii_alphabetic())
             .collect();
-        head(
-            "By the length of the name (one word; approx, limit 20), a name in bulk:",
-            "bytes of the name",
+        let step = letters.len() / 60;
+        (0..60)
+            .filter_map(|n| letters.get(n * step..n * step + length))
+            .map(str::to_string)
+            .collect()
+    }
+
+    fn by_length(&mut self) {
+        Times::head(
+            "By the length of the name (one word), a name in bulk:",
+            "rules, limit, bytes of the name",
         );
-        for length in [8, 16, 32, 64, 96] {
-            let step = letters.len() / 60;
-            let pieces: Vec<String> = (0..60)
-                .filter_map(|n| letters.get(n * step..n * step + length))
-                .map(str::to_string)
-                .collect();
-            let names = self.port.answered(&[setting], &pieces);
-            if names.is_empty() {
-                println!("| {length} (each refused) | | | |");
-                continue;
+        for setting in FOUR {
+            for length in [8, 16, 32, 64, 96] {
+                let names = self.port.answered(&[setting], &self.pieces(length));
+                let what = format!("{setting}, {length} bytes");
+                if names.is_empty() {
+                    println!("| {what} (each refused) |");
+                    continue;
+                }
+                self.bulk(setting, &names)
+                    .row(format!("{what} ({} names)", names.len()));
             }
-            let (one, other) = self.bulk(setting, &names);
-            row(format!("{length} ({} names)", names.len()), one, other);
         }
     }
 
     fn by_limit(&mut self, kind: u32) {
         let settings = [1, 5, 20, 64, 256].map(|limit| Setting { kind, limit });
         let names = self.port.answered(&settings, &self.names);
-        head(
+        Times::head(
             &format!(
                 "By the limit (approx, {} names), a name in bulk:",
                 names.len()
@@ -293,29 +420,43 @@ impl Bench {
             "limit",
         );
         for setting in settings {
-            let (one, other) = self.bulk(setting, &names);
-            row(setting.limit, one, other);
+            self.bulk(setting, &names).row(setting.limit);
         }
     }
 
-    fn by_pack(&mut self, setting: Setting, dir: &Path) {
+    fn by_pack(&self, setting: Setting, dir: &Path) {
         println!("\nBy the rules (approx, limit 20; every fourth rule, every second, all):\n");
         println!("| rules | bytes of the pack | a name in bulk, µs | the original's, µs | original / port | a checked call, µs | a check, µs |");
         println!("|---|---|---|---|---|---|---|");
         for what in ["quarter", "half", "all"] {
-            self.port = Port::new(std::fs::read(dir.join(what).with_extension("pack")).unwrap());
-            self.config = ConfigFiles::new(&dir.join(what)).unwrap();
-            let names = self.port.answered(&[setting], &self.names);
-            let (one, other) = self.bulk(setting, &names);
-            let (call, _) = fastest(|| calls(&mut self.port, setting, &names), || ());
-            let (check, _) = fastest(|| assert_eq!(self.port.check(), 0), || ());
-            let (bytes, call) = (self.port.pack.len(), call * 1e6 / names.len() as f64);
+            let mut part = Bench::of_folder(&dir.join(what));
+            let names = part.port.answered(&[setting], &self.names);
+            let Times { port, original, .. } = part.bulk(setting, &names);
+            let (call, _) = fastest(|| calls(&mut part.port, setting, &names), || ());
+            let (check, _) = fastest(|| assert_eq!(part.port.check(), 0), || ());
+            let (bytes, call) = (part.port.pack.len(), call * 1e6 / names.len() as f64);
             println!(
-                "| {what} | {bytes} | {one:.1} | {other:.1} | {:.2} | {call:.1} | {:.1} |",
-                other / one,
+                "| {what} | {bytes} | {port:.1} | {original:.1} | {:.2} | {call:.1} | {:.1} |",
+                original / port,
                 check * 1e6
             );
         }
+    }
+}
+
+/// The packs that are made to be slow, each with its name (bench/slow.py).
+fn slow_packs(dir: &Path) {
+    Times::head(
+        "A name by a pack made to be slow (approx, limit 256, no final rules):",
+        "texts, bytes they share, alternatives that spell alike, places",
+    );
+    let list = std::fs::read_to_string(dir.join("slow").join("list")).unwrap();
+    for line in list.lines() {
+        let [folder, name, what] = line.split('\t').collect::<Vec<_>>()[..] else {
+            panic!("{line}");
+        };
+        let mut bench = Bench::of_folder(&dir.join("slow").join(folder));
+        bench.bulk(APPROX_256, &[name.to_string()]).row(what);
     }
 }
 
@@ -326,7 +467,7 @@ fn main() {
         std::fs::read_to_string(&words[1]).unwrap(),
     );
     let mut bench = Bench {
-        port: Port::new(Port::load(&std::fs::read(dir.join("bundle")).unwrap())),
+        port: Port::new(NOW, Port::load(&std::fs::read(dir.join("bundle")).unwrap())),
         config: ConfigFiles::new(&dir.join("all")).unwrap(),
         names: surnames.lines().map(str::to_string).collect(),
     };
@@ -346,10 +487,10 @@ fn main() {
         bench.port.pack,
         std::fs::read(dir.join("all.pack")).unwrap()
     );
-    println!("Generic rules, {} surnames, a pack of {} bytes; the best of {ROUNDS} rounds in which both sides take turns, in processor time; keys equal.\n", bench.names.len(), bench.port.pack.len());
-    let usual = Setting { kind: 0, limit: 20 };
+    println!("Generic rules, {} surnames, a pack of {} bytes; the best of {ROUNDS} rounds (fewer where they take over {SECONDS} seconds) in which the sides take turns, in processor time; keys equal.\n", bench.names.len(), bench.port.pack.len());
     bench.main_table(&dir);
-    bench.by_length(usual);
-    bench.by_limit(0);
-    bench.by_pack(usual, &dir);
+    bench.by_length();
+    bench.by_limit(APPROX_20.kind);
+    bench.by_pack(APPROX_20, &dir);
+    slow_packs(&dir);
 }

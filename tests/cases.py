@@ -608,6 +608,56 @@ def narrowing_all():
             yield spell_case(edge_pack(moved.languages, rules, []), (1, 0, 0, 20), None, 8, moved.name.encode())
 
 
+# ---- request 2: looking for a text in a set
+
+WIDE_LIMITS = (2, 3, 20, 64, 255, 256)
+
+
+def sets_all():
+    """Sets of up to twelve texts in order, and one more text that is united into each place of them: between two, or equal to one."""
+    for count in range(13):
+        texts = "bdfhjlnprtvx"[:count]
+        for text in "abcdefghijklmnopqrstuvwxy"[:2 * count + 1]:
+            data = edge_pack(FOUR_NAMES, [("a", "(%s)" % "|".join(["%s[de]" % one for one in texts] + ["z[fr]"]))], [("z", text)],
+                             [(text, "(%s[de]|%s[fr+it])" % (text, 2 * text))])
+            yield word_case(data, list_numbers(FOUR_NAMES, 0, 0), 256, 0, 0, "a")
+
+
+def wide_expression(rng, sounds):
+    """Up to forty alternatives of few letters, so that many are equal and many begin with others; at most 255 bytes."""
+    most = rng.choice((2, 8, 40))
+    parts = []
+    for _ in range(rng.randrange(1, most + 1)):
+        box = "[%s]" % "+".join(rng.sample(sounds.names, rng.randrange(1, len(sounds.names) + 1)))
+        text = "".join(rng.choice(sounds.sounds) for _ in range(rng.randrange(5)))
+        parts.append(text + (box if rng.randrange(4) < sounds.boxes else ""))
+    while len("(%s)" % "|".join(parts)) > second.LONGEST_STRING:
+        parts.pop()
+    return "(%s)" % "|".join(parts)
+
+
+def wide_pack(rng):
+    """A pack whose sets grow to hundreds of texts that share their beginnings, and what it is made of."""
+    names = sorted({"any"} | set(rng.sample(("a", "de", "fr", "zz"), rng.randrange(3))))
+    sounds = Sounds(names, list("abcd"), rng.sample("stuv", rng.randrange(1, 4)), [], rng.randrange(2))
+    main = [(letter, "", "", wide_expression(rng, sounds)) for letter in sounds.letters]
+
+    def finals():
+        return [(sound, "", "", wide_expression(rng, sounds) if rng.randrange(2) else sound) for sound in sounds.sounds if rng.randrange(2)]
+
+    lists = [rules for _ in names for rules in (main, sorted(finals()), sorted(finals()))] + [sorted(finals()), sorted(finals())]
+    return sounds, second.pack_bytes(names, [], lists)
+
+
+def sets_random(rng, count):
+    for _ in range(count):
+        sounds, data = wide_pack(rng)
+        for _ in range(4):
+            word = "".join(rng.choice(sounds.letters) for _ in range(rng.randrange(1, 6)))
+            numbers = list_numbers(sounds.names, rng.randrange(len(sounds.names)), rng.randrange(2))
+            yield word_case(data, numbers, rng.choice(WIDE_LIMITS), *set_over(rng, sounds.names), word)
+
+
 # ---- loading a bundle
 
 LINE = b'"a" "" "" "o"'
@@ -964,6 +1014,7 @@ LAYERS = {
     "loading": (loading_all, loading_random),
     "blocks": (block_all, block_random),
     "narrowing": (narrowing_all, None),
+    "sets": (sets_all, sets_random),
 }
 
 

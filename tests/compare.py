@@ -76,9 +76,9 @@ def sampled(layer, seed, count, sample):
 
 
 def stored(layer):
-    """Some cases of each kind, by the last line's word; of spelling and blocks those of some packs, all of them; of loading as cases.py
-    says; of narrowing all."""
-    if layer in ("spelling", "blocks"):
+    """Some cases of each kind, by the last line's word; of spelling, blocks and sets those of some packs, all of them; of loading as
+    cases.py says; of narrowing all."""
+    if layer in ("spelling", "blocks", "sets"):
         return list(cases.cases_of(layer, 1, 40 if layer == "spelling" else 10))
     if layer == "loading":
         return list(cases.loading_stored())

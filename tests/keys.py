@@ -1,9 +1,9 @@
 #!/usr/bin/env python3
 """Holds keys and flags of the second check, and of the port, against those of the original.
 
-    tests/keys.py [--packs N] [--names N] [--seed N] [--real] [--port ask] [--bulk N]
+    tests/keys.py [--packs N] [--wide N] [--names N] [--seed N] [--real] [--port ask] [--bulk N]
 
-Tried are the edges of cases.py, N random packs, and with --real the real rules (oracle/rules fetches them) less the lines that
+Tried are the edges of cases.py, N random packs, N whose sets grow to hundreds of texts, and with --real the real rules (oracle/rules fetches them) less the lines that
 document 01 refuses; each under settings of every kind, with N random names a setting. With --port the port's program answers the
 same as case lines, and odd ones besides. Every difference is printed, then what was compared; the exit status is 1 where there is
 a difference. The original is built by oracle/build; bm-probe gives its keys. With --bulk the program keys spells every surname and N
@@ -41,6 +41,8 @@ SECONDS, SECONDS_REFUSED = 60, 2        # what the original may take for the nam
 BYTES = 1 << 30                 # and how much memory
 BATCH = 2000                    # lines for one process of the port
 SETTINGS_OF_A_PACK = 12
+# how packs are made at random, and the limits that they are tried under
+PARTS = {"random": (cases.spelling_pack, cases.LIMITS), "wide": (cases.wide_pack, cases.WIDE_LIMITS)}
 
 # the same rules for the original (folder) and for the others (packs, by name type: bytes, and accepted)
 Rules = collections.namedtuple("Rules", "part folder packs checked")
@@ -408,16 +410,17 @@ def try_edges(rng, tally, port):
                 compare(rng, rules, setting, names, tally, port)
 
 
-def try_random(rng, packs, count, tally, port):
+def try_random(rng, part, packs, count, tally, port):
     """Packs with settings drawn from a shuffled round of all of them, half of them with a given set."""
+    make, limits = PARTS[part]
     rounds = []
     for _ in range(packs):
-        sounds, data = cases.spelling_pack(rng)
+        sounds, data = make(rng)
         with tempfile.TemporaryDirectory() as folder:
-            rules = rules_of_pack("random", folder, data)
+            rules = rules_of_pack(part, folder, data)
             for _ in range(SETTINGS_OF_A_PACK):
                 if not rounds:
-                    rounds = settings_over(cases.LIMITS)
+                    rounds = settings_over(limits)
                     rng.shuffle(rounds)
                 setting = Setting(rounds.pop(), some_set(rng, sounds.names) if rng.randrange(2) else None)
                 compare(rng, rules, setting, [random_name(rng, sounds.letters) for _ in range(count)], tally, port)
@@ -503,6 +506,7 @@ def try_bulk(rng, count, tally):
 def main():
     parser = argparse.ArgumentParser(usage=__doc__)
     parser.add_argument("--packs", type=int, default=100)
+    parser.add_argument("--wide", type=int, default=0)
     parser.add_argument("--names", type=int, default=25)
     parser.add_argument("--seed", type=int, default=1)
     parser.add_argument("--real", action="store_true")
@@ -513,7 +517,8 @@ def main():
     port = Port(given.port, tally) if given.port else None
     rng = random.Random("keys %d" % given.seed)
     try_edges(rng, tally, port)
-    try_random(rng, given.packs, given.names, tally, port)
+    try_random(rng, "random", given.packs, given.names, tally, port)
+    try_random(rng, "wide", given.wide, given.names, tally, port)
     if given.real:
         try_real(rng, given.names, tally, port)
     if given.bulk:
