@@ -3,8 +3,11 @@
 use Prim.Native.Nat.{ℕ, zero, suc, _+_, _-_, _*_, _/_, _%_, _≤_, _<_}
 use mathlib.Core.Path.{_≡_}
 use mathlib.Core.List.{List, [], _∷_, _++_, map}
+use lib.Dec.{eqb}
+use lib.Ieee.{size}
 use lib.ListN.{length, take, drop, getD}
 use lib.Seq.{sets}
+use Rattle.base.specs.Pick.{pick}
 use Rattle.letters.specs.Order.{orderOf}
 use Rattle.languages.specs.Contracts.{decoded, codesMerged, IsCode}
 use Rattle.languages.specs.declared.sets.LanguageSet.{LanguageSet}
@@ -47,6 +50,22 @@ further (Free k) = Free (suc k)
 unfoldable pub findL : Text → List Text → Found
 findL t [] = Free 0
 findL t (x ∷ xs) = byOrder (orderOf x t) (further (findL t xs)) (At 0) (Free 0)
+
+-- how many of some texts a look asks at most, where the last one is asked first and then the middle one of those that are left
+unfoldable pub asksLastFirst : ℕ → ℕ
+asksLastFirst zero = 0
+asksLastFirst (suc n) = 1 + size n
+
+-- of those from index low on and before high; none of the n texts is known to stand behind as long as high is n
+unfoldable pub asksLeft : ℕ → ℕ → ℕ → ℕ
+asksLeft low high n = pick (eqb high n) (asksLastFirst (high - low)) (size (high - low))
+
+-- one of them is asked, and in either part of what is left fewer are asked than before
+pub record AsksNext (low high n asked : ℕ) : Type 0 where
+  pub from : low ≤ asked
+  pub to : asked < high
+  pub fewer-behind : asksLeft (asked + 1) high n < asksLeft low high n
+  pub fewer-before : asksLeft low asked n < asksLeft low high n
 
 -- x at index p
 abbrev pub insAt : {A : Type 0} → ℕ → A → List A → List A

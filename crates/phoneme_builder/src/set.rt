@@ -5,7 +5,7 @@ ghost use mathlib.Core.Path.{_≡_};
 ghost use mathlib.Core.List.{_++_};
 ghost use Prim.Native.Nat.{_+_, _*_, _≤_, _<_};
 ghost use lib.ListN.{length, take, drop};
-ghost use Rattle.phoneme_builder.specs.BufferContracts.{ROW, findL, insAt, put, slotOf, InsertsText, firstOf, secondOf, slotText, slotTexts, added, IsSet, SetIs, Enters, arena, Opens, AddsTo, AddedTo, Begins, BegunAs, TextIn, textIn, langsIn, CopiedIs};
+ghost use Rattle.phoneme_builder.specs.BufferContracts.{ROW, findL, AsksNext, insAt, put, slotOf, InsertsText, firstOf, secondOf, slotText, slotTexts, added, IsSet, SetIs, Enters, arena, Opens, AddsTo, AddedTo, Begins, BegunAs, TextIn, textIn, langsIn, CopiedIs};
 use crate::slots::NO_LANGUAGES;
 use crate::slots::first_of;
 use crate::slots::langs_of;
@@ -59,8 +59,8 @@ fn row<'a>(store: &'a [u8], slot: u64) -> &'a [u8]
 
 // Which text is asked next: the last one as long as none is known to stand behind, since most go behind it; then the middle one.
 fn ask_next(low: usize, high: usize, count: usize) -> usize
-    requires { ⌜ low < high ⌝ }
-    ensures { λ r. ⌜ (low ≤ r) × (r < high) ⌝ }
+    requires { ⌜ (low < high) × (high ≤ count) ⌝ }
+    ensures { λ r. ⌜ AsksNext low high count r ⌝ }
 {
     if high == count {
         high - 1
