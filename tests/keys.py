@@ -3,11 +3,12 @@
 
     tests/keys.py [--packs N] [--wide N] [--names N] [--seed N] [--real] [--port ask] [--bulk N]
 
-Tried are the edges of cases.py, N random packs, N whose sets grow to hundreds of texts, and with --real the real rules (oracle/rules fetches them) less the lines that
-document 01 refuses; each under settings of every kind, with N random names a setting. With --port the port's program answers the
-same as case lines, and odd ones besides. Every difference is printed, then what was compared; the exit status is 1 where there is
-a difference. The original is built by oracle/build; bm-probe gives its keys. With --bulk the program keys spells every surname and N
-mixed names under every setting of the real rules, and as many of random packs, and is held against the original itself.
+Tried are the edges of cases.py, N random packs, N whose sets grow to hundreds of texts, and with --real the real rules
+(oracle/rules fetches them) less the lines that document 01 refuses; each under settings of every kind, with N random names a
+setting. With --port the port's program answers the same as case lines, and odd ones besides. Every difference is printed, then what
+was compared; the exit status is 1 where there is a difference. The original is built by oracle/build; bm-probe gives its keys. With
+--bulk the program keys spells every surname and N mixed names under every setting of the real rules, and as many of random packs,
+and is held against the original itself.
 
 Where document 01 refuses with 7 or 8 the original gives a key; compared is that its counts show the cause. It has no bounds, so it
 is asked for the shortest such names only, and with a bound on its time; where it does not come to an end it is counted as silent.
