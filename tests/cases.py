@@ -105,7 +105,6 @@ def pairs_of(sets):
         for word in ("narrow", "merge"):
             yield case("%s %s %s" % (word, set_word(one), set_word(other)))
     for one in sets:
-        yield case("empty " + set_word(one))
         yield case("single " + set_word(one))
         yield unasked("singleton " + set_word(one))
 

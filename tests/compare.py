@@ -23,7 +23,7 @@ ASK = [os.path.join(ROOT, "bin", "ask")]
 SECOND = [sys.executable, os.path.join(HERE, "second.py")]
 ORIGINAL = [os.path.join(ROOT, "oracle", "made", "bin", "bm-answers")]
 STORED = 260            # how many cases of each kind are stored
-NO_CASES = ["", " ", "foo", "decode", "decode 6", "decode 6g", "decode 61 62", "DECODE 61", "lower 6A", "narrow any", "empty some:",
+NO_CASES = ["", " ", "foo", "decode", "decode 6", "decode 6g", "decode 61 62", "DECODE 61", "lower 6A", "narrow any", "empty any", "single some:",
             "single some:4294967296", "subtract 1", "name", "listed 00", "left 61", "rule 61 - - 61", "rule 61 - - 61 x", "expr 61",
             "word", "word 0 3 1 20 0 0", "word 0 3 1 20 0 0 61 61", "word 0 3 1 20 0 0 6", "word 0 3 1 20 0 x 61",
             "word 0 3 1 20 0 4294967296 61", "word - 3 1 20 0 0 61", "spell 1 0 0 20 4", "spell 1 0 0 20 4 61 61",

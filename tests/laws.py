@@ -4,8 +4,10 @@
     tests/laws.py [--languages N] [--moves N] [--seed N]
 
 The sets are Any, None and every Some of N languages, the one without bits too. Each law is tried on all pairs and triples of them, on what the program
-`ask` and the original's `bm-answers` say of `narrow` and `merge`; the order of sets on all pairs; and narrowings one after the other in every order, each
-list of up to four sets of two languages. Then pairs of small rule files are spelled, before and after a move (cases.py), and the real
+`ask` and the original's `bm-answers` say; the order of sets on all pairs; and narrowings one after the other in every order, each list of up to four sets of
+two languages. The original is asked to `restrict`, which gives empty sets too, and its sets are taken to the letter. The port is asked to `narrow`, which says
+`nothing` for an empty set (request 6), so of its sets the empty ones count as one; and every one of its sets is held against the original's.
+Then pairs of small rule files are spelled, before and after a move (cases.py), and the real
 rules (oracle/rules) of each type N times: with the guessing lines in any order and rules moved past others that can not match where they do, which changes no
 key, and with rules moved anywhere, where it is counted how many keys change. Faults are counted, the first of each law printed; the exit status is 1 where there is one.
 The original is built by oracle/build.
@@ -67,15 +69,37 @@ LAWS = {
 }
 
 
-def values(command, terms):
+def told_apart(word):
+    return word
+
+
+def told_if_left(word):
+    """The empty sets as one."""
+    return "nothing" if word in ("none", "some:0") else word
+
+
+# how a program is run, its word for narrowing, and which of its sets are taken for the same
+Program = collections.namedtuple("Program", "command narrow plain")
+PORT = Program(compare.ASK, "narrow", told_if_left)
+THE_ORIGINAL = Program(compare.ORIGINAL, "restrict", told_apart)
+
+
+def question(program, known, term):
+    """The line that asks for a term whose sides are known; nothing is asked as None."""
+    word, *sides = term
+    sides = [known.get(side, side) for side in sides]
+    return " ".join([program.narrow if word == "narrow" else word] + ["none" if side == "nothing" else side for side in sides])
+
+
+def values(program, terms):
     """The set of each term, as the program says: what stands inside is asked first, then what stands round it."""
     terms = set(terms)
     inner = {side for term in terms if isinstance(term, tuple) for side in term[1:] if isinstance(side, tuple)}
-    known = values(command, inner) if inner else {}
+    known = values(program, inner) if inner else {}
     asked = sorted((term for term in terms if isinstance(term, tuple)), key=repr)
-    answers = compare.run(command, ["%s %s %s" % (op, known.get(x, x), known.get(y, y)) for op, x, y in asked])
-    known.update(zip(asked, answers))
-    known.update((term, term) for term in terms if isinstance(term, str))
+    answers = compare.run(program.command, [question(program, known, term) for term in asked])
+    known.update((term, program.plain(answer)) for term, answer in zip(asked, answers))
+    known.update((term, program.plain(term)) for term in terms if isinstance(term, str))
     return known
 
 
@@ -86,10 +110,11 @@ def sets_of(languages):
 def tried(name, equations):
     """Both sides of each equation, asked of both programs: how many of all fail, or differ between the programs."""
     terms = [side for equation in equations for side in equation]
-    port, original = (values(command, terms) for command in (compare.ASK, compare.ORIGINAL))
+    port, original = (values(program, terms) for program in (PORT, THE_ORIGINAL))
     fail = ["%s is %s, %s is %s" % (one, known[one], other, known[other])
             for known in (port, original) for one, other in equations if known[one] != known[other]]
-    differ = ["%s is %s by the port, %s by the original" % (term, port[term], original[term]) for term in terms if port[term] != original[term]]
+    differ = ["%s is %s by the port, %s by the original" % (term, port[term], original[term])
+              for term in terms if port[term] != PORT.plain(original[term])]
     print("%s: %d equations, asked of both: %d fail, %d sets differ" % (name, len(equations), len(fail), len(differ)))
     for fault in (fail + differ)[:SHOWN]:
         print("  " + fault)
@@ -97,10 +122,10 @@ def tried(name, equations):
 
 
 def below(x, y):
-    """None below every set, every set below Any, of two Some the one whose languages the other has too."""
-    if x == "none" or y == "any":
+    """None, or nothing, below every set, every set below Any, of two Some the one whose languages the other has too."""
+    if x in ("none", "nothing") or y == "any":
         return True
-    if x == "any" or y == "none":
+    if x == "any" or y in ("none", "nothing"):
         return False
     one, other = (int(word.split(":")[1]) for word in (x, y))
     return one & ~other == 0
@@ -109,9 +134,11 @@ def below(x, y):
 def order_faults(sets):
     pairs = list(itertools.product(sets, repeat=2))
     wrong = 0
-    for command in (compare.ASK, compare.ORIGINAL):
-        known = values(command, [op(x, y) for x, y in pairs for op in (narrow, merge)])
-        wrong += sum(not below(x, y) == (known[narrow(x, y)] == x) == (known[merge(x, y)] == y) for x, y in pairs)
+    for program in (PORT, THE_ORIGINAL):
+        known = values(program, [op(x, y) for x, y in pairs for op in (narrow, merge)])
+        for x, y in pairs:
+            one, other = program.plain(x), program.plain(y)
+            wrong += not below(one, other) == (known[narrow(x, y)] == one) == (known[merge(x, y)] == other)
     print("below exactly when narrowing gives it, and when merging adds nothing: %d pairs, asked of both: %d fail" % (len(pairs), wrong))
     return wrong
 

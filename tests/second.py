@@ -1222,13 +1222,11 @@ class Cases:
         return "%d" % (bytes_of(one) == bytes_of(other))
 
     def on_narrow(self, languages, by):
-        return shown_set(narrow(set_of(languages), set_of(by)))
+        left = narrow(set_of(languages), set_of(by))
+        return "nothing" if is_empty(left) else shown_set(left)
 
     def on_merge(self, one, other):
         return shown_set(merge(set_of(one), set_of(other)))
-
-    def on_empty(self, languages):
-        return "%d" % is_empty(set_of(languages))
 
     def on_singleton(self, languages):
         return "%d" % (single(set_of(languages)) is not None)

@@ -943,12 +943,14 @@ class CaseLines(Case):
 
     def test_sets(self):
         self.asks("narrow any some:6", "some:6")
-        self.asks("narrow some:4 some:3", "some:0")
-        self.asks("narrow some:4 none", "none")
+        self.asks("narrow some:6 some:3", "some:2")
+        self.asks("narrow any any", "any")
+        self.asks("narrow some:4 some:3", "nothing")
+        self.asks("narrow some:4 none", "nothing")
+        self.asks("narrow some:0 any", "nothing")
         self.asks("merge some:4 some:3", "some:7")
         self.asks("merge none any", "any")
-        self.asks("empty some:0", "1")
-        self.asks("empty any", "0")
+        self.asks("empty any", "?")
         self.asks("single some:2147483648", "31")
         self.asks("single some:3", "-")
         self.asks("single some:4294967296", "?")
@@ -1043,11 +1045,11 @@ class CaseLines(Case):
         self.asks("load 1 1", "12 2 %d a5" % sorted(filled({})).index("gen_lang"))
 
     def test_no_cases(self):
-        for line in ("", " ", "x", "decode", "decode 6", "decode 61 61", "decode 6G", "check 1", "empty some:",
-                     "empty some:x", "empty some:" + "9" * 5000, "narrow any", "rule 61 - - 61 x", "load 1",
+        for line in ("", " ", "x", "decode", "decode 6", "decode 61 61", "decode 6G", "check 1", "single some:",
+                     "single some:x", "single some:" + "9" * 5000, "narrow any", "rule 61 - - 61 x", "load 1",
                      "answer x", "_decode 61", "pack " + "00" * 98305):
             self.asks(line, "?")
-        self.asks("empty some:" + "0" * 5000, "1")
+        self.asks("single some:" + "0" * 5000, "-")
         self.asks("\tdecode \t61 ", "text 97")
 
 

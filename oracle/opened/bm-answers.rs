@@ -143,6 +143,14 @@ fn shown(set: LanguageSet) -> String {
     }
 }
 
+fn left_of(narrowed: LanguageSet) -> String {
+    if narrowed.is_empty() {
+        "nothing".to_string()
+    } else {
+        shown(narrowed)
+    }
+}
+
 fn single(set: &LanguageSet) -> String {
     if set.is_singleton() {
         index(set.any().unwrap()).to_string()
@@ -223,9 +231,9 @@ fn answer(line: &[u8]) -> Answer {
         }),
         ["lower", a] => texts([a]).and_then(|[a]| lower(&a)),
         ["order", a, b] => texts([a, b]).map(|[a, b]| order(&a, &b)),
-        ["narrow", a, b] => Ok(shown(set(a)?.restrict_to(&set(b)?))),
+        ["narrow", a, b] => Ok(left_of(set(a)?.restrict_to(&set(b)?))),
+        ["restrict", a, b] => Ok(shown(set(a)?.restrict_to(&set(b)?))),
         ["merge", a, b] => Ok(shown(set(a)?.merge(&set(b)?))),
-        ["empty", a] => Ok(bit(set(a)?.is_empty())),
         ["single", a] => Ok(single(&set(a)?)),
         ["left", c, t] => texts([c, t]).and_then(|[c, t]| Ok(matched(&left(&c)?, &t))),
         ["right", c, t] => texts([c, t]).and_then(|[c, t]| Ok(matched(&right(&c)?, &t))),

@@ -42,36 +42,34 @@ const NARROW: usize = 14;
 
 const MERGE: usize = 15;
 
-const EMPTY: usize = 16;
+const SINGLETON: usize = 16;
 
-const SINGLETON: usize = 17;
+const SINGLE: usize = 17;
 
-const SINGLE: usize = 18;
+const SUBTRACT: usize = 18;
 
-const SUBTRACT: usize = 19;
+const RULE: usize = 19;
 
-const RULE: usize = 20;
+const CHECK: usize = 20;
 
-const CHECK: usize = 21;
+pub const WORD: usize = 21;
 
-pub const WORD: usize = 22;
+pub const SPELL: usize = 22;
 
-pub const SPELL: usize = 23;
+pub const GIVEN: usize = 23;
 
-pub const GIVEN: usize = 24;
+pub const LOAD: usize = 24;
 
-pub const LOAD: usize = 25;
+pub const LINES: usize = 25;
 
-pub const LINES: usize = 26;
-
-const NO_WORD: usize = 27;
+const NO_WORD: usize = 26;
 
 // Reads a line: the place of its word, or NO_WORD where it is no case.
 pub fn read(line: &[u8], given: &mut [u8], tells: &mut [usize; 9]) -> usize {
     let words =
-        b"decode/outside/lower/name/guess/pack/bundle/order/same/listed/left/right/expr/guessing/narrow/merge/empty/singleton/single/subtract/rule/check/word/spell/given/load/lines";
+        b"decode/outside/lower/name/guess/pack/bundle/order/same/listed/left/right/expr/guessing/narrow/merge/singleton/single/subtract/rule/check/word/spell/given/load/lines";
     let kinds =
-        b"h/h/h/h/h/h/h/hh/hh/hh/hh/hh/hh/hh/ss/ss/s/s/s/nn/hhhhn//nnnnnnh/nnnnnh/nnnnnnnh/nn/nnnnnh";
+        b"h/h/h/h/h/h/h/hh/hh/hh/hh/hh/hh/hh/ss/ss/s/s/nn/hhhhn//nnnnnnh/nnnnnh/nnnnnnnh/nn/nnnnnh";
     let from = fields::past_blanks(line, 0);
     let to = bytes::scan::find(line, from, line.len(), b' ');
     let command = lists::place_of(words, &line[from..to]);
@@ -109,9 +107,8 @@ fn of_two(command: usize, a: &[u8], b: &[u8]) -> Said {
 // Of a set, or two.
 fn of_sets(command: usize, a: LanguageSet, b: LanguageSet) -> Said {
     match command {
-        NARROW => languages_cases::set(a.restrict_to(b), said::SOME),
+        NARROW => languages_cases::narrow(a, b),
         MERGE => languages_cases::set(a.merge(b), said::SOME),
-        EMPTY => said::flag(a.is_empty()),
         SINGLETON => said::flag(a.is_singleton()),
         _ => languages_cases::single(a),
     }

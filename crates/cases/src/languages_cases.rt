@@ -4,6 +4,7 @@ use crate::said;
 use crate::said::Said;
 use languages::LanguageSet;
 use languages::Listed;
+use languages::Narrowed;
 use languages::Single;
 
 // The word of a set: `some` is that of one with some languages.
@@ -26,6 +27,22 @@ pub(crate) fn set_bits(s: LanguageSet) -> usize {
 // A set.
 pub(crate) fn set(s: LanguageSet, some: usize) -> Said {
     Said::Count(set_word(s, some), set_bits(s))
+}
+
+// The set of a number that was left by narrowing: Any, or the languages below the bit of Some.
+fn set_left(code: u64) -> LanguageSet {
+    if code == languages::coded(LanguageSet::Any) {
+        return LanguageSet::Any;
+    }
+    LanguageSet::SomeLanguages(fields::low(code as usize))
+}
+
+// `narrow SET SET`: what is left of the first, narrowed by the second, or `nothing`.
+pub(crate) fn narrow(a: LanguageSet, b: LanguageSet) -> Said {
+    match languages::narrow_codes(languages::coded(a), languages::coded(b)) {
+        Narrowed::To(code) => set(set_left(code), said::SOME),
+        Narrowed::Nothing => said::word(said::NOTHING),
+    }
 }
 
 // `single SET`: its one language, or `-`.

@@ -68,6 +68,8 @@ pub const STARTS_CHAR: usize = 22;
 
 pub const ENDS_CHAR: usize = 23;
 
+pub const NOTHING: usize = 24;
+
 // A word alone.
 pub fn word(word: usize) -> Said {
     Said::Count(word, NO_NUMBER)
@@ -103,7 +105,7 @@ fn put(out: &mut [u8], used: usize, src: &[u8]) -> usize {
 // Puts a word of the list.
 fn put_word(word: usize, out: &mut [u8], used: usize) -> usize {
     let words =
-        b"/ /?/-/text/ok/:/less/equal/greater/any/none/some:/some /ill /5 /AllStringsMatcher /IsEmpty /Equals /StartsWith /EndsWith /EqualsChar /StartsWithChar /EndsWithChar ";
+        b"/ /?/-/text/ok/:/less/equal/greater/any/none/some:/some /ill /5 /AllStringsMatcher /IsEmpty /Equals /StartsWith /EndsWith /EqualsChar /StartsWithChar /EndsWithChar /nothing";
     put(out, used, lists::text_at(words, word))
 }
 

@@ -1,15 +1,19 @@
--- Laws of sets as numbers: narrowing is `&`, merging is `|`, and a set is empty where nothing stands below bit 32. Assumes nothing.
+-- Laws of sets as numbers: narrowing is `&` and the test, merging is `|`, and a set is empty where nothing stands below bit 32. Assumes nothing.
 use mathlib.Core.Path.{_≡_, refl, sym, ap, ap₂, _∙_}
+use mathlib.Core.Bool.{Bool, true, false}
 use Prim.Native.Nat.{ℕ, _+_, _-_, _*_, _^_, _%_, _<_}
 use native.Mathlib.Omega.{arith}
 use lib.Bits.{bitAnd, bitOr, and-block, or-block, and-mask, and-comm, or-comm, and-zero-l, and-zero-r, or-zero-l, or-zero-r, or-add-and}
 use lib.Dec.{eqb}
-use borrow.Author.Tests.{lt-ltb, le-ltb}
+use borrow.Author.Tests.{lt-ltb, le-ltb, eqb-true}
 use Rattle.base.specs.Pick.{pick}
 use Rattle.languages.specs.Sets.{narrowed, merged, isEmpty}
-use Rattle.languages.specs.Contracts.{coded, decoded, codesNarrowed, codesMerged, codeEmpty, IsCode, BitsBelow}
+use Rattle.languages.specs.Contracts.{coded, decoded, leftOf, codesNarrowed, codesMerged, IsCode, BitsBelow}
 use Rattle.languages.specs.declared.sets.LanguageSet.{LanguageSet}
 use Rattle.languages.specs.declared.sets.LanguageSet.the-variants.{Any, NoLanguages, SomeLanguages}
+use Rattle.languages.specs.declared.sets.Narrowed.{Narrowed}
+use Rattle.languages.specs.declared.sets.Narrowed.the-variants.{To, Nothing}
+use Rattle.base.proofs.Arms.{clash}
 use Rattle.languages.proofs.Laws.{narrow-below, merge-below}
 
 -- ---- the parts below bit 32 and from there on
@@ -29,7 +33,7 @@ or-ones x h = omega (arith, or-add-and x (2 ^ 32 - 1), all-ones x h)
 
 -- ---- the laws
 
-pub and-coded : (a b : LanguageSet) → BitsBelow 32 a → BitsBelow 32 b → coded (narrowed a b) ≡ bitAnd (coded a) (coded b)
+and-coded : (a b : LanguageSet) → BitsBelow 32 a → BitsBelow 32 b → coded (narrowed a b) ≡ bitAnd (coded a) (coded b)
 unfolding BitsBelow narrowed coded
 and-coded Any Any p q = refl
 and-coded NoLanguages Any p q = sym (and-zero-l (2 ^ 34 - 1))
@@ -40,7 +44,7 @@ and-coded Any (SomeLanguages y) p q =
 and-coded NoLanguages (SomeLanguages y) p q = sym (and-zero-l (2 ^ 32 + y))
 and-coded (SomeLanguages x) (SomeLanguages y) p q = sym (and-parts 1 1 x y p q)
 
-pub or-coded : (a b : LanguageSet) → BitsBelow 32 a → BitsBelow 32 b → coded (merged a b) ≡ bitOr (coded a) (coded b)
+or-coded : (a b : LanguageSet) → BitsBelow 32 a → BitsBelow 32 b → coded (merged a b) ≡ bitOr (coded a) (coded b)
 unfolding BitsBelow merged coded
 or-coded Any Any p q = refl
 or-coded NoLanguages Any p q = refl
@@ -54,11 +58,36 @@ or-coded (SomeLanguages x) (SomeLanguages y) p q = sym (or-parts 1 1 x y p q)
 mod-coded : (x : ℕ) → x < 2 ^ 32 → (2 ^ 32 + x) % 2 ^ 32 ≡ x
 mod-coded x h = omega arith
 
-pub empty-coded : (a : LanguageSet) → BitsBelow 32 a → isEmpty a ≡ eqb (coded a % 2 ^ 32) 0
+empty-coded : (a : LanguageSet) → BitsBelow 32 a → isEmpty a ≡ eqb (coded a % 2 ^ 32) 0
 unfolding BitsBelow isEmpty coded
 empty-coded Any p = refl
 empty-coded NoLanguages p = refl
 empty-coded (SomeLanguages x) p = ap (λ (n : ℕ). eqb n 0) (sym (mod-coded x p))
+
+-- of two sets as they are held in use, the operation is document 01's narrowing and its test together
+pub narrow-and-test : (a b : LanguageSet) → BitsBelow 32 a → BitsBelow 32 b → codesNarrowed (coded a) (coded b) ≡ leftOf (narrowed a b)
+unfolding codesNarrowed leftOf
+narrow-and-test a b p q = rw (← and-coded a b p q, empty-coded (narrowed a b) (narrow-below 32 a b _ refl p q))
+
+-- whatever two numbers are narrowed, no empty set is left
+empty-low : (s : LanguageSet) → isEmpty s ≡ true → eqb (coded s % 2 ^ 32) 0 ≡ true
+unfolding isEmpty coded
+empty-low Any e = e
+empty-low NoLanguages e = refl
+empty-low (SomeLanguages x) e = ap (λ (n : ℕ). eqb ((2 ^ 32 + n) % 2 ^ 32) 0) (eqb-true x 0 e)
+
+not-empty-by : (n : ℕ) (s : LanguageSet) (t u : Bool) → eqb (n % 2 ^ 32) 0 ≡ t → isEmpty s ≡ u → pick t Nothing (To n) ≡ To (coded s) → u ≡ false
+unfolding pick
+not-empty-by n s true u p q e = clash (cc)
+not-empty-by n s false false p q e = refl
+not-empty-by n s false true p q e =
+    let is : n ≡ coded s = cc in
+    let low = empty-low s q in
+    clash (cc)
+
+pub left-not-empty : (a b : ℕ) (s : LanguageSet) → codesNarrowed a b ≡ To (coded s) → isEmpty s ≡ false
+unfolding codesNarrowed
+left-not-empty a b s e = not-empty-by (bitAnd a b) s _ _ refl refl e
 
 pub decoded-coded : (a : LanguageSet) → BitsBelow 32 a → decoded (coded a) ≡ a
 unfolding BitsBelow coded decoded pick
@@ -77,14 +106,29 @@ is-code a p = record { set = a; below = p; is = refl }
 decoded-is : {x : ℕ} (c : IsCode x) → decoded x ≡ c .set
 decoded-is c = ap decoded (c .is) ∙ decoded-coded (c .set) (c .below)
 
+-- the number x is that of the set s, which is not empty
+pub record IsLeft (s : LanguageSet) (x : ℕ) : Type 0 where
+  pub code : IsCode x
+  pub is : decoded x ≡ s
+  pub some : isEmpty s ≡ false
+
+-- what an answer tells of the set s
+unfoldable pub TellsOf : LanguageSet → Narrowed → Type 0
+TellsOf s Nothing = isEmpty s ≡ true
+TellsOf s (To x) = IsLeft s x
+
+left-tells : (s : LanguageSet) (t : Bool) → BitsBelow 32 s → isEmpty s ≡ t → TellsOf s (pick t Nothing (To (coded s)))
+unfolding pick TellsOf
+left-tells s true h p = p
+left-tells s false h p = record { code = is-code s h; is = decoded-coded s h; some = p }
+
 module _ {x y : ℕ} (c : IsCode x) (d : IsCode y) where
-  pub narrow-code : IsCode (codesNarrowed x y)
-  unfolding codesNarrowed
-  narrow-code = record {
-    set = narrowed (c .set) (d .set);
-    below = narrow-below 32 (c .set) (d .set) _ refl (c .below) (d .below);
-    is = ap₂ bitAnd (c .is) (d .is) ∙ sym (and-coded (c .set) (d .set) (c .below) (d .below));
-  }
+  -- of numbers that stand for sets, the operation tells of the narrowed set
+  pub narrowed-tells : {r : Narrowed} → r ≡ codesNarrowed x y → TellsOf (narrowed (decoded x) (decoded y)) r
+  unfolding leftOf
+  narrowed-tells e =
+      rw (e, c .is, d .is, narrow-and-test (c .set) (d .set) (c .below) (d .below), decoded-coded (c .set) (c .below), decoded-coded (d .set) (d .below))
+      (left-tells _ _ (narrow-below 32 (c .set) (d .set) _ refl (c .below) (d .below)) refl)
 
   pub merge-code : IsCode (codesMerged x y)
   unfolding codesMerged
@@ -94,17 +138,9 @@ module _ {x y : ℕ} (c : IsCode x) (d : IsCode y) where
     is = ap₂ bitOr (c .is) (d .is) ∙ sym (or-coded (c .set) (d .set) (c .below) (d .below));
   }
 
-  pub narrow-decoded : decoded (codesNarrowed x y) ≡ narrowed (decoded x) (decoded y)
-  unfolding narrow-code
-  narrow-decoded = decoded-is narrow-code ∙ sym (ap₂ narrowed (decoded-is c) (decoded-is d))
-
   pub merge-decoded : decoded (codesMerged x y) ≡ merged (decoded x) (decoded y)
   unfolding merge-code
   merge-decoded = decoded-is merge-code ∙ sym (ap₂ merged (decoded-is c) (decoded-is d))
-
-pub empty-decoded : {x : ℕ} → IsCode x → isEmpty (decoded x) ≡ codeEmpty x
-unfolding codeEmpty
-empty-decoded c = ap isEmpty (decoded-is c) ∙ empty-coded (c .set) (c .below) ∙ ap (λ (n : ℕ). eqb (n % 2 ^ 32) 0) (sym (c .is))
 
 -- merged with no languages, a set stays as it was
 pub merge-none : (x : ℕ) → codesMerged x 0 ≡ x

@@ -1,14 +1,26 @@
 // Sets of languages, a bit for each listed one: narrowing is `&`, merging is `|`, subtracting is `&` with the complement.
-ghost use Rattle.languages.specs.Contracts.{coded, codesNarrowed, codesMerged, codeEmpty};
+ghost use Rattle.languages.specs.Contracts.{coded, codesNarrowed, codesMerged};
 ghost use mathlib.Core.Path.{_≡_};
 ghost use Rattle.languages.specs.Numbers.{setNumbers};
-ghost use Rattle.languages.specs.Sets.{narrowed, merged, isEmpty, isSingle, singleOf, without};
+ghost use Rattle.languages.specs.Sets.{merged, isSingle, singleOf, without};
 
 pub enum LanguageSet {
     Any,
     NoLanguages,
     SomeLanguages(u32),
 }
+
+// A narrowed set by its number, which is not empty; or nothing is left.
+pub enum Narrowed {
+    To(u64),
+    Nothing,
+}
+
+// The number of Some with no bits: the languages stand below it.
+const SOME_LANGUAGES: u64 = 0x1_0000_0000;
+
+// The number of Any: every language, the bit of Some, and one of its own.
+const ANY_LANGUAGE: u64 = 0x3_FFFF_FFFF;
 
 // The one language of a single set.
 pub enum Single {
@@ -17,21 +29,6 @@ pub enum Single {
 }
 
 impl LanguageSet {
-    // This set narrowed by `other`.
-    pub fn restrict_to(self, other: LanguageSet) -> LanguageSet
-        ensures { λ r. ⌜ setNumbers r ≡ setNumbers (narrowed self other) ⌝ }
-    {
-        match other {
-            LanguageSet::Any => self,
-            LanguageSet::NoLanguages => LanguageSet::NoLanguages,
-            LanguageSet::SomeLanguages(theirs) => match self {
-                LanguageSet::Any => LanguageSet::SomeLanguages(theirs),
-                LanguageSet::NoLanguages => LanguageSet::NoLanguages,
-                LanguageSet::SomeLanguages(mine) => LanguageSet::SomeLanguages(mine & theirs),
-            },
-        }
-    }
-
     // This set merged with `other`.
     pub fn merge(self, other: LanguageSet) -> LanguageSet
         ensures { λ r. ⌜ setNumbers r ≡ setNumbers (merged self other) ⌝ }
@@ -44,16 +41,6 @@ impl LanguageSet {
                 LanguageSet::NoLanguages => LanguageSet::SomeLanguages(theirs),
                 LanguageSet::SomeLanguages(mine) => LanguageSet::SomeLanguages(mine | theirs),
             },
-        }
-    }
-
-    pub fn is_empty(self) -> bool
-        ensures { λ r. ⌜ r ≡ isEmpty self ⌝ }
-    {
-        match self {
-            LanguageSet::Any => false,
-            LanguageSet::NoLanguages => true,
-            LanguageSet::SomeLanguages(mask) => mask == 0,
         }
     }
 
@@ -92,22 +79,27 @@ pub fn subtract(mask: u32, less: u32) -> u32
     mask & !less
 }
 
-// The set as one number, for sets that stand in buffers.
+// The set as one number, the form in which sets are held in use.
 pub fn coded(set: LanguageSet) -> u64
     ensures { λ r. ⌜ r ≡ coded set ⌝ }
 {
     match set {
-        LanguageSet::Any => 0x3_FFFF_FFFF,
+        LanguageSet::Any => ANY_LANGUAGE,
         LanguageSet::NoLanguages => 0,
-        LanguageSet::SomeLanguages(mask) => 0x1_0000_0000 + (mask as u64),
+        LanguageSet::SomeLanguages(mask) => SOME_LANGUAGES + (mask as u64),
     }
 }
 
-// The number of one set narrowed by another, of their numbers.
-pub fn narrow_codes(a: u64, b: u64) -> u64
+// What is left of a set narrowed by another, of their numbers. No other code narrows a set or asks whether one is empty.
+pub fn narrow_codes(a: u64, b: u64) -> Narrowed
     ensures { λ r. ⌜ r ≡ codesNarrowed a b ⌝ }
 {
-    a & b
+    let both = a & b;
+    if both % SOME_LANGUAGES == 0 {
+        Narrowed::Nothing
+    } else {
+        Narrowed::To(both)
+    }
 }
 
 // The number of two sets merged, of their numbers.
@@ -115,11 +107,4 @@ pub fn merge_codes(a: u64, b: u64) -> u64
     ensures { λ r. ⌜ r ≡ codesMerged a b ⌝ }
 {
     a | b
-}
-
-// Whether the set of a number is empty.
-pub fn is_empty_code(x: u64) -> bool
-    ensures { λ r. ⌜ r ≡ codeEmpty x ⌝ }
-{
-    x % 0x1_0000_0000 == 0
 }

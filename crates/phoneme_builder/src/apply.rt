@@ -11,6 +11,7 @@ use crate::set::langs_at;
 use crate::slots::first_of;
 use crate::slots::langs_of;
 use crate::slots::second_of;
+use languages::Narrowed;
 
 // How many alternatives a table has, and how many texts a set may have.
 pub(crate) struct Most {
@@ -24,7 +25,7 @@ pub(crate) enum Applied {
     TooLong,
 }
 
-// A text with the bytes `more` of an alternative behind it: passed over where the narrowed set is empty, else it enters set `to`.
+// A text with the bytes `more` of an alternative behind it: passed over where nothing is left of its languages, else it enters set `to`.
 fn offer(
     store: &mut Store,
     slots: &mut Slots,
@@ -39,14 +40,15 @@ fn offer(
     ensures { λ r. ⌜ OfferedTo (arena (now (store .entry)) (now (slots .entry))) (arena (now (store .exit)) (now (slots .exit)))
         to (now (text .entry)) langs (now (more .entry)) other limit r ⌝ }
 {
-    let both = languages::narrow_codes(langs, other);
-    if languages::is_empty_code(both) {
-        return Applied::Now(to.count);
+    match languages::narrow_codes(langs, other) {
+        Narrowed::To(left) => {
+            if ROW < text.len() + more.len() {
+                return Applied::TooLong;
+            }
+            Applied::Now(add_to(store, slots, to, text, more, left))
+        }
+        Narrowed::Nothing => Applied::Now(to.count),
     }
-    if ROW < text.len() + more.len() {
-        return Applied::TooLong;
-    }
-    Applied::Now(add_to(store, slots, to, text, more, both))
 }
 
 // Under one old text the alternatives in order, until the count reaches the limit.

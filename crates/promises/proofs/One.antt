@@ -151,14 +151,8 @@ strings-mask-at κs a = (tt, λ x y v w p q. (one p q, refl))
 
 -- ---- languages
 
-pub languages-restrict-to : Settled languages.sets.LanguageSet.restrict_to.ended languages.sets.LanguageSet.restrict_to.Reads.Asked languages.sets.LanguageSet.restrict_to.Reads.Learnt
-languages-restrict-to κs a = (tt, λ x y v w p q. (set-one x y (one p q), refl))
-
 pub languages-merge : Settled languages.sets.LanguageSet.merge.ended languages.sets.LanguageSet.merge.Reads.Asked languages.sets.LanguageSet.merge.Reads.Learnt
 languages-merge κs a = (tt, λ x y v w p q. (set-one x y (one p q), refl))
-
-pub languages-is-empty : Settled languages.sets.LanguageSet.is_empty.ended languages.sets.LanguageSet.is_empty.Reads.Asked languages.sets.LanguageSet.is_empty.Reads.Learnt
-languages-is-empty κs a = (tt, λ x y v w p q. (one p q, refl))
 
 pub languages-is-singleton : Settled languages.sets.LanguageSet.is_singleton.ended languages.sets.LanguageSet.is_singleton.Reads.Asked languages.sets.LanguageSet.is_singleton.Reads.Learnt
 languages-is-singleton κs a = (tt, λ x y v w p q. (one p q, refl))
@@ -177,9 +171,6 @@ languages-narrow-codes κs a = (tt, λ x y v w p q. (one p q, refl))
 
 pub languages-merge-codes : Settled languages.merge_codes.ended languages.merge_codes.Reads.Asked languages.merge_codes.Reads.Learnt
 languages-merge-codes κs a = (tt, λ x y v w p q. (one p q, refl))
-
-pub languages-is-empty-code : Settled languages.is_empty_code.ended languages.is_empty_code.Reads.Asked languages.is_empty_code.Reads.Learnt
-languages-is-empty-code κs a = (tt, λ x y v w p q. (one p q, refl))
 
 pub languages-is-language-name : Settled languages.is_language_name.ended languages.is_language_name.Reads.Asked languages.is_language_name.Reads.Learnt
 languages-is-language-name κs a = (tt, λ x y v w p q. (one p q, refl))
