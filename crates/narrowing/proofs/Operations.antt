@@ -40,11 +40,15 @@ unfolding pick isEmpty
 not-empty-by m true e = refl
 not-empty-by m false e = e
 
+not-empty : (m : ℕ) → isEmpty (leftOver m) ≡ false
+unfolding leftOver
+not-empty m = not-empty-by m _ refl
+
 -- nor from guessing, whatever the bytes of the pack and of the name are
 pub guessing-gives-no-empty-set : (κs : Lfts (guess_languages.ended .signature .lifetimes)) (a : Args (guess_languages.ended .signature) κs) (r : LanguageSet)
     (v : Lasts guess_languages.ended κs a) → guess_languages.Reads.Learnt κs a r (atExit guess_languages.ended κs a v) → isEmpty r ≡ false
-unfolding guessedAt guessed leftOver
-guessing-gives-no-empty-set κs a r v told = ap isEmpty (set-one r _ told) ∙ not-empty-by _ _ refl
+unfolding guessedAt guessed
+guessing-gives-no-empty-set κs a r v told = ap isEmpty (set-one r _ told) ∙ not-empty _
 
 pub merge-is-merging : (κs : Lfts 0) (x y r : LanguageSet) (v : Lasts sets.merge.ended κs (x, (y, tt)))
     → sets.merge.Reads.Learnt κs (x, (y, tt)) r (atExit sets.merge.ended κs (x, (y, tt)) v) → r ≡ merged x y
