@@ -35,20 +35,20 @@ pub narrow-codes-gives-no-empty-set : (κs : Lfts 0) (a b : ℕ) (s : LanguageSe
     → code.narrow_codes.Reads.Learnt κs (a, (b, tt)) (To (coded s)) (atExit code.narrow_codes.ended κs (a, (b, tt)) v) → isEmpty s ≡ false
 narrow-codes-gives-no-empty-set κs a b s v told = left-not-empty a b s (sym told)
 
-not-empty-by : (m : ℕ) (t : Bool) → eqb m 0 ≡ t → isEmpty (pick t Any (SomeLanguages m)) ≡ false
+left-over-by : (m : ℕ) (t : Bool) → eqb m 0 ≡ t → isEmpty (pick t Any (SomeLanguages m)) ≡ false
 unfolding pick isEmpty
-not-empty-by m true e = refl
-not-empty-by m false e = e
+left-over-by m true e = refl
+left-over-by m false e = e
 
-not-empty : (m : ℕ) → isEmpty (leftOver m) ≡ false
+left-over-not-empty : (m : ℕ) → isEmpty (leftOver m) ≡ false
 unfolding leftOver
-not-empty m = not-empty-by m _ refl
+left-over-not-empty m = left-over-by m _ refl
 
 -- nor from guessing, whatever the bytes of the pack and of the name are
 pub guessing-gives-no-empty-set : (κs : Lfts (guess_languages.ended .signature .lifetimes)) (a : Args (guess_languages.ended .signature) κs) (r : LanguageSet)
     (v : Lasts guess_languages.ended κs a) → guess_languages.Reads.Learnt κs a r (atExit guess_languages.ended κs a v) → isEmpty r ≡ false
 unfolding guessedAt guessed
-guessing-gives-no-empty-set κs a r v told = ap isEmpty (set-one r _ told) ∙ not-empty _
+guessing-gives-no-empty-set κs a r v told = ap isEmpty (set-one r _ told) ∙ left-over-not-empty _
 
 pub merge-is-merging : (κs : Lfts 0) (x y r : LanguageSet) (v : Lasts sets.merge.ended κs (x, (y, tt)))
     → sets.merge.Reads.Learnt κs (x, (y, tt)) r (atExit sets.merge.ended κs (x, (y, tt)) v) → r ≡ merged x y
