@@ -30,7 +30,7 @@ pub(crate) fn set(s: LanguageSet, some: usize) -> Said {
 }
 
 // The set of a number that was left by narrowing: Any, or the languages below the bit of Some.
-fn set_left(code: u64) -> LanguageSet {
+fn set_of_code(code: u64) -> LanguageSet {
     if code == languages::coded(LanguageSet::Any) {
         return LanguageSet::Any;
     }
@@ -40,7 +40,7 @@ fn set_left(code: u64) -> LanguageSet {
 // `narrow SET SET`: what is left of the first, narrowed by the second, or `nothing`.
 pub(crate) fn narrow(a: LanguageSet, b: LanguageSet) -> Said {
     match languages::narrow_codes(languages::coded(a), languages::coded(b)) {
-        Narrowed::To(code) => set(set_left(code), said::SOME),
+        Narrowed::To(code) => set(set_of_code(code), said::SOME),
         Narrowed::Nothing => said::word(said::NOTHING),
     }
 }
