@@ -22,7 +22,8 @@ use Rattle.regex_optim.specs.declared.Letter.{Letter}
 use Rattle.regex_optim.specs.declared.Letter.the-variants.{Code, Absent}
 use Rattle.regex_optim.specs.declared.OptimizedRegex.{OptimizedRegex}
 use Rattle.regex_optim.specs.declared.OptimizedRegex.the-variants.{Outside}
-use Rattle.base.proofs.PickLaws.{pick-true, pick-false}
+use Rattle.base.proofs.Arms.{clash}
+use Rattle.base.proofs.PickLaws.{pick-true, pick-false, pick-all}
 
 -- ---- one character
 
@@ -162,9 +163,6 @@ module _ (s e : Bool) (t : List ℕ) (h : Bool) (g : h ≡ has opening t) where
   pub kind-by-literal : (r : OptimizedRegex) → h ≡ false → r ≡ literalKind (length t) s e → r ≡ kindOf (formIn s e t)
   kind-by-literal r q f = f ∙ sym (ap kindOf (in-literal q) ∙ kind-literal s e t)
 
-  pub fits-by-literal : (x : List ℕ) (r : Bool) → h ≡ false → r ≡ literalFits t s e x → r ≡ fits (formIn s e t) x
-  fits-by-literal x r q f = f ∙ sym (ap (λ (y : Form). fits y x) (in-literal q) ∙ fits-literal s e t x)
-
   module _ (u : Bool) (b : u ≡ boxed t) where
     in-box : h ≡ true → u ≡ true → formIn s e t ≡ boxForm s e (not (firstIs caret (boxInner t))) (withoutCaret (boxInner t))
     unfolding formIn
@@ -181,14 +179,43 @@ module _ (s e : Bool) (t : List ℕ) (h : Bool) (g : h ≡ has opening t) where
     unfolding kindOf
     kind-by-none q v = sym (ap kindOf (in-none q v))
 
-    pub fits-by-box : (i x : List ℕ) (r : Bool) → h ≡ true → u ≡ true → i ≡ boxInner t → r ≡ boxFits i s e x → r ≡ fits (formIn s e t) x
-    unfolding boxFits
-    fits-by-box i x r q v j f =
-        f ∙ ap (λ (y : List ℕ). boxFits y s e x) j ∙ sym (ap (λ (y : Form). fits y x) (in-box q v) ∙ fits-box s e _ _ x)
+not-pick : (h : Bool) → not h ≡ pick h false true
+unfolding pick
+not-pick true = refl
+not-pick false = refl
 
-    pub fits-by-none : (x : List ℕ) → h ≡ true → u ≡ false → false ≡ fits (formIn s e t) x
+-- what begins with `[` has one, and what does not is no box
+opening-first : (t : List ℕ) → firstIs opening t ≡ true → has opening t ≡ true
+unfolding firstIs has placeOf
+opening-first [] q = clash (cc)
+opening-first (x ∷ t) q = ap (λ (n : ℕ). ltb n (suc (length t))) (pick-true _ _ _ q) ∙ lt-ltb 0 (suc (length t)) (omega arith)
+
+module _ (s e : Bool) (t : List ℕ) (f : Bool) (g : f ≡ firstIs opening t) where
+  module _ (u : Bool) (b : u ≡ boxed t) (q : f ≡ true) where
+    opened : true ≡ has opening t
+    opened = sym (opening-first t (sym g ∙ q))
+
+    pub fits-by-box : (i x : List ℕ) (r : Bool) → u ≡ true → i ≡ boxInner t → r ≡ boxFits i s e x → r ≡ fits (formIn s e t) x
+    unfolding boxFits
+    fits-by-box i x r v j f =
+        f ∙ ap (λ (y : List ℕ). boxFits y s e x) j ∙ sym (ap (λ (y : Form). fits y x) (in-box s e t true opened u b refl v) ∙ fits-box s e _ _ x)
+
+    pub fits-by-none : (x : List ℕ) → u ≡ false → false ≡ fits (formIn s e t) x
     unfolding fits
-    fits-by-none x q v = sym (ap (λ (y : Form). fits y x) (in-none q v))
+    fits-by-none x v = sym (ap (λ (y : Form). fits y x) (in-none s e t true opened u b refl v))
+
+  module _ (q : f ≡ false) (x : List ℕ) where
+    literal-by : (h : Bool) → h ≡ has opening t → pick h false (literalFits t s e x) ≡ fits (formIn s e t) x
+    unfolding fits pick
+    literal-by true o = sym (ap (λ (y : Form). fits y x) (in-none s e t true o false (boxed-not t f g q) refl refl))
+    literal-by false o = sym (ap (λ (y : Form). fits y x) (in-literal s e t false o refl) ∙ fits-literal s e t x)
+
+    module _ (w : Bool) (l : w ≡ literalFits t s e x) where
+      pub fits-by-literal : (h : Bool) → h ≡ has opening t → w ≡ true → not h ≡ fits (formIn s e t) x
+      fits-by-literal h o v = not-pick h ∙ ap (pick h false) (sym v ∙ l) ∙ literal-by h o
+
+      pub fits-by-other : w ≡ false → false ≡ fits (formIn s e t) x
+      fits-by-other v = pick-all (λ (b : Bool). false ≡ b) _ _ _ refl (sym v ∙ l) ∙ literal-by (has opening t) refl
 
 -- ---- anchors put on and taken off again
 
@@ -247,6 +274,17 @@ module _ (c : List ℕ) (b : Bool) (l : List ℕ) where
   pub right-fit : (x : List ℕ) (r : Bool) → b ≡ lastIs dollar c → l ≡ withoutDollar c → r ≡ fits (formIn true b l) x → r ≡ fits (rightForm c) x
   right-fit x r p q e = e ∙ ap₂ (λ (z : Bool) (y : List ℕ). fits (formIn true z y) x) p q ∙ sym (ap (λ (f : Form). fits f x) (right-is c))
 
+-- an empty context always fits
+pub left-empty : (c x : List ℕ) → length c ≡ 0 → true ≡ fits (leftForm c) x
+unfolding withoutCaret firstIs pick formIn has placeOf literalForm fits
+left-empty [] x h = sym (ap (λ (f : Form). fits f x) (left-is []))
+left-empty (y ∷ c) x h = let no-way : ⊥ = omega arith in absurd no-way
+
+pub right-empty : (c x : List ℕ) → length c ≡ 0 → true ≡ fits (rightForm c) x
+unfolding withoutDollar lastIs pick formIn has placeOf literalForm fits
+right-empty [] x h = sym (ap (λ (f : Form). fits f x) (right-is []))
+right-empty (y ∷ c) x h = let no-way : ⊥ = omega arith in absurd no-way
+
 pub box-fit : (i l x : List ℕ) (n : Bool) (a : Letter) (s e r : Bool) → n ≡ firstIs caret i → l ≡ withoutCaret i → a ≡ boxChar s e x → r ≡ charFits (not n) l a → r ≡ boxFits i s e x
 unfolding boxFits
 box-fit i l x n a s e r p q w f = rw (← p, ← q, ← w) f
@@ -266,4 +304,4 @@ char-absent hit l a e = sym (ap (charFits hit l) e)
 
 pub ruleset part-laws = (inner-none, inner-some, has-by, boxed-not, boxed-open, boxed-by, else-code, else-absent, needs)
 
-pub ruleset form-laws = (kind-by-literal, kind-by-box, kind-by-none, fits-by-literal, fits-by-box, fits-by-none, left-kind, right-kind, left-fit, right-fit, box-fit, char-member, char-other, char-absent, needs)
+pub ruleset form-laws = (kind-by-literal, kind-by-box, kind-by-none, fits-by-literal, fits-by-other, fits-by-box, fits-by-none, left-empty, right-empty, left-kind, right-kind, left-fit, right-fit, box-fit, char-member, char-other, char-absent, needs)

@@ -50,18 +50,21 @@ fn literal_fits(t: &[u8], s: bool, e: bool, x: &[u8]) -> bool
     }
 }
 
-// Whether the rest t of a context with these anchors fits x.
+// Whether the rest t of a context with these anchors fits x. A literal is compared first, which mostly ends at once, and only then
+// looked through for a `[` that puts it outside the forms.
 fn fits_in(t: &[u8], s: bool, e: bool, x: &[u8]) -> bool
     ensures { λ r. ⌜ r ≡ fits (formIn s e (now (t .entry))) (now (x .entry)) ⌝ }
 {
-    if has_opening(t) {
+    if texts::first_is(t, b'[') {
         if is_boxed(t) {
             box_fits(box_inner(t), s, e, x)
         } else {
             false
         }
+    } else if literal_fits(t, s, e, x) {
+        !has_opening(t)
     } else {
-        literal_fits(t, s, e, x)
+        false
     }
 }
 
@@ -69,6 +72,9 @@ fn fits_in(t: &[u8], s: bool, e: bool, x: &[u8]) -> bool
 pub fn left_fits(context: &[u8], before: &[u8]) -> bool
     ensures { λ r. ⌜ r ≡ fits (leftForm (now (context .entry))) (now (before .entry)) ⌝ }
 {
+    if context.len() == 0 {
+        return true;
+    }
     let anchored = texts::first_is(context, b'^');
     fits_in(texts::without_caret(context), anchored, true, before)
 }
@@ -77,6 +83,9 @@ pub fn left_fits(context: &[u8], before: &[u8]) -> bool
 pub fn right_fits(context: &[u8], after: &[u8]) -> bool
     ensures { λ r. ⌜ r ≡ fits (rightForm (now (context .entry))) (now (after .entry)) ⌝ }
 {
+    if context.len() == 0 {
+        return true;
+    }
     let anchored = texts::last_is(context, b'$');
     fits_in(texts::without_dollar(context), true, anchored, after)
 }
