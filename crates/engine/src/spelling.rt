@@ -261,7 +261,7 @@ pub(crate) fn spell_at(
 pub fn spell(settings: Settings, start: Start, pack: &[u8], name: &[u8], out: &mut [u8]) -> Spelled
     ensures { λ r. ⌜ SpellIs (callOf settings start (now (pack .entry)) (now (name .entry))) (now (out .entry)) r (now (out .exit)) ⌝ }
 {
-    let mut table = [[0usize; 128]; 98];
+    let mut table = [[0usize; 128]; 162];
     let opened = open(pack, &mut table);
     let mut store = [[0u8; 32768]; 4];
     let mut slots = [[0u64; 256]; 4];

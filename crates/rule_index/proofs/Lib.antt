@@ -1,3 +1,4 @@
+pub mod NumberLaws
 pub mod RowLaws
 pub mod TableLaws
 pub mod MatchLaws

@@ -5,7 +5,9 @@ use mathlib.Core.Bool.{Bool, true, false}
 use mathlib.Core.List.{List, [], _∷_}
 use Prim.Native.Nat.{ℕ, zero, suc, _+_, _-_, _%_, _≤_, _<_, max}
 use native.Mathlib.Omega.{arith}
+use native.Mathlib.Numerals.{add-one}
 use lib.ListN.{length, getD, take, drop, length-take, length-drop}
+use lib.Seq.{take-all}
 use mir.Syntax.{w8}
 use mir.Val.{Fits}
 use borrow.Author.Tests.{lt-ltb, le-ltb}
@@ -25,7 +27,8 @@ use Rattle.pack.proofs.RuleLaws.{RuleIs, rule-is, rule-cut, pattern-order, patt
 use Rattle.pack.proofs.Laws.{short-expression}
 use Rattle.rule_index.specs
 use specs.Matching.{Match, none, by, firstMatch}
-use specs.Contracts.{rulesBetween, tried, matcher, RuleIn, MatchIs, seen, seenIn}
+use specs.Contracts.{NUMBERS, rulesBetween, ruleIn, ruleOf, mayFollow, numberIn, SECONDS, PLACES, numbered, foundIn, matcher, RuleIn, MatchIs, seen, seenIn}
+use Rattle.rule_index.proofs.RowLaws.{orElse, first-append}
 use specs.declared
 use declared.matching.Matched.{Matched}
 use declared.matching.Matched.the-variants.{By, Nothing}
@@ -63,39 +66,77 @@ pub finding-start : (s word : List ℕ) (place start stop : ℕ) → ((i : ℕ) 
     → Finding s word place (firstMatch (rulesBetween stop s start stop) word place) start stop
 finding-start s word place start stop b h = record { bytes = b; here = h; fuel = stop; enough = omega arith; is = refl }
 
-module _ {s word : List ℕ} {place at stop : ℕ} {m : Match} (w : Finding s word place m at stop) where
-  nothing-left : rulesBetween (w .fuel) s at stop ≡ [] → MatchIs s word place m Nothing
-  unfolding firstMatch MatchIs
-  nothing-left e = subst (λ (m : Match). MatchIs s word place m Nothing) (sym (w .is ∙ ap (λ (l : List Rule). firstMatch l word place) e)) tt
+-- what the first of two lists has goes before
+found-first : (s word : List ℕ) (place : ℕ) (m n : Match) (step start end : ℕ) → MatchIs s word place m (By step start end) → MatchIs s word place (orElse m n) (By step start end)
+unfolding MatchIs orElse
+found-first s word place none n step start end v = absurd v
+found-first s word place (by r) n step start end v = v
 
+missed-first : (s word : List ℕ) (place : ℕ) (m n : Match) → MatchIs s word place m Nothing → orElse m n ≡ n
+unfolding MatchIs orElse
+missed-first s word place none n v = refl
+missed-first s word place (by r) n v = absurd v
+
+-- none is left to try
+nothing-left : (s word : List ℕ) (place : ℕ) (l : List Rule) → l ≡ [] → MatchIs s word place (firstMatch l word place) Nothing
+unfolding firstMatch MatchIs
+nothing-left s word place l e = subst (λ (l : List Rule). MatchIs s word place (firstMatch l word place) Nothing) (sym e) tt
+
+-- the rule at a place, tried
+module _ (s : List ℕ) (at : ℕ) (x : RuleAt) (o : x ≡ ruleStandsAt s at) (a b c d e f g h : ℕ) (q : x ≡ rules.At a b c d e f g h) where
+  rule-here : RuleIs s at a b c d e f g h
+  rule-here = rule-is s at x o a b c d e f g h q
+
+  rule-forward : at < h
+  rule-forward =
+      let v = rule-here in omega arith
+
+  module _ (word : List ℕ) (place : ℕ) (t : Bool) (k : t ≡ ruleMatches (take (b - a) (drop a s)) (take (d - c) (drop c s)) (take (f - e) (drop e s)) word place) where
+    test : t ≡ ruleMatches (rule-here .value .pattern) (rule-here .value .left) (rule-here .value .right) word place
+    test = k ∙ (λ i. ruleMatches (rule-here .pattern i) (rule-here .left i) (rule-here .right i) word place)
+
+    tested : (rs : List Rule) → firstMatch (rule-here .value ∷ rs) word place ≡ pick t (by (rule-here .value)) (firstMatch rs word place)
+    unfolding firstMatch
+    tested rs = ap (λ (u : Bool). pick u (by (rule-here .value)) (firstMatch rs word place)) (sym test)
+
+    rule-told : ((i : ℕ) → Fits w8 (getD s i 0)) → place < length word → (step : ℕ) → t ≡ true → step ≡ max 1 (b - a) → MatchIs s word place (by (rule-here .value)) (By step g h)
+    unfolding MatchIs
+    rule-told bytes here step z y =
+        let v = rule-here in
+        let size : b - a ≡ length (v .value .pattern) = omega (arith, ap length (v .pattern), length-take (b - a) (drop a s), length-drop a s, pattern-fits s at x o a b c d e f g h q) in
+        record {
+          passes = omega arith;
+          within = omega (arith, match-end _ _ _ word place t test z);
+          order = v .seven;
+          fits = v .fits;
+          expression = v .expression;
+          short = omega (arith, short-expression s at (v .value) _ (λ i. omega (arith, bytes i)) (v .reads), ap length (v .expression), length-take (h - g) (drop g s), length-drop g s);
+        }
+
+    rule-found : ((i : ℕ) → Fits w8 (getD s i 0)) → place < length word → (rs : List Rule) (step : ℕ) → t ≡ true → step ≡ max 1 (b - a) → MatchIs s word place (firstMatch (rule-here .value ∷ rs) word place) (By step g h)
+    rule-found bytes here rs step z y = subst (λ (m : Match). MatchIs s word place m (By step g h)) (sym (tested rs ∙ pick-true _ _ _ z)) (rule-told bytes here step z y)
+
+module _ {s word : List ℕ} {place at stop : ℕ} {m : Match} (w : Finding s word place m at stop) where
   pub finding-done : stop ≤ at → MatchIs s word place m Nothing
-  finding-done h = nothing-left (between-done _ _ _ _ h)
+  finding-done h = rw (w .is) (nothing-left s word place _ (between-done _ _ _ _ h))
 
   module _ (x : RuleAt) (o : x ≡ ruleStandsAt s at) where
     pub finding-cut : x ≡ rules.Cut → MatchIs s word place m Nothing
-    finding-cut q = nothing-left (between-cut _ _ _ _ (rule-cut s at x o q))
+    finding-cut q = rw (w .is) (nothing-left s word place _ (between-cut _ _ _ _ (rule-cut s at x o q)))
 
     module _ (a b c d e f g h : ℕ) (q : x ≡ rules.At a b c d e f g h) where
-      rule-here : RuleIs s at a b c d e f g h
-      rule-here = rule-is s at x o a b c d e f g h q
-
       finding-forward : at < h
-      finding-forward =
-          let v = rule-here in omega arith
+      finding-forward = rule-forward s at x o a b c d e f g h q
 
       pub finding-less : at < stop → stop - h < stop - at
       finding-less n = omega (arith, finding-forward)
 
       module _ (n : at < stop) (t : Bool)
           (k : t ≡ ruleMatches (take (b - a) (drop a s)) (take (d - c) (drop c s)) (take (f - e) (drop e s)) word place) where
-        test : t ≡ ruleMatches (rule-here .value .pattern) (rule-here .value .left) (rule-here .value .right) word place
-        test = k ∙ (λ i. ruleMatches (rule-here .pattern i) (rule-here .left i) (rule-here .right i) word place)
-
-        tested : m ≡ pick t (by (rule-here .value)) (firstMatch (rulesBetween (w .fuel - 1) s h stop) word place)
-        unfolding firstMatch
-        tested =
-            w .is ∙ ap (λ (l : List Rule). firstMatch l word place) (between-one _ s at stop h _ n (w .enough) (rule-here .fits) (rule-here .reads))
-            ∙ ap (λ (u : Bool). pick u (by (rule-here .value)) (firstMatch (rulesBetween (w .fuel - 1) s h stop) word place)) (sym test)
+        in-front : m ≡ firstMatch (rule-here s at x o a b c d e f g h q .value ∷ rulesBetween (w .fuel - 1) s h stop) word place
+        in-front =
+            let v = rule-here s at x o a b c d e f g h q in
+            w .is ∙ ap (λ (l : List Rule). firstMatch l word place) (between-one _ s at stop h _ n (w .enough) (v .fits) (v .reads))
 
         pub finding-next : t ≡ false → Finding s word place m h stop
         finding-next z = record {
@@ -103,27 +144,99 @@ module _ {s word : List ℕ} {place at stop : ℕ} {m : Match} (w : Finding s wo
           here = w .here;
           fuel = w .fuel - 1;
           enough = omega (arith, finding-forward);
-          is = tested ∙ pick-false _ _ _ z;
+          is = in-front ∙ tested s at x o a b c d e f g h q word place t k (rulesBetween (w .fuel - 1) s h stop) ∙ pick-false _ _ _ z;
         }
 
         pub finding-found : (step : ℕ) → t ≡ true → step ≡ max 1 (b - a) → MatchIs s word place m (By step g h)
-        unfolding MatchIs
-        finding-found step z y =
-            let v = rule-here in
-            let size : b - a ≡ length (v .value .pattern) = omega (arith, ap length (v .pattern), length-take (b - a) (drop a s), length-drop a s, pattern-fits s at x o a b c d e f g h q) in
-            let long : h - g ≡ length (v .value .expression) = omega (arith, ap length (v .expression), length-take (h - g) (drop g s), length-drop g s) in
-            subst (λ (m : Match). MatchIs s word place m (By step g h)) (sym (tested ∙ pick-true _ _ _ z)) (record {
-              passes = omega arith;
-              within = omega (arith, match-end _ _ _ word place t test z);
-              order = v .seven;
-              fits = v .fits;
-              expression = v .expression;
-              short = omega (arith, short-expression s at (v .value) _ (λ i. omega (arith, w .bytes i)) (v .reads));
-            })
+        finding-found step z y = rw in-front (rule-found s at x o a b c d e f g h q word place t k (w .bytes) (w .here) _ step z y)
 
 pub ruleset finding-laws = (finding-start, finding-done, finding-cut, finding-less, finding-next, finding-found, pattern-order, pattern-fits, left-order, left-fits, right-order, right-fits, needs)
 
+-- ---- one rule, by its place and by its number
+
+module _ (s : List ℕ) (bytes : (i : ℕ) → Fits w8 (getD s i 0)) (word : List ℕ) (place at : ℕ) (x : RuleAt) (o : x ≡ ruleStandsAt s at) where
+  pub one-cut : x ≡ rules.Cut → MatchIs s word place (firstMatch (ruleIn (readRule (drop at s))) word place) Nothing
+  unfolding ruleIn
+  one-cut q = nothing-left s word place _ (ap ruleIn (rule-cut s at x o q))
+
+  module _ (a b c d e f g h : ℕ) (q : x ≡ rules.At a b c d e f g h) (t : Bool)
+      (k : t ≡ ruleMatches (take (b - a) (drop a s)) (take (d - c) (drop c s)) (take (f - e) (drop e s)) word place) where
+    one-is : ruleIn (readRule (drop at s)) ≡ rule-here s at x o a b c d e f g h q .value ∷ []
+    unfolding ruleIn
+    one-is = ap ruleIn (rule-here s at x o a b c d e f g h q .reads)
+
+    pub one-missed : t ≡ false → MatchIs s word place (firstMatch (ruleIn (readRule (drop at s))) word place) Nothing
+    unfolding firstMatch MatchIs
+    one-missed z = rw (one-is, tested s at x o a b c d e f g h q word place t k [], pick-false t (by (rule-here s at x o a b c d e f g h q .value)) none z) tt
+
+    pub one-found : place < length word → (step : ℕ) → t ≡ true → step ≡ max 1 (b - a) → MatchIs s word place (firstMatch (ruleIn (readRule (drop at s))) word place) (By step g h)
+    one-found here step z y = rw one-is (rule-found s at x o a b c d e f g h q word place t k bytes here [] step z y)
+
+pub ruleset one-laws = (one-cut, one-missed, one-found, pattern-order, pattern-fits, left-order, left-fits, right-order, right-fits, needs)
+
+module _ (s : List ℕ) (table : List (List ℕ)) (number b : ℕ) (word : List ℕ) (place : ℕ) (z : Bool) (y : ℕ) (ey : y ≡ numberIn SECONDS table number) (ez : z ≡ mayFollow y b) where
+  pub number-over : z ≡ false → MatchIs s word place (firstMatch (ruleOf s table b number) word place) Nothing
+  unfolding ruleOf
+  number-over e = nothing-left s word place _ (pick-false _ _ _ (ap (λ (n : ℕ). mayFollow n b) (sym ey) ∙ sym ez ∙ e))
+
+  pub number-tried : (at : ℕ) (r : Matched) → z ≡ true → at ≡ numberIn PLACES table number
+      → MatchIs s word place (firstMatch (ruleIn (readRule (drop at s))) word place) r → MatchIs s word place (firstMatch (ruleOf s table b number) word place) r
+  unfolding ruleOf
+  number-tried at r e f w = rw (pick-true _ (ruleIn (readRule (drop (numberIn PLACES table number) s))) [] (ap (λ (n : ℕ). mayFollow n b) (sym ey) ∙ sym ez ∙ e), ← f) w
+
+pub ruleset number-laws = (number-over, number-tried, needs)
+
+-- ---- the loop over the numbers: none before `number` matched
+
+pub record Seeking (s : List ℕ) (table : List (List ℕ)) (word : List ℕ) (place : ℕ) (m : Match) (number stop : ℕ) : Type 0 where
+  pub is : m ≡ firstMatch (numbered s table (getD (drop place word) 1 0) number (stop - number)) word place
+
+pub seeking-start : (s : List ℕ) (table : List (List ℕ)) (word : List ℕ) (place start stop : ℕ)
+    → Seeking s table word place (firstMatch (numbered s table (getD (drop place word) 1 0) start (stop - start)) word place) start stop
+seeking-start s table word place start stop = record { is = refl }
+
+-- the byte behind the place
+pub next-byte : (word : List ℕ) (place b : ℕ) → b ≡ getD (take (length word - place) (drop place word)) 1 0 → b ≡ getD (drop place word) 1 0
+next-byte word place b e = e ∙ ap (λ (l : List ℕ). getD l 1 0) (take-all (length word - place) (drop place word) (omega (arith, length-drop place word)))
+
+module _ {s : List ℕ} {table : List (List ℕ)} {word : List ℕ} {place : ℕ} {m : Match} {number stop : ℕ} (w : Seeking s table word place m number stop) where
+  pub seeking-done : stop ≤ number → MatchIs s word place m Nothing
+  unfolding numbered
+  seeking-done h =
+      let none-more : stop - number ≡ 0 = omega arith in
+      rw (w .is) (nothing-left s word place _ (ap (numbered s table _ number) none-more))
+
+  module _ (h : number < stop) (b : ℕ) (eb : b ≡ getD (take (length word - place) (drop place word)) 1 0) (r : Matched) (v : MatchIs s word place (firstMatch (ruleOf s table b number) word place) r) where
+    one-more : m ≡ orElse (firstMatch (ruleOf s table b number) word place) (firstMatch (numbered s table (getD (drop place word) 1 0) (number + 1) (stop - (number + 1))) word place)
+    unfolding numbered
+    one-more =
+        let left : stop - number ≡ suc (stop - (number + 1)) = omega arith in
+        w .is ∙ ap (λ (n : ℕ). firstMatch (numbered s table (getD (drop place word) 1 0) number n) word place) left
+        ∙ first-append (ruleOf s table (getD (drop place word) 1 0) number) _ word place
+        ∙ rw (add-one, next-byte word place b eb) refl
+
+    pub seeking-found : (step start end : ℕ) → r ≡ By step start end → MatchIs s word place m (By step start end)
+    seeking-found step start end e = rw one-more (found-first s word place _ _ step start end (rw e at v))
+
+    pub seeking-next : r ≡ Nothing → Seeking s table word place m (number + 1) stop
+    seeking-next e = record { is = one-more ∙ missed-first s word place _ _ (rw e at v) }
+
+pub ruleset seeking-laws = (seeking-start, seeking-done, next-byte, seeking-found, seeking-next, needs)
+
 -- ---- the look-up
+
+module _ (s : List ℕ) (table : List (List ℕ)) (start stop : ℕ) (word : List ℕ) (place : ℕ) (r : Matched) where
+  pub found-placed : NUMBERS < stop → (from to : ℕ) → from ≡ start - NUMBERS → to ≡ stop - NUMBERS
+      → MatchIs s word place (firstMatch (rulesBetween to s from to) word place) r → MatchIs s word place (foundIn s table start stop word place) r
+  unfolding foundIn
+  found-placed h from to f t w = rw (pick-true _ _ _ (lt-ltb NUMBERS stop h), ← f, ← t) w
+
+  pub found-numbered : stop ≤ NUMBERS → MatchIs s word place (firstMatch (numbered s table (getD (drop place word) 1 0) start (stop - start)) word place) r
+      → MatchIs s word place (foundIn s table start stop word place) r
+  unfolding foundIn
+  found-numbered h w = rw (pick-false _ _ _ (le-ltb NUMBERS stop h)) w
+
+pub ruleset found-laws = (found-placed, found-numbered, needs)
 
 module _ (s : List ℕ) (table : List (List ℕ)) (list : ℕ) (word : List ℕ) (place : ℕ) where
   no-match : matcher s table list word place ≡ none → MatchIs s word place (matcher s table list word place) Nothing
@@ -139,9 +252,9 @@ module _ (s : List ℕ) (table : List (List ℕ)) (list : ℕ) (word : List ℕ)
   unplaced h k = no-match (pick-false _ _ _ (and-second _ _ (lt-ltb _ _ h) (le-ltb _ _ k)))
 
   pub looked-up : (r : Matched) (b : ℕ) → list < 98 → place < length word → b ≡ getD word place 0
-      → MatchIs s word place (firstMatch (rulesBetween (getD (getD table list []) (b % 64 + 64) 0) s (getD (getD table list []) (b % 64) 0) (getD (getD table list []) (b % 64 + 64) 0)) word place) r
+      → MatchIs s word place (foundIn s table (getD (getD table list []) (b % 64) 0) (getD (getD table list []) (b % 64 + 64) 0) word place) r
       → MatchIs s word place (matcher s table list word place) r
-  unfolding matcher tried
+  unfolding matcher
   looked-up r b h k e w = subst (λ (m : Match). MatchIs s word place m r) (sym (pick-true _ _ _ (and-yes _ _ (lt-ltb _ _ h) (lt-ltb _ _ k)))) (rw (← e) w)
 
 pub ruleset look-laws = (unlisted, unplaced, looked-up, needs)

@@ -1,5 +1,5 @@
--- A row of the table: noting a rule, and the loop over a list. A rule whose pattern begins with a byte of another kind than the word's never
--- matches, so the rules from the first to the last of a kind are enough. Assumes nothing.
+-- A row of the table: noting a rule, and the loops over a list. A rule whose pattern begins with a byte of another kind than the word's never
+-- matches, so the rules from the first to the last of a kind are enough; nor does one whose second byte is another. Assumes nothing.
 use borrow.Author.Needs.{needs}
 use mathlib.Core.Path.{_≡_, refl, sym, ap, subst, _∙_}
 use mathlib.Core.Bool.{Bool, true, false}
@@ -10,8 +10,11 @@ use native.Mathlib.Omega.{arith}
 use lib.Dec.{eqb, ltb}
 use lib.ListN.{length, getD, take, drop, set, length-set, length-take, length-drop, drop-of-length-le}
 use lib.Seq.{getD-set-same, getD-set-other, getD-take, getD-drop}
+use mir.Syntax.{w64}
+use mir.Val.{Fits}
 use borrow.Author.Tests.{eqb-true, eqb-false, ne-eqb, lt-ltb, le-ltb}
-use Rattle.base.specs.Pick.{pick}
+use Rattle.base.specs.Pick.{pick, and}
+use Rattle.base.proofs.Arms.{clash}
 use Rattle.base.proofs.PickLaws.{pick-true, pick-false, pick-all, and-first}
 use Rattle.texts.specs.Parts.{prefixOf}
 use Rattle.rule.specs.Matching.{ruleMatches}
@@ -23,13 +26,14 @@ use Rattle.strings.specs.Contracts.{behind}
 use Rattle.pack.specs.declared.rules.RuleAt.{RuleAt}
 use Rattle.pack.specs.declared.rules.RuleAt.the-variants as rules
 use Rattle.strings.proofs.Readers.{place-drop}
-use Rattle.pack.proofs.RuleLaws.{RuleIs, rule-is}
+use Rattle.pack.proofs.RuleLaws.{RuleIs, rule-is, pattern-order, pattern-fits}
 use Rattle.pack.proofs.Laws.{RulesAt, one-rule, ListIs, good-rule, held-by, held-whole, list-held, list-told}
 use Rattle.rule_index.specs
-use specs.Matching.{Match, none, by, firstMatch}
-use specs.Contracts.{packIn, rulesBetween, tried, notedIn, ListReady, RowFinds}
+use specs.Matching.{Match, none, by, Matcher, firstMatch}
+use specs.Contracts.{NUMBERS, PLACES, SECONDS, packIn, rulesBetween, numberIn, mayFollow, ruleIn, ruleOf, numbered, foundIn, notedIn, ListPlaced, RowReady, RowPlaces, numberedIn, Shaped, Agree, RowFinds, ListReady, ListIndexed}
+use Rattle.rule_index.proofs.NumberLaws.{set-here, set-shaped, numbered-shaped, numbered-place, numbered-second, numbered-row, numbered-agree, agree-same, agree-then, agree-row}
 
--- ---- a rule whose pattern begins with a byte of another kind does not match
+-- ---- a rule whose pattern begins with a byte of another kind does not match, nor one with another second byte
 
 other-first : (p s : List ℕ) → 0 < length p → (getD p 0 0 % 64 ≡ getD s 0 0 % 64 → ⊥) → prefixOf p s ≡ false
 unfolding prefixOf
@@ -37,29 +41,46 @@ other-first [] s h k = let no-way : ⊥ = omega arith in absurd no-way
 other-first (x ∷ p) [] h k = refl
 other-first (x ∷ p) (y ∷ s) h k = and-first _ _ (ne-eqb y x (λ e. k (ap (λ (n : ℕ). n % 64) (sym e))))
 
-module _ (r : Rule) (word : List ℕ) (place : ℕ) (some : 0 < length (r .pattern)) where
+and-none : (a b : Bool) → b ≡ false → and a b ≡ false
+unfolding and
+and-none true b e = e
+and-none false b e = refl
+
+other-second : (p s : List ℕ) → (getD p 1 0 ≡ 0 → ⊥) → (getD p 1 0 ≡ getD s 1 0 → ⊥) → prefixOf p s ≡ false
+unfolding prefixOf
+other-second [] s z k = absurd (z refl)
+other-second (x ∷ []) s z k = absurd (z refl)
+other-second (x ∷ y ∷ p) [] z k = refl
+other-second (x ∷ y ∷ p) (a ∷ []) z k = and-none _ _ refl
+other-second (x ∷ y ∷ p) (a ∷ b ∷ s) z k = and-none _ _ (and-first _ _ (ne-eqb b y (λ e. k (sym e))))
+
+module _ (r : Rule) (word : List ℕ) (place : ℕ) where
   never-by : (t : Bool) → ltb (length word) place ≡ t → prefixOf (r .pattern) (drop place word) ≡ false → ruleMatches (r .pattern) (r .left) (r .right) word place ≡ false
   unfolding ruleMatches
   never-by true e f = pick-true _ _ _ e
   never-by false e f = pick-false _ _ _ e ∙ and-first _ _ f
 
-  never-other : (getD (r .pattern) 0 0 % 64 ≡ getD word place 0 % 64 → ⊥) → ruleMatches (r .pattern) (r .left) (r .right) word place ≡ false
-  never-other k =
-      let here : getD (drop place word) 0 0 ≡ getD word place 0 = getD-drop place word 0 0 ∙ ap (λ (n : ℕ). getD word n 0) (add-zero place) in
-      never-by _ refl (other-first (r .pattern) (drop place word) some (λ q. k (q ∙ ap (λ (n : ℕ). n % 64) here)))
+  never-second : (getD (r .pattern) 1 0 ≡ 0 → ⊥) → (getD (r .pattern) 1 0 ≡ getD (drop place word) 1 0 → ⊥) → ruleMatches (r .pattern) (r .left) (r .right) word place ≡ false
+  never-second z k = never-by _ refl (other-second (r .pattern) (drop place word) z k)
 
-  past-first : (p : List ℕ) → 0 < length p → prefixOf p [] ≡ false
-  unfolding prefixOf
-  past-first [] h = let no-way : ⊥ = omega arith in absurd no-way
-  past-first (x ∷ p) h = refl
+  module _ (some : 0 < length (r .pattern)) where
+    never-other : (getD (r .pattern) 0 0 % 64 ≡ getD word place 0 % 64 → ⊥) → ruleMatches (r .pattern) (r .left) (r .right) word place ≡ false
+    never-other k =
+        let here : getD (drop place word) 0 0 ≡ getD word place 0 = getD-drop place word 0 0 ∙ ap (λ (n : ℕ). getD word n 0) (add-zero place) in
+        never-by _ refl (other-first (r .pattern) (drop place word) some (λ q. k (q ∙ ap (λ (n : ℕ). n % 64) here)))
 
-  -- nor behind the word
-  pub never-past : length word ≤ place → ruleMatches (r .pattern) (r .left) (r .right) word place ≡ false
-  never-past h = never-by _ refl (ap (prefixOf (r .pattern)) (drop-of-length-le word h) ∙ past-first (r .pattern) some)
+    past-first : (p : List ℕ) → 0 < length p → prefixOf p [] ≡ false
+    unfolding prefixOf
+    past-first [] h = let no-way : ⊥ = omega arith in absurd no-way
+    past-first (x ∷ p) h = refl
+
+    -- nor behind the word
+    pub never-past : length word ≤ place → ruleMatches (r .pattern) (r .left) (r .right) word place ≡ false
+    never-past h = never-by _ refl (ap (prefixOf (r .pattern)) (drop-of-length-le word h) ∙ past-first (r .pattern) some)
 
 -- ---- lists that match alike where the word's byte is of kind b
 
-unfoldable orElse : Match → Match → Match
+unfoldable pub orElse : Match → Match → Match
 orElse none m = m
 orElse (by r) m = by r
 
@@ -73,7 +94,7 @@ unfolding pick orElse
 first-pick true r x y z e = refl
 first-pick false r x y z e = e
 
-first-append : (xs ys : List Rule) (word : List ℕ) (place : ℕ) → firstMatch (xs ++ ys) word place ≡ orElse (firstMatch xs word place) (firstMatch ys word place)
+pub first-append : (xs ys : List Rule) (word : List ℕ) (place : ℕ) → firstMatch (xs ++ ys) word place ≡ orElse (firstMatch xs word place) (firstMatch ys word place)
 unfolding firstMatch orElse
 first-append [] ys word place = refl
 first-append (x ∷ xs) ys word place = first-pick _ x _ _ _ (first-append xs ys word place)
@@ -91,7 +112,6 @@ module _ {b : ℕ} {xs ys : List Rule} (a : Alike b xs ys) where
   alike-more : (zs : List Rule) → Alike b (xs ++ zs) (ys ++ zs)
   alike-more zs = record { is = λ word place e. first-append xs zs word place ∙ ap (λ (m : Match). orElse m (firstMatch zs word place)) (a .is word place e) ∙ sym (first-append ys zs word place) }
 
--- a rule of another kind behind them
 alike-other : (b : ℕ) (xs : List Rule) (r : Rule) → 0 < length (r .pattern) → (getD (r .pattern) 0 0 % 64 ≡ b → ⊥) → Alike b (xs ++ r ∷ []) xs
 unfolding firstMatch
 alike-other b xs r some other = record {
@@ -99,63 +119,63 @@ alike-other b xs r some other = record {
       first-append xs (r ∷ []) word place ∙ ap (orElse (firstMatch xs word place)) (pick-false _ _ _ (never-other r word place some (λ q. other (q ∙ e)))) ∙ orElse-none _;
 }
 
--- ---- rules that stand one after the other
+-- ---- rules that stand one after the other; `reads` says which one stands at a place or number, and what is behind it
 
-pub data Stand (s : List ℕ) (to : ℕ) : ℕ → List Rule → Type 0 where
-  stand-none : Stand s to to []
-  stand-rule : {at next : ℕ} {r : Rule} {rs : List Rule} → readRule (drop at s) ≡ got r (drop next s) → at < next → next ≤ length s → Stand s to next rs → Stand s to at (r ∷ rs)
+pub data Stand (reads : ℕ → Rule → ℕ → Type 0) (to : ℕ) : ℕ → List Rule → Type 0 where
+  stand-none : Stand reads to to []
+  stand-rule : {at next : ℕ} {r : Rule} {rs : List Rule} → reads at r next → Stand reads to next rs → Stand reads to at (r ∷ rs)
 
-stand-order : {s : List ℕ} {to at : ℕ} {rs : List Rule} → Stand s to at rs → at ≤ to
-stand-order stand-none = omega arith
-stand-order (stand-rule o h k w) = omega (arith, stand-order w)
+stand-more : (reads : ℕ → Rule → ℕ → Type 0) {from at : ℕ} (next : ℕ) {rs : List Rule} (r : Rule) → reads at r next → Stand reads at from rs → Stand reads next from (rs ++ r ∷ [])
+stand-more reads next r o stand-none = stand-rule o stand-none
+stand-more reads next r o (stand-rule p w) = stand-rule p (stand-more reads next r o w)
 
-stand-more : {s : List ℕ} {from at next : ℕ} {rs : List Rule} {r : Rule} → readRule (drop at s) ≡ got r (drop next s) → at < next → next ≤ length s → Stand s at from rs
-    → Stand s next from (rs ++ r ∷ [])
-stand-more o h k stand-none = stand-rule o h k stand-none
-stand-more o h k (stand-rule p l m w) = stand-rule p l m (stand-more o h k w)
-
-stand-read : (f : ℕ) {s : List ℕ} {to at : ℕ} {rs : List Rule} → to ≤ at + f → Stand s to at rs → rulesBetween f s at to ≡ rs
-unfolding rulesBetween behind
-stand-read zero h stand-none = refl
-stand-read zero h (stand-rule o l m w) = let no-way : ⊥ = omega (arith, stand-order w) in absurd no-way
-stand-read (suc f) {to = to} h stand-none = pick-false _ _ _ (le-ltb to to (omega arith))
-stand-read (suc f) {s} {to} {at} h (stand-rule {next = n} {r = r} o l m w) =
-    pick-true _ _ _ (lt-ltb at to (omega (arith, stand-order w))) ∙ rw (o, place-drop s n m) (ap (λ (l : List Rule). r ∷ l) (stand-read f (omega arith) w))
-
-stand-alike : {s : List ℕ} {b to from : ℕ} {rs : List Rule} → Stand s to from rs → Alike b rs (rulesBetween to s from to)
-stand-alike {to = to} w = alike-same (sym (stand-read to (omega arith) w))
+-- what is found is the first of the rules that stand there
+pub record FindsFirst (reads : ℕ → Rule → ℕ → Type 0) (found : ℕ → ℕ → Matcher) : Type 0 where
+  pub is : {to at : ℕ} {rs : List Rule} → Stand reads to at rs → (word : List ℕ) (place : ℕ) → firstMatch rs word place ≡ found at to word place
 
 -- ---- what an entry says of the rules so far
 
--- no rule of the kind yet; or those from the entry's first rule on, of which it holds enough
-pub data Noted (s : List ℕ) (b : ℕ) (before : List Rule) (at p e : ℕ) : Type 0 where
-  not-yet : e ≡ 0 → Alike b before [] → Noted s b before at p e
-  since : (tail : List Rule) → (e ≡ 0 → ⊥) → Stand s at p tail → Alike b before tail → Alike b tail (rulesBetween e s p e) → Noted s b before at p e
+pub record Told (b : ℕ) (rs : List Rule) (m : Matcher) : Type 0 where
+  pub is : (word : List ℕ) (place : ℕ) → getD word place 0 % 64 ≡ b → firstMatch rs word place ≡ m word place
 
-noted-found : {s : List ℕ} {b : ℕ} {before : List Rule} {at p e : ℕ} → Noted s b before at p e → Alike b before (rulesBetween e s p e)
-unfolding rulesBetween
-noted-found {s} {b} {before} {at} {p} {e} (not-yet z a) = subst (λ (n : ℕ). Alike b before (rulesBetween n s p n)) (sym z) a
-noted-found (since tail z w a c) = alike-then a c
+-- no rule of the kind yet; or those from the entry's first rule on, of which it finds enough
+pub data Noted (reads : ℕ → Rule → ℕ → Type 0) (found : ℕ → ℕ → Matcher) (b : ℕ) (before : List Rule) (at p e : ℕ) : Type 0 where
+  not-yet : e ≡ 0 → Alike b before [] → Noted reads found b before at p e
+  since : (tail : List Rule) → (e ≡ 0 → ⊥) → Stand reads at p tail → Alike b before tail → Told b tail (found p e) → Noted reads found b before at p e
 
--- one rule more, of another kind, or of the kind
-module _ {s : List ℕ} {b : ℕ} {before : List Rule} {at next : ℕ} {r : Rule} (o : readRule (drop at s) ≡ got r (drop next s)) (h : at < next) (k : next ≤ length s) where
-  noted-other : {p e : ℕ} → 0 < length (r .pattern) → (getD (r .pattern) 0 0 % 64 ≡ b → ⊥) → Noted s b before at p e → Noted s b (before ++ r ∷ []) next p e
-  noted-other some other (not-yet z a) = not-yet z (alike-then (alike-other b before r some other) a)
-  noted-other some other (since tail z w a c) = since (tail ++ r ∷ []) z (stand-more o h k w) (alike-more a (r ∷ [])) (alike-then (alike-other b tail r some other) c)
+module _ {reads : ℕ → Rule → ℕ → Type 0} {found : ℕ → ℕ → Matcher} (finds : FindsFirst reads found) where
+  stand-told : {b to from : ℕ} {rs : List Rule} → Stand reads to from rs → Told b rs (found from to)
+  stand-told w = record { is = λ word place e. finds .is w word place }
 
-  noted-first : {p e : ℕ} → e ≡ 0 → Noted s b before at p e → Noted s b (before ++ r ∷ []) next at next
-  noted-first e (since tail z w a c) = absurd (z e)
-  noted-first e (not-yet z a) =
-      let one : Stand s next at (r ∷ []) = stand-rule o h k stand-none in
-      since (r ∷ []) (λ n. omega arith) one (alike-more a (r ∷ [])) (stand-alike one)
+  noted-found : ((p : ℕ) (word : List ℕ) (place : ℕ) → found p 0 word place ≡ none) → {b : ℕ} {before : List Rule} {at p e : ℕ} → Noted reads found b before at p e → Told b before (found p e)
+  unfolding firstMatch
+  noted-found n {p = p} (not-yet z a) = record { is = λ word place k. a .is word place k ∙ sym (ap (λ (e : ℕ). found p e word place) z ∙ n p word place) }
+  noted-found n (since tail z w a c) = record { is = λ word place k. a .is word place k ∙ c .is word place k }
 
-  noted-more : {p e : ℕ} → (e ≡ 0 → ⊥) → Noted s b before at p e → Noted s b (before ++ r ∷ []) next p next
-  noted-more n (not-yet z a) = absurd (n z)
-  noted-more n (since tail z w a c) =
-      let more : Stand s next _ (tail ++ r ∷ []) = stand-more o h k w in
-      since (tail ++ r ∷ []) (λ n. omega arith) more (alike-more a (r ∷ [])) (stand-alike more)
+  -- one rule more, of another kind, or of the kind
+  module _ {b : ℕ} {before : List Rule} {at next : ℕ} {r : Rule} (o : reads at r next) (h : next ≡ 0 → ⊥) where
+    noted-other : {p e : ℕ} → 0 < length (r .pattern) → (getD (r .pattern) 0 0 % 64 ≡ b → ⊥) → Noted reads found b before at p e → Noted reads found b (before ++ r ∷ []) next p e
+    noted-other some other (not-yet z a) = not-yet z (alike-then (alike-other b before r some other) a)
+    noted-other some other (since tail z w a c) =
+        since (tail ++ r ∷ []) z (stand-more reads next r o w) (alike-more a (r ∷ [])) (record { is = λ word place k. alike-other b tail r some other .is word place k ∙ c .is word place k })
+
+    noted-first : {p e : ℕ} → e ≡ 0 → Noted reads found b before at p e → Noted reads found b (before ++ r ∷ []) next at next
+    noted-first e (since tail z w a c) = absurd (z e)
+    noted-first e (not-yet z a) =
+        let one : Stand reads next at (r ∷ []) = stand-rule o stand-none in
+        since (r ∷ []) h one (alike-more a (r ∷ [])) (stand-told one)
+
+    noted-more : {p e : ℕ} → (e ≡ 0 → ⊥) → Noted reads found b before at p e → Noted reads found b (before ++ r ∷ []) next p next
+    noted-more n (not-yet z a) = absurd (n z)
+    noted-more n (since tail z w a c) =
+        let more : Stand reads next _ (tail ++ r ∷ []) = stand-more reads next r o w in
+        since (tail ++ r ∷ []) h more (alike-more a (r ∷ [])) (stand-told more)
 
 -- ---- a row that a rule was noted in
+
+-- what it says of the rules so far
+abbrev RowNotes : (ℕ → Rule → ℕ → Type 0) → (ℕ → ℕ → Matcher) → List Rule → ℕ → List ℕ → Type 0
+RowNotes reads found before at row = (b : ℕ) → b < 64 → Noted reads found b before at (getD row b 0) (getD row (b + 64) 0)
 
 module _ (t t′ : List ℕ) (kind at next : ℕ) (w : kind + 64 < length t) (q : t′ ≡ notedIn t kind at next) where
   note-long : length t′ ≡ length t
@@ -171,35 +191,162 @@ module _ (t t′ : List ℕ) (kind at next : ℕ) (w : kind + 64 < length t) (q 
   apart : kind ≡ kind + 64 → ⊥
   apart e = omega arith
 
-  module _ {s : List ℕ} {before : List Rule} {r : Rule} (o : readRule (drop at s) ≡ got r (drop next s)) (h : at < next) (k : next ≤ length s) where
-    noted-by : (z : Bool) → eqb (getD t (kind + 64) 0) 0 ≡ z → Noted s kind before at (getD t kind 0) (getD t (kind + 64) 0)
-        → Noted s kind (before ++ r ∷ []) next (getD t′ kind 0) (getD t′ (kind + 64) 0)
+  module _ {reads : ℕ → Rule → ℕ → Type 0} {found : ℕ → ℕ → Matcher} (finds : FindsFirst reads found) {before : List Rule} {r : Rule} (o : reads at r next) (h : next ≡ 0 → ⊥) where
+    noted-by : (z : Bool) → eqb (getD t (kind + 64) 0) 0 ≡ z → Noted reads found kind before at (getD t kind 0) (getD t (kind + 64) 0)
+        → Noted reads found kind (before ++ r ∷ []) next (getD t′ kind 0) (getD t′ (kind + 64) 0)
     unfolding notedIn
     noted-by true e x =
         let now : t′ ≡ set (set t kind at) (kind + 64) next = q ∙ pick-true _ _ _ e in
         let place = getD-set-other (set t kind at) (kind + 64) kind next 0 apart ∙ getD-set-same t kind at 0 (omega arith) in
         let end = getD-set-same (set t kind at) (kind + 64) next 0 (omega (arith, length-set t kind at)) in
-        rw (now, place, end) (noted-first o h k (eqb-true _ _ e) x)
+        rw (now, place, end) (noted-first finds o h (eqb-true _ _ e) x)
     noted-by false e x =
         let now : t′ ≡ set t (kind + 64) next = q ∙ pick-false _ _ _ e in
         let place = getD-set-other t (kind + 64) kind next 0 apart in
         let end = getD-set-same t (kind + 64) next 0 (omega arith) in
-        rw (now, place, end) (noted-more o h k (eqb-false _ _ e) x)
+        rw (now, place, end) (noted-more finds o h (eqb-false _ _ e) x)
 
--- ---- the loop over a list
+    kind-by : 0 < length (r .pattern) → kind ≡ getD (r .pattern) 0 0 % 64 → RowNotes reads found before at t → (a : ℕ) → a < 64 → (z : Bool) → eqb kind a ≡ z
+        → Noted reads found a (before ++ r ∷ []) next (getD t′ a 0) (getD t′ (a + 64) 0)
+    kind-by some ek v a l true z =
+        subst (λ (c : ℕ). Noted reads found c (before ++ r ∷ []) next (getD t′ c 0) (getD t′ (c + 64) 0)) (eqb-true kind a z)
+        (noted-by _ refl (v kind (omega arith)))
+    kind-by some ek v a l false z =
+        let ne : kind ≡ a → ⊥ = eqb-false _ _ z in
+        rw (note-other a (λ n. ne (sym n)) (λ n. omega arith), note-other (a + 64) (λ n. omega arith) (λ n. ne (omega arith)))
+        (noted-other finds o h some (λ n. ne (ek ∙ n)) (v a l))
 
--- of all the rules of a list some are noted in the row, and `left` others stand from `at` on
-pub record Indexing (s : List ℕ) (whole : List Rule) (row : List ℕ) (at left : ℕ) : Type 0 where
-  pub long : length row ≡ 128
-  pub before : List Rule
+    row-notes : 0 < length (r .pattern) → kind ≡ getD (r .pattern) 0 0 % 64 → RowNotes reads found before at t → RowNotes reads found (before ++ r ∷ []) next t′
+    row-notes some ek v a l = kind-by some ek v a l _ refl
+
+-- ---- what is found by two places, and by two numbers
+
+-- a rule at a place, put behind the numbers
+pub record PlacedAt (s : List ℕ) (at : ℕ) (r : Rule) (next : ℕ) : Type 0 where
+  pub reads : readRule (drop (at - NUMBERS) s) ≡ got r (drop (next - NUMBERS) s)
+  pub forward : at < next
+  pub low : NUMBERS ≤ at
+  pub fits : next - NUMBERS ≤ length s
+
+-- a rule by its number
+pub record NumberedAt (s : List ℕ) (table : List (List ℕ)) (at : ℕ) (r : Rule) (next : ℕ) : Type 0 where
+  pub rest : List ℕ
+  pub reads : readRule (drop (numberIn PLACES table at) s) ≡ got r rest
+  pub second : numberIn SECONDS table at ≡ getD (r .pattern) 1 0
+  pub forward : next ≡ suc at
+  pub few : at < NUMBERS
+
+module _ (s : List ℕ) (table : List (List ℕ)) where
+  no-places : (f at to : ℕ) → to ≤ at → rulesBetween f s at to ≡ []
+  unfolding rulesBetween
+  no-places zero at to h = refl
+  no-places (suc f) at to h = pick-false _ _ _ (le-ltb at to h)
+
+  no-numbers : (b at n : ℕ) → n ≡ 0 → numbered s table b at n ≡ []
+  unfolding numbered
+  no-numbers b at n h = ap (numbered s table b at) h
+
+  -- nothing stands between a place or number and one that is not behind it
+  nothing-found : (at to : ℕ) → to ≤ at → (word : List ℕ) (place : ℕ) → foundIn s table at to word place ≡ none
+  unfolding foundIn firstMatch
+  nothing-found at to h word place =
+      pick-all (λ (m : Match). m ≡ none) _ _ _
+      (ap (λ (l : List Rule). firstMatch l word place) (no-places (to - NUMBERS) (at - NUMBERS) (to - NUMBERS) (omega arith)))
+      (ap (λ (l : List Rule). firstMatch l word place) (no-numbers _ at (to - at) (omega arith)))
+
+  pub clear-found : (p : ℕ) (word : List ℕ) (place : ℕ) → foundIn s table p 0 word place ≡ none
+  clear-found p = nothing-found p 0 (omega arith)
+
+  placed-order : {to at : ℕ} {rs : List Rule} → Stand (PlacedAt s) to at rs → at ≤ to
+  placed-order stand-none = omega arith
+  placed-order (stand-rule o w) = omega (arith, placed-order w, o .forward)
+
+  placed-read : (f : ℕ) {to at : ℕ} {rs : List Rule} → to - NUMBERS ≤ at - NUMBERS + f → Stand (PlacedAt s) to at rs → rulesBetween f s (at - NUMBERS) (to - NUMBERS) ≡ rs
+  unfolding rulesBetween behind
+  placed-read f {to = to} h stand-none = no-places f (to - NUMBERS) (to - NUMBERS) (omega arith)
+  placed-read zero h (stand-rule o w) = let no-way : ⊥ = omega (arith, placed-order w, o .forward, o .low) in absurd no-way
+  placed-read (suc f) {to} {at} h (stand-rule {next = n} {r = r} o w) =
+      pick-true _ _ _ (lt-ltb (at - NUMBERS) (to - NUMBERS) (omega (arith, placed-order w, o .forward, o .low)))
+      ∙ rw (o .reads, place-drop s (n - NUMBERS) (o .fits)) (ap (λ (l : List Rule). r ∷ l) (placed-read f (omega (arith, o .forward, o .low)) w))
+
+  over-found : (at to : ℕ) → NUMBERS < to → (word : List ℕ) (place : ℕ)
+      → foundIn s table at to word place ≡ firstMatch (rulesBetween (to - NUMBERS) s (at - NUMBERS) (to - NUMBERS)) word place
+  unfolding foundIn
+  over-found at to h word place = pick-true _ _ _ (lt-ltb NUMBERS to h)
+
+  under-found : (at to : ℕ) → to ≤ NUMBERS → (word : List ℕ) (place : ℕ)
+      → foundIn s table at to word place ≡ firstMatch (numbered s table (getD (drop place word) 1 0) at (to - at)) word place
+  unfolding foundIn
+  under-found at to h word place = pick-false _ _ _ (le-ltb NUMBERS to h)
+
+  placed-by : {to at : ℕ} {rs : List Rule} → NUMBERS < to → Stand (PlacedAt s) to at rs → (word : List ℕ) (place : ℕ) → firstMatch rs word place ≡ foundIn s table at to word place
+  placed-by {to} {at} h v word place = sym (over-found at to h word place ∙ ap (λ (l : List Rule). firstMatch l word place) (placed-read (to - NUMBERS) (omega arith) v))
+
+  placed-is : {to at : ℕ} {rs : List Rule} → Stand (PlacedAt s) to at rs → (word : List ℕ) (place : ℕ) → firstMatch rs word place ≡ foundIn s table at to word place
+  unfolding firstMatch
+  placed-is {to} stand-none word place = sym (nothing-found to to (omega arith) word place)
+  placed-is (stand-rule o w) word place = placed-by (omega (arith, placed-order w, o .forward, o .low)) (stand-rule o w) word place
+
+  placed-found : FindsFirst (PlacedAt s) (foundIn s table)
+  placed-found = record { is = placed-is }
+
+  may-not : (x b : ℕ) (z : Bool) → eqb x 0 ≡ z → mayFollow x b ≡ false → (x ≡ 0 → ⊥) × (x ≡ b → ⊥)
+  unfolding mayFollow
+  may-not x b true e f = let no : true ≡ false = sym (pick-true _ _ _ e) ∙ f in clash (cc)
+  may-not x b false e f = (eqb-false x 0 e, eqb-false x b (sym (pick-false _ _ _ e) ∙ f))
+
+  -- the rule of a number is tried, or does not match
+  number-one : {at next : ℕ} {r : Rule} → NumberedAt s table at r next → (word : List ℕ) (place : ℕ) (x : Match) (z : Bool)
+      → mayFollow (numberIn SECONDS table at) (getD (drop place word) 1 0) ≡ z
+      → pick (ruleMatches (r .pattern) (r .left) (r .right) word place) (by r) x ≡ orElse (firstMatch (ruleOf s table (getD (drop place word) 1 0) at) word place) x
+  unfolding ruleOf ruleIn firstMatch orElse
+  number-one {r = r} o word place x true e = rw (pick-true _ _ _ e, o .reads) (first-pick _ r x none x refl)
+  number-one {r = r} o word place x false e =
+      let other = may-not _ _ _ refl e in
+      rw (pick-false _ _ _ e) (pick-false _ _ _ (never-second r word place (λ q. other .0 (o .second ∙ q)) (λ q. other .1 (o .second ∙ q))))
+
+  numbered-order : {to at : ℕ} {rs : List Rule} → Stand (NumberedAt s table) to at rs → at ≤ to
+  numbered-order stand-none = omega arith
+  numbered-order (stand-rule o w) = omega (arith, numbered-order w, o .forward)
+
+  numbered-few : {to at next : ℕ} {r : Rule} {rs : List Rule} → NumberedAt s table at r next → Stand (NumberedAt s table) to next rs → to ≤ NUMBERS
+  numbered-few o stand-none = omega (arith, o .forward, o .few)
+  numbered-few o (stand-rule p w) = numbered-few p w
+
+  numbered-read : (n : ℕ) {to at : ℕ} {rs : List Rule} → Stand (NumberedAt s table) to at rs → to ≡ at + n → (word : List ℕ) (place : ℕ)
+      → firstMatch rs word place ≡ firstMatch (numbered s table (getD (drop place word) 1 0) at n) word place
+  unfolding numbered firstMatch
+  numbered-read zero stand-none e word place = refl
+  numbered-read (suc n) stand-none e word place = let no-way : ⊥ = omega arith in absurd no-way
+  numbered-read zero (stand-rule o w) e word place = let no-way : ⊥ = omega (arith, numbered-order w, o .forward) in absurd no-way
+  numbered-read (suc n) {at = at} (stand-rule {r = r} o w) e word place =
+      ap (pick (ruleMatches (r .pattern) (r .left) (r .right) word place) (by r)) (numbered-read n w (omega (arith, o .forward)) word place)
+      ∙ ap (λ (k : ℕ). pick (ruleMatches (r .pattern) (r .left) (r .right) word place) (by r) (firstMatch (numbered s table (getD (drop place word) 1 0) k n) word place)) (o .forward)
+      ∙ number-one o word place _ _ refl
+      ∙ sym (first-append (ruleOf s table (getD (drop place word) 1 0) at) _ word place)
+
+  numbered-by : {to at : ℕ} {rs : List Rule} → to ≤ NUMBERS → at ≤ to → Stand (NumberedAt s table) to at rs → (word : List ℕ) (place : ℕ) → firstMatch rs word place ≡ foundIn s table at to word place
+  numbered-by {to} {at} h l v word place = numbered-read (to - at) v (omega arith) word place ∙ sym (under-found at to h word place)
+
+  numbered-is : {to at : ℕ} {rs : List Rule} → Stand (NumberedAt s table) to at rs → (word : List ℕ) (place : ℕ) → firstMatch rs word place ≡ foundIn s table at to word place
+  unfolding firstMatch
+  numbered-is {to} stand-none word place = sym (nothing-found to to (omega arith) word place)
+  numbered-is (stand-rule o w) word place = numbered-by (numbered-few o w) (omega (arith, numbered-order w, o .forward)) (stand-rule o w) word place
+
+  numbered-found : FindsFirst (NumberedAt s table) (foundIn s table)
+  numbered-found = record { is = numbered-is }
+
+-- ---- the loops over a list
+
+-- of all the rules of a list some are behind, and `left` others stand from `at` on
+pub record Midway (s : List ℕ) (whole before : List Rule) (at left : ℕ) : Type 0 where
   pub rest : List Rule
   pub are : before ++ rest ≡ whole
   pub names : List ℕ
   pub held : RulesAt s names at rest
   pub counted : left ≡ length rest
-  pub kinds : (b : ℕ) → b < 64 → Noted s b before at (getD row b 0) (getD row (b + 64) 0)
 
-module _ {s row : List ℕ} {place : ℕ} (w : ListReady s row place) where
+module _ {s : List ℕ} {place : ℕ} (w : ListPlaced s place) where
   list-here : ListIs s (take (1 + stringsLength (packIn s .names) - 1) (drop 1 s)) place (getD (packIn s .lists) (w .list) [])
   list-here = rw (w .held) (list-held s (packIn s) (1 + stringsLength (packIn s .names)) (w .is) refl (w .list) (w .known))
 
@@ -209,17 +356,8 @@ module _ {s row : List ℕ} {place : ℕ} (w : ListReady s row place) where
   pub list-within : place + 2 ≤ length s
   list-within = list-here .fits
 
-  pub indexing-start : (left : ℕ) → left ≡ ruleCount s place → Indexing s (listAt s place) row (place + 2) left
-  indexing-start left e = record {
-    long = w .blank .long;
-    before = [];
-    rest = getD (packIn s .lists) (w .list) [];
-    are = sym list-whole;
-    names = _;
-    held = list-here .held;
-    counted = e ∙ list-here .count;
-    kinds = λ b h. not-yet (w .blank .clear b h) (alike-same refl);
-  }
+  midway-start : (left : ℕ) → left ≡ ruleCount s place → Midway s (listAt s place) [] (place + 2) left
+  midway-start left e = record { rest = getD (packIn s .lists) (w .list) []; are = sym list-whole; names = _; held = list-here .held; counted = e ∙ list-here .count }
 
 -- the rule that the loop is at
 data Next (s names : List ℕ) (at left : ℕ) (rest : List Rule) : Type 0 where
@@ -232,16 +370,23 @@ next-by s names at left (r ∷ rs) e h l = next r rs refl l
 held-reads : (s names : List ℕ) (at a b c d e f g h : ℕ) (r : Rule) (rs : List Rule) (w : RuleIs s at a b c d e f g h) → RulesAt s names at (r ∷ rs) → w .value ≡ r
 held-reads s names at a b c d e f g h r rs w (one-rule p v q k l) = let same = sym (w .reads) ∙ v .reads in let value : w .value ≡ v .value = cc in value ∙ q
 
-module _ {s row : List ℕ} {whole : List Rule} {at left : ℕ} (w : Indexing s whole row at left) (h : 0 < left) (x : RuleAt) (o : x ≡ ruleStandsAt s at) where
+none-left : (l : List Rule) → length l ≤ 0 → l ≡ []
+none-left [] h = refl
+none-left (x ∷ l) h = let no-way : ⊥ = omega arith in absurd no-way
+
+midway-done : {s : List ℕ} {whole before : List Rule} {at left : ℕ} → Midway s whole before at left → left ≤ 0 → before ≡ whole
+midway-done {before = before} w h = sym (ap (λ (l : List Rule). before ++ l) (none-left (w .rest) (omega (arith, w .counted))) ∙ append-nil before) ∙ w .are
+
+module _ {s : List ℕ} {whole before : List Rule} {at left : ℕ} (w : Midway s whole before at left) (h : 0 < left) (x : RuleAt) (o : x ≡ ruleStandsAt s at) where
   here : Next s (w .names) at left (w .rest)
   here = next-by s (w .names) at left (w .rest) (w .counted) h (w .held)
 
-  cut-by : Next s (w .names) at left (w .rest) → x ≡ rules.Cut → RowFinds s row whole
-  cut-by (next r rs n l) q = absurd (held-whole s (w .names) at r rs x l o q)
+  cut-by : Next s (w .names) at left (w .rest) → x ≡ rules.Cut → ⊥
+  cut-by (next r rs n l) q = held-whole s (w .names) at r rs x l o q
 
   -- none is cut
-  pub indexing-cut : x ≡ rules.Cut → RowFinds s row whole
-  indexing-cut = cut-by here
+  midway-cut : x ≡ rules.Cut → ⊥
+  midway-cut = cut-by here
 
   module _ (pattern b c d e f g end : ℕ) (q : x ≡ rules.At pattern b c d e f g end) where
     rule-here : RuleIs s at pattern b c d e f g end
@@ -255,8 +400,11 @@ module _ {s row : List ℕ} {whole : List Rule} {at left : ℕ} (w : Indexing s 
     some-bytes : 0 < length (take (b - pattern) (drop pattern s))
     some-bytes = some-by here
 
-    pub pattern-within : pattern < length s
-    pattern-within = omega (arith, some-bytes, length-take (b - pattern) (drop pattern s), length-drop pattern s)
+    some-pattern : 0 < length (rule-here .value .pattern)
+    some-pattern = rw (← rule-here .pattern) some-bytes
+
+    midway-pattern : pattern < length s
+    midway-pattern = omega (arith, some-bytes, length-take (b - pattern) (drop pattern s), length-drop pattern s)
 
     first-byte : getD (rule-here .value .pattern) 0 0 ≡ getD s pattern 0
     first-byte =
@@ -267,49 +415,202 @@ module _ {s row : List ℕ} {whole : List Rule} {at left : ℕ} (w : Indexing s 
     forward : at < end
     forward = omega (arith, rule-here .begins, rule-here .one, rule-here .two, rule-here .three, rule-here .four, rule-here .five, rule-here .six, rule-here .seven)
 
-    module _ (kind : ℕ) (ek : kind ≡ getD s pattern 0 % 64) where
-      pub note-ready : kind + 64 < length row
-      note-ready = omega arith
+    next-by-rule : Next s (w .names) at left (w .rest) → Midway s whole (before ++ rule-here .value ∷ []) end (left - 1)
+    next-by-rule (next r rs n l) =
+        let same : rule-here .value ≡ r = held-reads s (w .names) at pattern b c d e f g end r rs rule-here l in
+        record {
+          rest = rs;
+          are = append-assoc before (rule-here .value ∷ []) rs ∙ ap (λ (v : Rule). before ++ v ∷ rs) same ∙ ap (λ (l : List Rule). before ++ l) (sym n) ∙ w .are;
+          names = w .names;
+          held = held-by s (w .names) at pattern b c d e f g end r rs (sym q ∙ o) l .rest;
+          counted = omega (arith, ap length n, w .counted);
+        }
 
-      module _ (row′ : List ℕ) (et : row′ ≡ notedIn row kind at end) where
-        kind-by : (a : ℕ) → a < 64 → (z : Bool) → eqb kind a ≡ z → Noted s a (w .before ++ rule-here .value ∷ []) end (getD row′ a 0) (getD row′ (a + 64) 0)
-        kind-by a l true z =
-            subst (λ (c : ℕ). Noted s c (w .before ++ rule-here .value ∷ []) end (getD row′ c 0) (getD row′ (c + 64) 0)) (eqb-true kind a z)
-            (noted-by row row′ kind at end note-ready et (rule-here .reads) forward (rule-here .fits) _ refl (w .kinds kind (omega arith)))
-        kind-by a l false z =
-            let ne : kind ≡ a → ⊥ = eqb-false _ _ z in
-            let far : (j : ℕ) → (j ≡ kind → ⊥) → (j ≡ kind + 64 → ⊥) → getD row′ j 0 ≡ getD row j 0 = note-other row row′ kind at end note-ready et in
-            rw (far a (λ n. ne (sym n)) (λ n. omega arith), far (a + 64) (λ n. omega arith) (λ n. ne (omega arith)))
-            (noted-other (rule-here .reads) forward (rule-here .fits) (rw (← rule-here .pattern) some-bytes) (λ n. ne (ek ∙ ap (λ (m : ℕ). m % 64) (sym first-byte) ∙ n)) (w .kinds a l))
+    midway-next : Midway s whole (before ++ rule-here .value ∷ []) end (left - 1)
+    midway-next = next-by-rule here
 
-        turn-by : Next s (w .names) at left (w .rest) → Indexing s whole row′ end (left - 1)
-        turn-by (next r rs n l) =
-            let same : rule-here .value ≡ r = held-reads s (w .names) at pattern b c d e f g end r rs rule-here l in
+-- ---- by places
+
+pub record Placing (s : List ℕ) (whole : List Rule) (row : List ℕ) (at left : ℕ) : Type 0 where
+  pub long : length row ≡ 128
+  pub before : List Rule
+  pub midway : Midway s whole before at left
+  pub notes : (u : List (List ℕ)) → RowNotes (PlacedAt s) (foundIn s u) before (NUMBERS + at) row
+
+module _ {s row : List ℕ} {place : ℕ} (w : RowReady s row place) where
+  pub placing-within : place + 2 ≤ length s
+  placing-within = list-within (w .placed)
+
+  pub placing-start : (left : ℕ) → left ≡ ruleCount s place → Placing s (listAt s place) row (place + 2) left
+  placing-start left e = record { long = w .blank .long; before = []; midway = midway-start (w .placed) left e; notes = λ u b h. not-yet (w .blank .clear b h) (alike-same refl) }
+
+module _ {s row : List ℕ} {whole : List Rule} {at left : ℕ} (w : Placing s whole row at left) where
+  pub placing-done : left ≤ 0 → RowPlaces s row whole
+  placing-done h = record {
+    long = w .long;
+    found = λ u word place.
+        sym (noted-found (placed-found s u) (clear-found s u) (w .notes u (getD word place 0 % 64) (omega arith)) .is word place refl)
+        ∙ ap (λ (l : List Rule). firstMatch l word place) (midway-done (w .midway) h);
+  }
+
+  module _ (h : 0 < left) (x : RuleAt) (o : x ≡ ruleStandsAt s at) where
+    pub placing-cut : x ≡ rules.Cut → RowPlaces s row whole
+    placing-cut q = absurd (midway-cut (w .midway) h x o q)
+
+    module _ (pattern b c d e f g end : ℕ) (q : x ≡ rules.At pattern b c d e f g end) where
+      pub placing-pattern : pattern < length s
+      placing-pattern = midway-pattern (w .midway) h x o pattern b c d e f g end q
+
+      pub placing-end : end ≤ length s
+      placing-end = rule-here (w .midway) h x o pattern b c d e f g end q .fits
+
+      pub placing-at : at ≤ length s
+      placing-at = omega (arith, placing-end, forward (w .midway) h x o pattern b c d e f g end q)
+
+      module _ (kind : ℕ) (ek : kind ≡ getD s pattern 0 % 64) where
+        pub placing-kind : kind + 64 < length row
+        placing-kind = omega (arith, w .long)
+
+        pub placing-turn : (row′ : List ℕ) (i j : ℕ) → i ≡ NUMBERS + at → j ≡ NUMBERS + end → row′ ≡ notedIn row kind i j → Placing s whole row′ end (left - 1)
+        placing-turn row′ i j ei ej er =
+            let et = rw (ei, ej) at er in
+            let v = rule-here (w .midway) h x o pattern b c d e f g end q in
+            let ahead = forward (w .midway) h x o pattern b c d e f g end q in
+            let here-at : NUMBERS + at - NUMBERS ≡ at = omega arith in
+            let there : NUMBERS + end - NUMBERS ≡ end = omega arith in
             record {
-              long = note-long row row′ kind at end note-ready et ∙ w .long;
-              before = w .before ++ rule-here .value ∷ [];
-              rest = rs;
-              are = append-assoc (w .before) (rule-here .value ∷ []) rs ∙ ap (λ (v : Rule). w .before ++ v ∷ rs) same ∙ ap (λ (l : List Rule). w .before ++ l) (sym n) ∙ w .are;
-              names = w .names;
-              held = held-by s (w .names) at pattern b c d e f g end r rs (sym q ∙ o) l .rest;
-              counted = omega (arith, ap length n);
-              kinds = λ a m. kind-by a m _ refl;
+              long = note-long row row′ kind (NUMBERS + at) (NUMBERS + end) placing-kind et ∙ w .long;
+              before = _;
+              midway = midway-next (w .midway) h x o pattern b c d e f g end q;
+              notes = λ u. row-notes row row′ kind (NUMBERS + at) (NUMBERS + end) placing-kind et (placed-found s u)
+                  (record { reads = rw (here-at, there) (v .reads); forward = omega arith; low = omega arith; fits = rw there (v .fits) })
+                  (λ n. omega arith) (some-pattern (w .midway) h x o pattern b c d e f g end q)
+                  (ek ∙ ap (λ (m : ℕ). m % 64) (sym (first-byte (w .midway) h x o pattern b c d e f g end q))) (w .notes u);
             }
 
-        pub indexing-turn : Indexing s whole row′ end (left - 1)
-        indexing-turn = turn-by here
+pub placing-same : {s row row′ : List ℕ} {whole : List Rule} {place at left : ℕ} → RowReady s row place → Placing s whole row′ at left → length row′ ≡ length row
+placing-same w v = v .long ∙ sym (w .blank .long)
 
-pub indexing-same : {s row row′ : List ℕ} {whole : List Rule} {place at left : ℕ} → ListReady s row place → Indexing s whole row′ at left → length row′ ≡ length row
-indexing-same w v = v .long ∙ sym (w .blank .long)
+pub ruleset placing-laws = (placing-within, placing-start, placing-done, placing-cut, placing-pattern, placing-end, placing-at, placing-kind, placing-turn, placing-same, needs)
 
-none-left : (l : List Rule) → length l ≤ 0 → l ≡ []
-none-left [] h = refl
-none-left (x ∷ l) h = let no-way : ⊥ = omega arith in absurd no-way
+-- ---- by numbers
 
-pub indexing-done : {s row : List ℕ} {whole : List Rule} {at left : ℕ} → Indexing s whole row at left → left ≤ 0 → RowFinds s row whole
-unfolding tried
-indexing-done {s} {row} {whole} w h =
-    let all : w .before ≡ whole = sym (ap (λ (l : List Rule). w .before ++ l) (none-left (w .rest) (omega arith)) ∙ append-nil (w .before)) ∙ w .are in
-    record { found = λ word place. sym (noted-found (w .kinds (getD word place 0 % 64) (omega arith)) .is word place refl) ∙ ap (λ (l : List Rule). firstMatch l word place) all }
+pub record Numbering (s : List ℕ) (t : List (List ℕ)) (list place first : ℕ) (table : List (List ℕ)) (at left number : ℕ) : Type 0 where
+  pub before : List Rule
+  pub midway : Midway s (listAt s place) before at left
+  pub row : list < 98
+  pub shape : Shaped table
+  pub others : (k : ℕ) → k < 98 → (k ≡ list → ⊥) → getD table k [] ≡ getD t k []
+  pub agree : Agree first t table
+  pub more : first ≤ number
+  pub room : number + left ≤ NUMBERS
+  pub notes : (u : List (List ℕ)) → Agree number table u → RowNotes (NumberedAt s u) (foundIn s u) before number (getD table list [])
 
-pub ruleset index-laws = (list-within, indexing-start, indexing-cut, pattern-within, note-ready, indexing-turn, indexing-same, indexing-done, needs)
+module _ {s : List ℕ} {t : List (List ℕ)} {list place first : ℕ} (w : ListReady s t list place first) where
+  pub numbering-within : place + 2 ≤ length s
+  numbering-within = list-within (w .placed)
+
+  pub numbering-start : ruleCount s place ≤ NUMBERS - first → (left : ℕ) → left ≡ ruleCount s place → Numbering s t list place first t (place + 2) left first
+  numbering-start l left e = record {
+    before = [];
+    midway = midway-start (w .placed) left e;
+    row = w .row;
+    shape = w .shape;
+    others = λ k h n. refl;
+    agree = agree-same;
+    more = omega arith;
+    room = omega (arith, w .few);
+    notes = λ u a b h. not-yet (w .blank .clear b h) (alike-same refl);
+  }
+
+module _ {s : List ℕ} {t table : List (List ℕ)} {list place first at left number : ℕ} (w : Numbering s t list place first table at left number) where
+  pub numbering-done : left ≤ 0 → ListIndexed s t table list place first number
+  numbering-done h = record {
+    finds = record {
+      found = λ u a word place.
+          sym (noted-found (numbered-found s u) (clear-found s u) (w .notes u a (getD word place 0 % 64) (omega arith)) .is word place refl)
+          ∙ ap (λ (l : List Rule). firstMatch l word place) (midway-done (w .midway) h);
+    };
+    shape = w .shape;
+    others = w .others;
+    agree = w .agree;
+    more = w .more;
+    few = omega (arith, w .room);
+  }
+
+  module _ (h : 0 < left) (x : RuleAt) (o : x ≡ ruleStandsAt s at) where
+    pub numbering-cut : x ≡ rules.Cut → ListIndexed s t table list place first number
+    numbering-cut q = absurd (midway-cut (w .midway) h x o q)
+
+    pub numbering-free : number < NUMBERS
+    numbering-free = omega (arith, w .room)
+
+    pub numbering-row : list < 162
+    numbering-row = omega (arith, w .row)
+
+    module _ (pattern b c d e f g end : ℕ) (q : x ≡ rules.At pattern b c d e f g end) where
+      pub numbering-pattern : pattern < length s
+      numbering-pattern = midway-pattern (w .midway) h x o pattern b c d e f g end q
+
+      module _ (kind : ℕ) (ek : kind ≡ getD s pattern 0 % 64) (y : ℕ) (ey : y ≡ getD (take (b - pattern) (drop pattern s)) 1 0)
+          (t₁ : List (List ℕ)) (et : t₁ ≡ numberedIn table number at y) where
+        shape₁ : Shaped t₁
+        shape₁ = rw et (numbered-shaped (w .shape) number numbering-free at y)
+
+        row₁ : (k : ℕ) → k < 98 → getD t₁ k [] ≡ getD table k []
+        row₁ k l = rw et (numbered-row (w .shape) number numbering-free at y k l)
+
+        agree₁ : Agree number table t₁
+        agree₁ = rw et (numbered-agree (w .shape) number numbering-free at y)
+
+        pub numbering-kind : kind + 64 < length (getD t₁ list [])
+        numbering-kind = omega (arith, shape₁ .wide list numbering-row)
+
+        module _ (row′ : List ℕ) (er : row′ ≡ notedIn (getD t₁ list []) kind number (number + 1)) where
+          agree₂ : {n : ℕ} → Agree n t₁ (set t₁ list row′)
+          agree₂ = agree-row shape₁ list (w .row) row′
+
+          long-row : length row′ ≡ 128
+          long-row = note-long (getD t₁ list []) row′ kind number (number + 1) numbering-kind er ∙ shape₁ .wide list numbering-row
+
+          module _ (u : List (List ℕ)) (a : Agree (number + 1) (set t₁ list row′) u) where
+            placed-here : numberIn PLACES u number ≡ at
+            placed-here =
+                a .places number (omega arith) ∙ agree₂ {n = number + 1} .places number (omega arith)
+                ∙ ap (λ (v : List (List ℕ)). numberIn PLACES v number) et ∙ numbered-place (w .shape) number numbering-free at y
+
+            second-here : numberIn SECONDS u number ≡ y
+            second-here =
+                a .seconds number (omega arith) ∙ agree₂ {n = number + 1} .seconds number (omega arith)
+                ∙ ap (λ (v : List (List ℕ)). numberIn SECONDS v number) et ∙ numbered-second (w .shape) number numbering-free at y
+
+            turn-notes : RowNotes (NumberedAt s u) (foundIn s u) (w .before ++ rule-here (w .midway) h x o pattern b c d e f g end q .value ∷ []) (number + 1) (getD (set t₁ list row′) list [])
+            turn-notes =
+                let v = rule-here (w .midway) h x o pattern b c d e f g end q in
+                rw (set-here shape₁ list numbering-row row′)
+                (row-notes (getD t₁ list []) row′ kind number (number + 1) numbering-kind er (numbered-found s u) {before = w .before} {r = v .value}
+                (record {
+                  rest = drop end s;
+                  reads = rw placed-here (v .reads);
+                  second = second-here ∙ ey ∙ ap (λ (l : List ℕ). getD l 1 0) (v .pattern);
+                  forward = omega arith;
+                  few = numbering-free;
+                })
+                (λ n. omega arith) (some-pattern (w .midway) h x o pattern b c d e f g end q)
+                (ek ∙ ap (λ (m : ℕ). m % 64) (sym (first-byte (w .midway) h x o pattern b c d e f g end q)))
+                (rw (row₁ list (w .row)) (w .notes u (agree-then (omega arith) (agree-then (omega arith) agree₁ (agree₂ {n = number})) a))))
+
+          pub numbering-turn : Numbering s t list place first (set t₁ list row′) end (left - 1) (number + 1)
+          numbering-turn = record {
+            before = w .before ++ rule-here (w .midway) h x o pattern b c d e f g end q .value ∷ [];
+            midway = midway-next (w .midway) h x o pattern b c d e f g end q;
+            row = w .row;
+            shape = set-shaped shape₁ list numbering-row row′ long-row;
+            others = λ k l n. getD-set-other t₁ list k row′ [] n ∙ row₁ k l ∙ w .others k l n;
+            agree = agree-then (w .more) (w .agree) (agree-then (omega arith) agree₁ (agree₂ {n = number}));
+            more = omega (arith, w .more);
+            room = omega (arith, w .room);
+            notes = turn-notes;
+          }
+
+pub ruleset numbering-laws = (numbering-within, numbering-start, numbering-done, numbering-cut, numbering-free, numbering-row, numbering-pattern, numbering-kind, numbering-turn, pattern-order, pattern-fits, needs)

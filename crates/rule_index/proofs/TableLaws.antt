@@ -3,7 +3,7 @@ use borrow.Author.Needs.{needs}
 use mathlib.Core.Path.{_≡_, refl, sym, ap, ap₂, subst, _∙_}
 use mathlib.Core.Bool.{Bool, true, false}
 use mathlib.Core.List.{List, [], _∷_}
-use Prim.Native.Nat.{ℕ, zero, suc, _+_, _*_, _%_, _≤_, _<_, zero-le}
+use Prim.Native.Nat.{ℕ, zero, suc, _+_, _-_, _*_, _%_, _≤_, _<_, zero-le}
 use native.Mathlib.Omega.{arith}
 use lib.Dec.{ltb}
 use lib.ListN.{length, getD, set, replicate, length-replicate, getD-replicate, List·getD-append}
@@ -15,7 +15,7 @@ use Rattle.base.proofs.One.{one}
 use Rattle.base.proofs.PickLaws.{pick-true, pick-false, and-yes, and-first, and-second}
 use Rattle.pack.specs.Packs.{Pack, Verdict, accepted, refused, listCount, packOf, stringsLength}
 use Rattle.rule_lines.specs.Rules.{Rule}
-use Rattle.pack.specs.PlaceContracts.{placesOf, surveyedOf, listAt, SurveyIs}
+use Rattle.pack.specs.PlaceContracts.{placesOf, surveyedOf, ruleCount, listAt, SurveyIs}
 use Rattle.pack.specs.Numbers.{surveyedNumbers}
 use Rattle.pack.specs.declared.sections.Surveyed.{Surveyed}
 use Rattle.pack.specs.declared.sections.Surveyed.the-variants as surveyed
@@ -24,8 +24,10 @@ use Rattle.pack.proofs.NumberLaws.{surveyed-one}
 use Rattle.pack.proofs.Laws.{RulesAt, no-rule, one-rule, good-rule, languages-few, lists-counted, places-counted, list-held, list-told, SurveyedPack, surveyed-pack}
 use Rattle.rule_index.specs
 use specs.Matching.{none, Matcher, firstMatch}
-use specs.Contracts.{packBy, packIn, rulesBetween, tried, matcher, Blank, ListReady, RowFinds, ListsReady, Finds, IndexIs}
-use Rattle.rule_index.proofs.RowLaws.{never-past}
+use specs.Contracts.{NUMBERS, packBy, packIn, foundIn, matcher, Blank, ListPlaced, RowReady, RowPlaces, Shaped, Agree, RowFinds, ListReady, ListIndexed, ListsReady, Finds, IndexIs}
+use Rattle.rule_index.proofs
+use proofs.NumberLaws.{set-here, set-shaped, agree-same, agree-then, agree-row}
+use proofs.RowLaws.{never-past, clear-found}
 
 -- ---- a list matches nothing behind a word
 
@@ -36,19 +38,15 @@ past-held {names = names} word place h (one-rule {r = r} p w v k l) = pick-false
 
 -- ---- rows
 
-blank-finds : {s row : List ℕ} → Blank row → RowFinds s row []
-unfolding tried rulesBetween
+blank-finds : {s row : List ℕ} {table : List (List ℕ)} {n : ℕ} → Blank row → RowFinds s table n row []
+unfolding firstMatch
 blank-finds {s} {row} w = record {
-  found = λ word place.
-      let kind = getD word place 0 % 64 in
-      ap (λ (e : ℕ). firstMatch (rulesBetween e s (getD row kind 0) e) word place) (w .clear kind (omega arith));
+  found = λ u a word place.
+      ap (λ (e : ℕ). foundIn s u (getD row (getD word place 0 % 64) 0) e word place) (w .clear (getD word place 0 % 64) (omega arith)) ∙ clear-found s u _ word place;
 }
 
--- a row that is there lies in the table
-row-within : (table : List (List ℕ)) (k : ℕ) → length (getD table k []) ≡ 128 → k < length table
-row-within [] k h = let no-way : ⊥ = omega arith in absurd no-way
-row-within (x ∷ table) zero h = omega arith
-row-within (x ∷ table) (suc k) h = omega (arith, row-within table k h)
+row-kept : {s row : List ℕ} {t u : List (List ℕ)} {n m : ℕ} {rules : List Rule} → n ≤ m → Agree n t u → RowFinds s t n row rules → RowFinds s u m row rules
+row-kept l a w = record { found = λ v b. w .found v (agree-then l a b) }
 
 no-list : (ls : List (List Rule)) (k : ℕ) → length ls ≤ k → getD ls k [] ≡ []
 no-list [] k h = refl
@@ -56,12 +54,12 @@ no-list (x ∷ ls) zero h = let no-way : ⊥ = omega arith in absurd no-way
 no-list (x ∷ ls) (suc k) h = no-list ls k (omega arith)
 
 -- what is found by a table, from what is found by its rows
-module _ (s : List ℕ) (table : List (List ℕ)) (rows : (k : ℕ) → k < 98 → RowFinds s (getD table k []) (getD (packIn s .lists) k []))
+module _ (s : List ℕ) (table : List (List ℕ)) (n : ℕ) (rows : (k : ℕ) → k < 98 → RowFinds s table n (getD table k []) (getD (packIn s .lists) k []))
     (past : (k : ℕ) (word : List ℕ) (place : ℕ) → length word ≤ place → firstMatch (getD (packIn s .lists) k []) word place ≡ none)
     (few : length (packIn s .lists) ≤ 98) where
   finds-by : (k : ℕ) (word : List ℕ) (place : ℕ) (t u : Bool) → ltb k 98 ≡ t → ltb place (length word) ≡ u → matcher s table k word place ≡ firstMatch (getD (packIn s .lists) k []) word place
   unfolding matcher firstMatch
-  finds-by k word place true true e f = pick-true _ _ _ (and-yes _ _ e f) ∙ rows k (ltb-true _ _ e) .found word place
+  finds-by k word place true true e f = pick-true _ _ _ (and-yes _ _ e f) ∙ rows k (ltb-true _ _ e) .found table agree-same word place
   finds-by k word place true false e f = pick-false _ _ _ (and-second _ _ e f) ∙ sym (past k word place (ltb-false _ _ f))
   finds-by k word place false u e f =
       pick-false _ _ _ (and-first _ _ e) ∙ ap (λ (l : List Rule). firstMatch l word place) (sym (no-list (packIn s .lists) k (omega (arith, few, ltb-false k 98 e))))
@@ -69,33 +67,64 @@ module _ (s : List ℕ) (table : List (List ℕ)) (rows : (k : ℕ) → k < 98 �
   finds : Finds s table
   finds k = λ i word place. finds-by k word place _ _ refl refl i
 
+-- ---- one list
+
+module _ {s : List ℕ} {table : List (List ℕ)} {list place free : ℕ} (w : ListReady s table list place free) where
+  pub indexing-few : free ≤ NUMBERS
+  indexing-few = w .few
+
+  pub indexing-row : list < 162
+  indexing-row = omega (arith, w .row)
+
+  pub indexing-room : (count : ℕ) → count ≡ ruleCount s place → count ≤ NUMBERS - free → ruleCount s place ≤ NUMBERS - free
+  indexing-room count e l = omega arith
+
+  pub indexing-ready : RowReady s (getD table list []) place
+  indexing-ready = record { placed = w .placed; blank = w .blank }
+
+  pub indexing-placed : (row : List ℕ) → RowPlaces s row (listAt s place) → ListIndexed s table (set table list row) list place free free
+  indexing-placed row v = record {
+    finds = rw (set-here (w .shape) list indexing-row row) (record { found = λ u a. v .found u });
+    shape = set-shaped (w .shape) list indexing-row row (v .long);
+    others = λ k h n. getD-set-other table list k row [] n;
+    agree = agree-row (w .shape) list (w .row) row;
+    more = omega arith;
+    few = w .few;
+  }
+
+pub ruleset indexing-laws = (indexing-few, indexing-row, indexing-room, indexing-ready, indexing-placed, needs)
+
 -- ---- the loop over the lists
 
 -- the rows before the k-th find the rules of their lists, and the others are blank
-pub record Listing (s places : List ℕ) (lists : ℕ) (table : List (List ℕ)) (k : ℕ) : Type 0 where
+pub record Listing (s places : List ℕ) (lists : ℕ) (table : List (List ℕ)) (k free : ℕ) : Type 0 where
   pub is : packOf s ≡ accepted (packIn s)
   pub counted : lists ≡ listCount (length (packIn s .names))
   pub held : (j : ℕ) → j < lists → getD places j 0 ≡ getD (placesOf s) j 0
+  pub shape : Shaped table
   pub blank : (j : ℕ) → k ≤ j → j < 98 → Blank (getD table j [])
-  pub found : (j : ℕ) → j < k → RowFinds s (getD table j []) (getD (packIn s .lists) j [])
+  pub found : (j : ℕ) → j < k → RowFinds s table free (getD table j []) (getD (packIn s .lists) j [])
   pub within : k ≤ lists
   pub few : lists ≤ 98
   pub long : length places ≡ 98
+  pub room : free ≤ NUMBERS
 
-pub listing-start : {s places : List ℕ} {lists : ℕ} {table : List (List ℕ)} → ListsReady s places lists table → Listing s places lists table 0
+pub listing-start : {s places : List ℕ} {lists : ℕ} {table : List (List ℕ)} → ListsReady s places lists table → Listing s places lists table 0 0
 unfolding listCount
 listing-start {s} w = record {
   is = w .is;
   counted = w .counted;
   held = w .held;
+  shape = w .shape;
   blank = λ j l h. w .blank j h;
   found = λ j h. let no-way : ⊥ = omega arith in absurd no-way;
   within = zero-le;
   few = omega (arith, languages-few s (packIn s) (1 + stringsLength (packIn s .names)) (w .is) refl);
   long = w .long;
+  room = omega arith;
 }
 
-module _ {s places : List ℕ} {lists k : ℕ} {table : List (List ℕ)} (w : Listing s places lists table k) where
+module _ {s places : List ℕ} {lists k free : ℕ} {table : List (List ℕ)} (w : Listing s places lists table k free) where
   many : length (packIn s .lists) ≡ lists
   many = lists-counted s (packIn s) (1 + stringsLength (packIn s .names)) (w .is) refl ∙ sym (w .counted)
 
@@ -105,52 +134,57 @@ module _ {s places : List ℕ} {lists k : ℕ} {table : List (List ℕ)} (w : Li
       past-held word place h (list-held s (packIn s) (1 + stringsLength (packIn s .names)) (w .is) refl j (rw (← w .counted) (ltb-true _ _ e)) .held)
   past-by j word place h false e = ap (λ (l : List Rule). firstMatch l word place) (no-list (packIn s .lists) j (omega (arith, many, ltb-false j lists e)))
 
-  row-by : lists ≤ k → (j : ℕ) → j < 98 → (t : Bool) → ltb j lists ≡ t → RowFinds s (getD table j []) (getD (packIn s .lists) j [])
+  row-by : lists ≤ k → (j : ℕ) → j < 98 → (t : Bool) → ltb j lists ≡ t → RowFinds s table free (getD table j []) (getD (packIn s .lists) j [])
   row-by h j l true e = w .found j (omega (arith, ltb-true j lists e))
   row-by h j l false e =
-      subst (λ (rs : List Rule). RowFinds s (getD table j []) rs) (sym (no-list (packIn s .lists) j (omega (arith, many, ltb-false j lists e))))
+      subst (λ (rs : List Rule). RowFinds s table free (getD table j []) rs) (sym (no-list (packIn s .lists) j (omega (arith, many, ltb-false j lists e))))
       (blank-finds (w .blank j (omega (arith, ltb-false j lists e)) l))
 
   pub listing-done : lists ≤ k → Finds s table
-  listing-done h = finds s table (λ j l. row-by h j l _ refl) (λ j word place l. past-by j word place l _ refl) (omega (arith, many))
+  listing-done h = finds s table free (λ j l. row-by h j l _ refl) (λ j word place l. past-by j word place l _ refl) (omega (arith, many))
 
   module _ (h : k < lists) where
-    pub listing-row : k < 98
-    listing-row = omega arith
-
     pub listing-place : k < length places
     listing-place = omega arith
 
-    pub listing-next : ListReady s (getD table k []) (getD places k 0)
-    listing-next = record { is = w .is; list = k; known = rw (← w .counted) h; held = w .held k h; blank = w .blank k (omega arith) listing-row }
+    pub listing-next : ListReady s table k (getD places k 0) free
+    listing-next = record {
+      placed = record { is = w .is; list = k; known = rw (← w .counted) h; held = w .held k h };
+      row = omega arith;
+      shape = w .shape;
+      blank = w .blank k (omega arith) (omega arith);
+      few = w .room;
+    }
 
-    module _ {row : List ℕ} (v : RowFinds s row (listAt s (getD places k 0))) where
-      row-told : RowFinds s row (getD (packIn s .lists) k [])
+    module _ {u : List (List ℕ)} {free′ : ℕ} (v : ListIndexed s table u k (getD places k 0) free free′) where
+      row-told : RowFinds s u free′ (getD u k []) (getD (packIn s .lists) k [])
       row-told =
-          subst (RowFinds s row) (ap (listAt s) (w .held k h) ∙ list-told s (packIn s) (1 + stringsLength (packIn s .names)) (w .is) refl k (rw (← w .counted) h)) v
+          subst (RowFinds s u free′ (getD u k [])) (ap (listAt s) (w .held k h) ∙ list-told s (packIn s) (1 + stringsLength (packIn s .names)) (w .is) refl k (rw (← w .counted) h)) (v .finds)
 
-      found-by : (j : ℕ) → j < k + 1 → (t : Bool) → ltb j k ≡ t → RowFinds s (getD (set table k row) j []) (getD (packIn s .lists) j [])
+      found-by : (j : ℕ) → j < k + 1 → (t : Bool) → ltb j k ≡ t → RowFinds s u free′ (getD u j []) (getD (packIn s .lists) j [])
       found-by j l true e =
           let less : j < k = ltb-true _ _ e in
-          subst (λ (r : List ℕ). RowFinds s r (getD (packIn s .lists) j [])) (sym (getD-set-other table k j row [] (λ n. omega arith))) (w .found j less)
+          rw (v .others j (omega arith) (λ n. omega arith)) (row-kept (v .more) (v .agree) (w .found j less))
       found-by j l false e =
           let more : k ≤ j = ltb-false _ _ e in
           let same : j ≡ k = omega arith in
-          rw (same, getD-set-same table k row [] (row-within table k (w .blank k (omega arith) listing-row .long))) row-told
+          rw same row-told
 
-      pub listing-turn : Listing s places lists (set table k row) (k + 1)
+      pub listing-turn : Listing s places lists u (k + 1) free′
       listing-turn = record {
         is = w .is;
         counted = w .counted;
         held = w .held;
-        blank = λ j l m. subst Blank (sym (getD-set-other table k j row [] (λ n. omega arith))) (w .blank j (omega arith) m);
+        shape = v .shape;
+        blank = λ j l m. subst Blank (sym (v .others j m (λ n. omega arith))) (w .blank j (omega arith) m);
         found = λ j l. found-by j l _ refl;
         within = omega arith;
         few = w .few;
         long = w .long;
+        room = v .few;
       }
 
-pub ruleset listing-laws = (listing-start, listing-done, listing-row, listing-place, listing-next, listing-turn, needs)
+pub ruleset listing-laws = (listing-start, listing-done, listing-place, listing-next, listing-turn, needs)
 
 -- ---- a survey's answer
 
@@ -172,7 +206,7 @@ module _ {s t t′ : List ℕ} {r : Surveyed} (w : SurveyIs s t r t′) where
       let empty : (k : ℕ) → getD (packIn s .lists) k [] ≡ [] = λ k. ap (λ (l : List (List Rule)). getD l k []) none-there in
       record {
         result = ap surveyedNumbers (sym q) ∙ w .result;
-        found = finds s table (λ k h. subst (λ (l : List Rule). RowFinds s (getD table k []) l) (sym (empty k)) (blank-finds (blank k h)))
+        found = finds s table 0 (λ k h. subst (λ (l : List Rule). RowFinds s table 0 (getD table k []) l) (sym (empty k)) (blank-finds (blank k h)))
             (λ k word place h. ap (λ (l : List Rule). firstMatch l word place) (empty k)) (omega (arith, ap length none-there));
       }
 
@@ -199,14 +233,15 @@ module _ {s t t′ : List ℕ} {r : Surveyed} (w : SurveyIs s t r t′) where
     unfolding listCount
     lists-many = ap listCount (there .languages ∙ ap (λ (p : Pack). length (p .names)) (sym same))
 
-    pub index-ready : {table : List (List ℕ)} → length t ≡ 98 → ((k : ℕ) → k < 98 → Blank (getD table k [])) → ListsReady s t′ (3 * n + 2) table
-    index-ready long blank =
+    pub index-ready : {table : List (List ℕ)} → length t ≡ 98 → Shaped table → ((k : ℕ) → k < 98 → Blank (getD table k [])) → ListsReady s t′ (3 * n + 2) table
+    index-ready long shape blank =
         let room : length (placesOf s) ≡ 3 * n + 2 = places-counted s (packIn s) g (there .is ∙ ap accepted (sym same)) (there .guesses ∙ ap (λ (p : Pack). 1 + stringsLength (p .names)) (sym same)) ∙ sym lists-many in
         record {
           is = there .is ∙ ap accepted (sym same);
           counted = lists-many;
           long = ap length (w .buffer) ∙ length-sets t 0 (placesOf s) ∙ long;
           held = λ k h. ap (λ (x : List ℕ). getD x k 0) (w .buffer ∙ sets-eq (placesOf s) t 0 (omega (arith, long, few))) ∙ List·getD-append (placesOf s) _ 0 k (omega arith);
+          shape = shape;
           blank = blank;
         }
 
@@ -215,12 +250,18 @@ module _ {s t t′ : List ℕ} {r : Surveyed} (w : SurveyIs s t r t′) where
 pub zeros-long : length (replicate {A = ℕ} 98 0) ≡ 98
 zeros-long = length-replicate {A = ℕ} 98 0
 
-pub zeros-blank : (n m : ℕ) → n ≡ 98 → m ≡ 128 → (k : ℕ) → k < 98 → Blank (getD (replicate n (replicate m 0)) k [])
+pub zeros-shaped : (n m : ℕ) → n ≡ 162 → m ≡ 128 → Shaped (replicate n (replicate m 0))
+zeros-shaped n m en em = record {
+  many = length-replicate n (replicate m 0) ∙ en;
+  wide = λ k h. ap length (getD-replicate n k (replicate m 0) [] (omega arith)) ∙ length-replicate m 0 ∙ em;
+}
+
+pub zeros-blank : (n m : ℕ) → n ≡ 162 → m ≡ 128 → (k : ℕ) → k < 98 → Blank (getD (replicate n (replicate m 0)) k [])
 zeros-blank n m en em k h =
     subst Blank (sym (getD-replicate n k _ [] (omega arith)))
     (record { long = length-replicate m 0 ∙ em; clear = λ kind l. getD-replicate m (kind + 64) 0 0 (omega arith) })
 
-pub ruleset survey-laws = (index-refused, index-accepted, thrice-fits, lists-fit, index-ready, zeros-long, zeros-blank, needs)
+pub ruleset survey-laws = (index-refused, index-accepted, thrice-fits, lists-fit, index-ready, zeros-long, zeros-shaped, zeros-blank, needs)
 
 -- the promise of `index` allows one answer, and one table as far as it is looked at
 pub index-one : (s : List ℕ) (r r′ : Surveyed) (t t′ : List (List ℕ)) → IndexIs s r t → IndexIs s r′ t′ → _≡_ {A = Surveyed × (ℕ → Matcher)} (r, matcher s t) (r′, matcher s t′)

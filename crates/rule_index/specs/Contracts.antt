@@ -1,15 +1,17 @@
--- The table by which the rules of a pack's lists are looked up: a row for each of 98 lists, which has for each of 64 kinds of byte where the
--- first rule to try stands, and behind those where the last one ends.
-use Prim.Native.Nat.{ℕ, zero, suc, _+_, _-_, _%_, _≤_, _<_, max}
+-- The table by which the rules of a pack's lists are looked up: a row for each of 98 lists, which has for each of 64 kinds of byte the number of
+-- the first rule to try, and behind those the number behind the last one; and of each number its rule's place and its pattern's second byte.
+-- What is over 4,096 is no number but a place of the pack, put behind the numbers.
+use Prim.Native.Nat.{ℕ, zero, suc, _+_, _-_, _/_, _%_, _≤_, _<_, max}
 use mathlib.Core.Path.{_≡_}
-use mathlib.Core.List.{List, [], _∷_}
+use mathlib.Core.Bool.{Bool, true}
+use mathlib.Core.List.{List, [], _∷_, _++_}
 use lib.Dec.{eqb, ltb}
 use lib.ListN.{length, getD, set, take, drop}
 use Rattle.base.specs.Pick.{pick, and}
 use Rattle.pack.specs.Packs.{Pack, Verdict, accepted, refused, readRule, packOf, listCount}
 use Rattle.rule_lines.specs.Rules.{Rule}
-use Rattle.strings.specs.Reading.{placeIn}
-use Rattle.pack.specs.PlaceContracts.{surveyedOf, placesOf}
+use Rattle.strings.specs.Reading.{Read, cut, got, placeIn}
+use Rattle.pack.specs.PlaceContracts.{surveyedOf, placesOf, listAt}
 use Rattle.strings.specs.Contracts.{behind}
 use Rattle.pack.specs.Numbers.{surveyedNumbers}
 use Rattle.pack.specs.declared.sections.Surveyed.{Surveyed}
@@ -34,14 +36,50 @@ unfoldable pub rulesBetween : ℕ → List ℕ → ℕ → ℕ → List Rule
 rulesBetween zero s at stop = []
 rulesBetween (suc f) s at stop = pick (ltb at stop) (behind (readRule (drop at s)) (λ r q. r ∷ rulesBetween f s (placeIn s q) stop)) []
 
--- those that a row has where a byte is met
-unfoldable pub tried : List ℕ → List ℕ → ℕ → List Rule
-tried s row b = rulesBetween (getD row (b % 64 + 64) 0) s (getD row (b % 64) 0) (getD row (b % 64 + 64) 0)
+-- how many rules have a number, the first row of their places, and of their second bytes
+abbrev pub NUMBERS : ℕ
+NUMBERS = 4096
+
+abbrev pub PLACES : ℕ
+PLACES = 98
+
+abbrev pub SECONDS : ℕ
+SECONDS = 130
+
+-- what the rows from one on hold for a number
+unfoldable pub numberIn : ℕ → List (List ℕ) → ℕ → ℕ
+numberIn base table e = getD (getD table (base + e / 128) []) (e % 128) 0
+
+-- a pattern with the second byte x (0 where it has none) may stand where b is the second byte
+unfoldable pub mayFollow : ℕ → ℕ → Bool
+mayFollow x b = pick (eqb x 0) true (eqb x b)
+
+unfoldable pub ruleIn : Read Rule → List Rule
+ruleIn cut = []
+ruleIn (got r q) = r ∷ []
+
+-- the rule of a number, where it is tried before a byte
+unfoldable pub ruleOf : List ℕ → List (List ℕ) → ℕ → ℕ → List Rule
+ruleOf s table b e = pick (mayFollow (numberIn SECONDS table e) b) (ruleIn (readRule (drop (numberIn PLACES table e) s))) []
+
+-- those of n numbers from e on
+unfoldable pub numbered : List ℕ → List (List ℕ) → ℕ → ℕ → ℕ → List Rule
+numbered s table b e zero = []
+numbered s table b e (suc n) = ruleOf s table b e ++ numbered s table b (suc e) n
+
+-- the rule that is found by two numbers, or two places, of a row
+unfoldable pub foundIn : List ℕ → List (List ℕ) → ℕ → ℕ → Matcher
+foundIn s table start stop word place =
+    pick (ltb NUMBERS stop) (firstMatch (rulesBetween (stop - NUMBERS) s (start - NUMBERS) (stop - NUMBERS)) word place)
+    (firstMatch (numbered s table (getD (drop place word) 1 0) start (stop - start)) word place)
+
+-- the one that a row has where a byte is met
+abbrev pub foundBy : List ℕ → List (List ℕ) → List ℕ → Matcher
+foundBy s table row word place = foundIn s table (getD row (getD word place 0 % 64) 0) (getD row (getD word place 0 % 64 + 64) 0) word place
 
 -- the rule that a table has for a list and a place of a word: none where there is no such list or no such place
 unfoldable pub matcher : List ℕ → List (List ℕ) → ℕ → Matcher
-matcher s table list word place =
-    pick (and (ltb list 98) (ltb place (length word))) (firstMatch (tried s (getD table list []) (getD word place 0)) word place) none
+matcher s table list word place = pick (and (ltb list 98) (ltb place (length word))) (foundBy s table (getD table list []) word place) none
 
 -- ---- the answer
 
@@ -63,6 +101,16 @@ MatchIs s word place (by r) Nothing = ⊥
 -- the first that matches of the rules between two places
 abbrev pub FirstBetween : List ℕ → ℕ → ℕ → List ℕ → ℕ → Matched → Type 0
 FirstBetween s start stop word place r = MatchIs s word place (firstMatch (rulesBetween stop s start stop) word place) r
+
+-- the rule at a place, where it matches; that of a number; and the first that matches of those from one number to another
+abbrev pub OneMatch : List ℕ → ℕ → List ℕ → ℕ → Matched → Type 0
+OneMatch s at word place r = MatchIs s word place (firstMatch (ruleIn (readRule (drop at s))) word place) r
+
+abbrev pub NumberMatch : List ℕ → List (List ℕ) → ℕ → ℕ → List ℕ → ℕ → Matched → Type 0
+NumberMatch s table e b word place r = MatchIs s word place (firstMatch (ruleOf s table b e) word place) r
+
+abbrev pub FirstNumbered : List ℕ → List (List ℕ) → ℕ → ℕ → List ℕ → ℕ → Matched → Type 0
+FirstNumbered s table start stop word place r = MatchIs s word place (firstMatch (numbered s table (getD (drop place word) 1 0) start (stop - start)) word place) r
 
 -- the promise of `first_match`
 abbrev pub FirstMatch : List ℕ → List (List ℕ) → ℕ → List ℕ → ℕ → Matched → Type 0
@@ -88,19 +136,62 @@ pub record Blank (row : List ℕ) : Type 0 where
   pub long : length row ≡ 128
   pub clear : (kind : ℕ) → kind < 64 → getD row (kind + 64) 0 ≡ 0
 
--- a list of an accepted pack at its place, and a blank row for it
-pub record ListReady (s row : List ℕ) (place : ℕ) : Type 0 where
+-- the list of an accepted pack that stands at a place
+pub record ListPlaced (s : List ℕ) (place : ℕ) : Type 0 where
   pub is : packOf s ≡ accepted (packIn s)
   pub list : ℕ
   pub known : list < listCount (length (packIn s .names))
   pub held : place ≡ getD (placesOf s) list 0
+
+-- and a blank row for it
+pub record RowReady (s row : List ℕ) (place : ℕ) : Type 0 where
+  pub placed : ListPlaced s place
   pub blank : Blank row
 
--- by a row the rules of a list are found
-pub record RowFinds (s row : List ℕ) (rules : List Rule) : Type 0 where
-  pub found : (word : List ℕ) (place : ℕ) → firstMatch (tried s row (getD word place 0)) word place ≡ firstMatch rules word place
+-- by a row of places the rules of a list are found, whatever else the table has
+pub record RowPlaces (s row : List ℕ) (rules : List Rule) : Type 0 where
+  pub long : length row ≡ 128
+  pub found : (table : List (List ℕ)) (word : List ℕ) (place : ℕ) → foundBy s table row word place ≡ firstMatch rules word place
 
 -- ---- the table
+
+-- x stored for a number, in the rows from one on
+unfoldable pub putIn : ℕ → List (List ℕ) → ℕ → ℕ → List (List ℕ)
+putIn base table e x = set table (base + e / 128) (set (getD table (base + e / 128) []) (e % 128) x)
+
+abbrev pub numberedIn : List (List ℕ) → ℕ → ℕ → ℕ → List (List ℕ)
+numberedIn table e place second = putIn SECONDS (putIn PLACES table e place) e second
+
+-- its rows
+pub record Shaped (table : List (List ℕ)) : Type 0 where
+  pub many : length table ≡ 162
+  pub wide : (k : ℕ) → k < 162 → length (getD table k []) ≡ 128
+
+-- two tables have the same rules for the numbers below n
+pub record Agree (n : ℕ) (t u : List (List ℕ)) : Type 0 where
+  pub places : (e : ℕ) → e < n → numberIn PLACES u e ≡ numberIn PLACES t e
+  pub seconds : (e : ℕ) → e < n → numberIn SECONDS u e ≡ numberIn SECONDS t e
+
+-- by a row the rules of a list are found, whatever is stored for the numbers from n on
+pub record RowFinds (s : List ℕ) (table : List (List ℕ)) (n : ℕ) (row : List ℕ) (rules : List Rule) : Type 0 where
+  pub found : (u : List (List ℕ)) → Agree n table u → (word : List ℕ) (place : ℕ) → foundBy s u row word place ≡ firstMatch rules word place
+
+-- a list of an accepted pack at its place, a blank row for it, and the numbers that are free
+pub record ListReady (s : List ℕ) (table : List (List ℕ)) (list place free : ℕ) : Type 0 where
+  pub placed : ListPlaced s place
+  pub row : list < 98
+  pub shape : Shaped table
+  pub blank : Blank (getD table list [])
+  pub few : free ≤ NUMBERS
+
+-- the list is found by its row; the other rows of lists and the numbers that were not free are as they were
+pub record ListIndexed (s : List ℕ) (t u : List (List ℕ)) (list place free free′ : ℕ) : Type 0 where
+  pub finds : RowFinds s u free′ (getD u list []) (listAt s place)
+  pub shape : Shaped u
+  pub others : (k : ℕ) → k < 98 → (k ≡ list → ⊥) → getD u k [] ≡ getD t k []
+  pub agree : Agree free t u
+  pub more : free ≤ free′
+  pub few : free′ ≤ NUMBERS
 
 -- the lists of an accepted pack by their places, and a table of blank rows
 pub record ListsReady (s places : List ℕ) (lists : ℕ) (table : List (List ℕ)) : Type 0 where
@@ -108,6 +199,7 @@ pub record ListsReady (s places : List ℕ) (lists : ℕ) (table : List (List �
   pub counted : lists ≡ listCount (length (packIn s .names))
   pub long : length places ≡ 98
   pub held : (k : ℕ) → k < lists → getD places k 0 ≡ getD (placesOf s) k 0
+  pub shape : Shaped table
   pub blank : (k : ℕ) → k < 98 → Blank (getD table k [])
 
 -- by a table the rules of a pack's lists are found, and no others

@@ -1,9 +1,12 @@
-// The table that a pack's rules are found by: where the rules of each list stand that may match at a byte.
+// The table that a pack's rules are found by: which rules of each list may match at a byte.
 ghost use mathlib.Core.Path.{_≡_};
-ghost use Prim.Native.Nat.{_+_, _%_, _<_};
+ghost use Prim.Native.Nat.{_+_, _-_, _%_, _≤_, _<_};
 ghost use lib.ListN.{length, getD};
-ghost use Rattle.rule_index.specs.Contracts.{notedIn, ListReady, RowFinds, ListsReady, Finds, IndexIs};
-ghost use Rattle.pack.specs.PlaceContracts.{listAt};
+ghost use Rattle.rule_index.specs.Contracts.{notedIn, RowReady, RowPlaces, ListReady, ListIndexed, ListsReady, Finds, IndexIs};
+ghost use Rattle.pack.specs.PlaceContracts.{ruleCount, listAt};
+use crate::numbers::NUMBERS;
+use crate::numbers::number_rule;
+use crate::numbers::second_byte;
 use pack::RuleAt;
 use pack::Surveyed;
 
@@ -13,11 +16,12 @@ pub(crate) const LISTS: usize = 98;
 // Bytes are told apart by their lower six bits.
 pub(crate) const KINDS: usize = 64;
 
-// A row for each list: for each kind of byte where the first rule to try stands, and behind those where the last one ends (0 where
-// there is none).
-pub type Table = [[usize; 128]; 98];
+// A row for each list: for each kind of byte the number of the first rule to try, and behind those the number behind the last one (0
+// where there is none). Of a list for which no numbers are left they are places in the pack, told apart by being over NUMBERS. Behind
+// these rows stand those of the numbered rules.
+pub type Table = [[usize; 128]; 162];
 
-// A rule that stands from `at` to `end`, noted in a row: the first of its kind, or the last so far.
+// A rule from one number or place to the next noted in a row: the first of its kind, or the last so far.
 fn note(row: &mut [usize], kind: usize, at: usize, end: usize)
     requires { ⌜ kind + 64 < length (now row) ⌝ }
     ensures { λ r. ⌜ now (row .exit) ≡ notedIn (now (row .entry)) kind at end ⌝ }
@@ -38,10 +42,18 @@ fn kind_at(pack: &[u8], at: usize) -> usize
     (pack[at] as usize) % KINDS
 }
 
-// The rules of the list at a place noted in its row, each by the first byte of its pattern.
-fn index_list(pack: &[u8], row: &mut [usize], place: usize)
-    requires { ⌜ ListReady (now pack) (now row) place ⌝ }
-    ensures { λ r. ⌜ RowFinds (now (pack .entry)) (now (row .exit)) (listAt (now (pack .entry)) place) ⌝ }
+// A place of `pack` as a row has it, behind the numbers.
+fn shifted(pack: &[u8], place: usize) -> usize
+    requires { ⌜ place ≤ length (now pack) ⌝ }
+    ensures { λ r. ⌜ r ≡ 4096 + place ⌝ }
+{
+    NUMBERS + place
+}
+
+// The rules of the list at a place noted in its row by their places, each by the first byte of its pattern.
+fn place_list(pack: &[u8], row: &mut [usize], place: usize)
+    requires { ⌜ RowReady (now pack) (now row) place ⌝ }
+    ensures { λ r. ⌜ RowPlaces (now (pack .entry)) (now (row .exit)) (listAt (now (pack .entry)) place) ⌝ }
 {
     let mut left = pack::rule_count(pack, place);
     let mut at = place + 2;
@@ -57,7 +69,8 @@ fn index_list(pack: &[u8], row: &mut [usize], place: usize)
                 expression: _,
                 end,
             } => {
-                note(row, kind_at(pack, pattern), at, end);
+                let kind = kind_at(pack, pattern);
+                note(row, kind, shifted(pack, at), shifted(pack, end));
                 at = end;
                 left -= 1;
             }
@@ -68,14 +81,65 @@ fn index_list(pack: &[u8], row: &mut [usize], place: usize)
     }
 }
 
+// The rules of the list at a place numbered from `first` on and noted in its row. Returns the number behind the last one.
+fn number_list(pack: &[u8], table: &mut Table, list: usize, place: usize, first: usize) -> usize
+    requires { ⌜ ListReady (now pack) (now table) list place first ⌝ }
+    requires { ⌜ ruleCount (now pack) place ≤ 4096 - first ⌝ }
+    ensures { λ r. ⌜ ListIndexed (now (pack .entry)) (now (table .entry)) (now (table .exit)) list place first r ⌝ }
+{
+    let mut left = pack::rule_count(pack, place);
+    let mut at = place + 2;
+    let mut number = first;
+    while 0 < left {
+        match pack::rule_at(pack, at) {
+            RuleAt::At {
+                pattern,
+                pattern_end,
+                left: _,
+                left_end: _,
+                right: _,
+                right_end: _,
+                expression: _,
+                end,
+            } => {
+                let kind = kind_at(pack, pattern);
+                let second = second_byte(&pack[pattern..pattern_end]);
+                number_rule(table, number, at, second);
+                note(&mut table[list], kind, number, number + 1);
+                at = end;
+                number += 1;
+                left -= 1;
+            }
+            RuleAt::Cut => {
+                return number;
+            }
+        }
+    }
+    number
+}
+
+// The list at a place noted in its row, by numbers from `free` on where there are enough. Returns the number that is free then.
+fn index_list(pack: &[u8], table: &mut Table, list: usize, place: usize, free: usize) -> usize
+    requires { ⌜ ListReady (now pack) (now table) list place free ⌝ }
+    ensures { λ r. ⌜ ListIndexed (now (pack .entry)) (now (table .entry)) (now (table .exit)) list place free r ⌝ }
+{
+    if pack::rule_count(pack, place) <= NUMBERS - free {
+        number_list(pack, table, list, place, free)
+    } else {
+        place_list(pack, &mut table[list], place);
+        free
+    }
+}
+
 // The lists at their places, each noted in its row.
 fn index_lists(pack: &[u8], places: &[usize], lists: usize, table: &mut Table)
     requires { ⌜ ListsReady (now pack) (now places) lists (now table) ⌝ }
     ensures { λ r. ⌜ Finds (now (pack .entry)) (now (table .exit)) ⌝ }
 {
     let mut k: usize = 0;
+    let mut free: usize = 0;
     while k < lists {
-        index_list(pack, &mut table[k], places[k]);
+        free = index_list(pack, table, k, places[k], free);
         k += 1;
     }
 }
@@ -84,7 +148,7 @@ fn index_lists(pack: &[u8], places: &[usize], lists: usize, table: &mut Table)
 pub fn index(pack: &[u8], table: &mut Table) -> Surveyed
     ensures { λ r. ⌜ IndexIs (now (pack .entry)) r (now (table .exit)) ⌝ }
 {
-    *table = [[0usize; 128]; 98];
+    *table = [[0usize; 128]; 162];
     let mut places = [0usize; LISTS];
     match pack::survey(pack, &mut places) {
         Surveyed::Accepted { languages, guesses } => {

@@ -1,0 +1,109 @@
+-- What is stored for a number of the table is read again, and nothing else changes. Assumes nothing.
+use borrow.Author.Needs.{needs}
+use mathlib.Core.Path.{_≡_, refl, sym, ap, subst, _∙_}
+use mathlib.Core.Bool.{Bool, true, false}
+use mathlib.Core.List.{List, [], _∷_}
+use Prim.Native.Nat.{ℕ, _+_, _/_, _%_, _≤_, _<_}
+use native.Mathlib.Omega.{arith}
+use lib.Dec.{eqb}
+use lib.ListN.{length, getD, set, length-set}
+use lib.Seq.{getD-set-same, getD-set-other}
+use borrow.Author.Tests.{eqb-true, eqb-false}
+use Rattle.base.proofs.PickLaws.{cases}
+use Rattle.rule_index.specs.Contracts.{PLACES, SECONDS, NUMBERS, numberIn, mayFollow, putIn, numberedIn, Shaped, Agree}
+
+-- ---- one row of a table replaced
+
+module _ {t : List (List ℕ)} (w : Shaped t) (k : ℕ) (h : k < 162) (row : List ℕ) where
+  pub set-here : getD (set t k row) k [] ≡ row
+  set-here = getD-set-same t k row [] (omega (arith, w .many))
+
+  set-wide : length row ≡ 128 → (j : ℕ) → j < 162 → (z : Bool) → eqb j k ≡ z → length (getD (set t k row) j []) ≡ 128
+  set-wide l j m true e = rw (eqb-true j k e, set-here) l
+  set-wide l j m false e = rw (getD-set-other t k j row [] (eqb-false j k e)) (w .wide j m)
+
+  pub set-shaped : length row ≡ 128 → Shaped (set t k row)
+  set-shaped l = record { many = length-set t k row ∙ w .many; wide = λ j m. set-wide l j m _ refl }
+
+  -- the rows of lists hold no numbers
+  pub set-number : k < 98 → (base e : ℕ) → 98 ≤ base → numberIn base (set t k row) e ≡ numberIn base t e
+  unfolding numberIn
+  set-number l base e m = ap (λ (r : List ℕ). getD r (e % 128) 0) (getD-set-other t k (base + e / 128) row [] (λ q. omega arith))
+
+-- ---- one number stored
+
+module _ {t : List (List ℕ)} (w : Shaped t) (base : ℕ) (low : 98 ≤ base) (high : base ≤ 130) (e : ℕ) (h : e < NUMBERS) (x : ℕ) where
+  row-in : base + e / 128 < 162
+  row-in = omega arith
+
+  pub put-shaped : Shaped (putIn base t e x)
+  unfolding putIn
+  put-shaped = set-shaped w (base + e / 128) row-in _ (length-set (getD t (base + e / 128) []) (e % 128) x ∙ w .wide (base + e / 128) row-in)
+
+  pub put-here : numberIn base (putIn base t e x) e ≡ x
+  unfolding numberIn putIn
+  put-here =
+      ap (λ (r : List ℕ). getD r (e % 128) 0) (set-here w (base + e / 128) row-in _)
+      ∙ getD-set-same (getD t (base + e / 128) []) (e % 128) x 0 (omega (arith, w .wide (base + e / 128) row-in))
+
+  pub put-row : (k : ℕ) → k < 98 → getD (putIn base t e x) k [] ≡ getD t k []
+  unfolding putIn
+  put-row k l = getD-set-other t (base + e / 128) k _ [] (λ q. omega arith)
+
+  module _ (base′ f : ℕ) (apart : base′ + f / 128 ≡ base + e / 128 → f % 128 ≡ e % 128 → ⊥) where
+    put-by : (z : Bool) → eqb (base′ + f / 128) (base + e / 128) ≡ z → numberIn base′ (putIn base t e x) f ≡ numberIn base′ t f
+    unfolding numberIn putIn
+    put-by true q =
+        let same = eqb-true (base′ + f / 128) (base + e / 128) q in
+        rw (same, set-here w (base + e / 128) row-in (set (getD t (base + e / 128) []) (e % 128) x)) (getD-set-other (getD t (base + e / 128) []) (e % 128) (f % 128) x 0 (apart same))
+    put-by false q = ap (λ (r : List ℕ). getD r (f % 128) 0) (getD-set-other t (base + e / 128) (base′ + f / 128) _ [] (eqb-false _ _ q))
+
+    pub put-other : numberIn base′ (putIn base t e x) f ≡ numberIn base′ t f
+    put-other = put-by _ refl
+
+-- ---- a rule's two numbers
+
+module _ {t : List (List ℕ)} (w : Shaped t) (e : ℕ) (h : e < NUMBERS) (place second : ℕ) where
+  once : Shaped (putIn PLACES t e place)
+  once = put-shaped w PLACES (omega arith) (omega arith) e h place
+
+  pub numbered-shaped : Shaped (numberedIn t e place second)
+  numbered-shaped = put-shaped once SECONDS (omega arith) (omega arith) e h second
+
+  pub numbered-place : numberIn PLACES (numberedIn t e place second) e ≡ place
+  numbered-place = put-other once SECONDS (omega arith) (omega arith) e h second PLACES e (λ p q. omega arith) ∙ put-here w PLACES (omega arith) (omega arith) e h place
+
+  pub numbered-second : numberIn SECONDS (numberedIn t e place second) e ≡ second
+  numbered-second = put-here once SECONDS (omega arith) (omega arith) e h second
+
+  pub numbered-row : (k : ℕ) → k < 98 → getD (numberedIn t e place second) k [] ≡ getD t k []
+  numbered-row k l = put-row once SECONDS (omega arith) (omega arith) e h second k l ∙ put-row w PLACES (omega arith) (omega arith) e h place k l
+
+  pub numbered-agree : Agree e t (numberedIn t e place second)
+  numbered-agree = record {
+    places = λ f l.
+        put-other once SECONDS (omega arith) (omega arith) e h second PLACES f (λ p q. omega arith)
+        ∙ put-other w PLACES (omega arith) (omega arith) e h place PLACES f (λ p q. omega arith);
+    seconds = λ f l.
+        put-other once SECONDS (omega arith) (omega arith) e h second SECONDS f (λ p q. omega arith)
+        ∙ put-other w PLACES (omega arith) (omega arith) e h place SECONDS f (λ p q. omega arith);
+  }
+
+-- ---- tables that have the same rules
+
+pub agree-same : {n : ℕ} {t : List (List ℕ)} → Agree n t t
+agree-same = record { places = λ e h. refl; seconds = λ e h. refl }
+
+pub agree-then : {n m : ℕ} {t u v : List (List ℕ)} → n ≤ m → Agree n t u → Agree m u v → Agree n t v
+agree-then l a b = record { places = λ e h. b .places e (omega arith) ∙ a .places e h; seconds = λ e h. b .seconds e (omega arith) ∙ a .seconds e h }
+
+pub agree-row : {n : ℕ} {t : List (List ℕ)} (w : Shaped t) (k : ℕ) → k < 98 → (row : List ℕ) → Agree n t (set t k row)
+agree-row w k h row = record { places = λ e l. set-number w k (omega arith) row h PLACES e (omega arith); seconds = λ e l. set-number w k (omega arith) row h SECONDS e (omega arith) }
+-- ---- the second byte of a pattern
+
+pub no-second : (p : List ℕ) → length p ≤ 1 → 0 ≡ getD p 1 0
+no-second [] h = refl
+no-second (x ∷ []) h = refl
+no-second (x ∷ y ∷ p) h = let no-way : ⊥ = omega arith in absurd no-way
+
+pub ruleset second-laws = (no-second, needs)
