@@ -6,6 +6,7 @@ use mathlib.Core.List.{List, [], _∷_}
 use Prim.Native.Nat.{ℕ, zero, suc, _+_, _-_, _%_, _≤_, _<_, max}
 use native.Mathlib.Omega.{arith}
 use native.Mathlib.Numerals.{add-one}
+use lib.Dec.{eqb}
 use lib.ListN.{length, getD, take, drop, length-take, length-drop}
 use lib.Seq.{take-all}
 use mir.Syntax.{w8}
@@ -27,9 +28,10 @@ use Rattle.pack.proofs.RuleLaws.{RuleIs, rule-is, rule-cut, pattern-order, patt
 use Rattle.pack.proofs.Laws.{short-expression}
 use Rattle.rule_index.specs
 use specs.Matching.{Match, none, by, firstMatch}
-use specs.Contracts.{NUMBERS, rulesBetween, ruleIn, ruleOf, mayFollow, numberIn, SECONDS, PLACES, numbered, foundIn, matcher, RuleIn, MatchIs, seen, seenIn}
+use specs.Contracts.{NUMBERS, rulesBetween, ruleIn, ruleOf, mayLead, leadOf, storedFor, LEADS, PLACES, FrontIs, numbered, foundIn, matcher, RuleIn, MatchIs, seen, seenIn}
 use Rattle.rule_index.proofs.RowLaws.{orElse, first-append}
 use specs.declared
+use declared.numbers.Front.{Front}
 use declared.matching.Matched.{Matched}
 use declared.matching.Matched.the-variants.{By, Nothing}
 
@@ -174,30 +176,35 @@ module _ (s : List ℕ) (bytes : (i : ℕ) → Fits w8 (getD s i 0)) (word : Lis
 
 pub ruleset one-laws = (one-cut, one-missed, one-found, pattern-order, pattern-fits, left-order, left-fits, right-order, right-fits, needs)
 
-module _ (s : List ℕ) (table : List (List ℕ)) (number b : ℕ) (word : List ℕ) (place : ℕ) (z : Bool) (y : ℕ) (ey : y ≡ numberIn SECONDS table number) (ez : z ≡ mayFollow y b) where
-  pub number-over : z ≡ false → MatchIs s word place (firstMatch (ruleOf s table b number) word place) Nothing
-  unfolding ruleOf
-  number-over e = nothing-left s word place _ (pick-false _ _ _ (ap (λ (n : ℕ). mayFollow n b) (sym ey) ∙ sym ez ∙ e))
+module _ (s : List ℕ) (table : List (List ℕ)) (number : ℕ) (word : List ℕ) (place : ℕ) {front : Front} (w : FrontIs (drop place word) front)
+    (z : Bool) (y : ℕ) (ey : y ≡ storedFor LEADS table number) (ez : z ≡ pick (eqb y (front .one)) true (eqb y (front .two))) where
+  led : mayLead (storedFor LEADS table number) (drop place word) ≡ z
+  unfolding mayLead
+  led = sym (rw (w .one, w .two, ey) at ez)
 
-  pub number-tried : (at : ℕ) (r : Matched) → z ≡ true → at ≡ numberIn PLACES table number
-      → MatchIs s word place (firstMatch (ruleIn (readRule (drop at s))) word place) r → MatchIs s word place (firstMatch (ruleOf s table b number) word place) r
+  pub number-over : z ≡ false → MatchIs s word place (firstMatch (ruleOf s table (drop place word) number) word place) Nothing
   unfolding ruleOf
-  number-tried at r e f w = rw (pick-true _ (ruleIn (readRule (drop (numberIn PLACES table number) s))) [] (ap (λ (n : ℕ). mayFollow n b) (sym ey) ∙ sym ez ∙ e), ← f) w
+  number-over e = nothing-left s word place _ (pick-false _ _ _ (led ∙ e))
+
+  pub number-tried : (at : ℕ) (r : Matched) → z ≡ true → at ≡ storedFor PLACES table number
+      → MatchIs s word place (firstMatch (ruleIn (readRule (drop at s))) word place) r → MatchIs s word place (firstMatch (ruleOf s table (drop place word) number) word place) r
+  unfolding ruleOf
+  number-tried at r e f v = rw (pick-true _ (ruleIn (readRule (drop (storedFor PLACES table number) s))) [] (led ∙ e), ← f) v
 
 pub ruleset number-laws = (number-over, number-tried, needs)
 
 -- ---- the loop over the numbers: none before `number` matched
 
 pub record Seeking (s : List ℕ) (table : List (List ℕ)) (word : List ℕ) (place : ℕ) (m : Match) (number stop : ℕ) : Type 0 where
-  pub is : m ≡ firstMatch (numbered s table (getD (drop place word) 1 0) number (stop - number)) word place
+  pub is : m ≡ firstMatch (numbered s table (drop place word) number (stop - number)) word place
 
 pub seeking-start : (s : List ℕ) (table : List (List ℕ)) (word : List ℕ) (place start stop : ℕ)
-    → Seeking s table word place (firstMatch (numbered s table (getD (drop place word) 1 0) start (stop - start)) word place) start stop
+    → Seeking s table word place (firstMatch (numbered s table (drop place word) start (stop - start)) word place) start stop
 seeking-start s table word place start stop = record { is = refl }
 
--- the byte behind the place
-pub next-byte : (word : List ℕ) (place b : ℕ) → b ≡ getD (take (length word - place) (drop place word)) 1 0 → b ≡ getD (drop place word) 1 0
-next-byte word place b e = e ∙ ap (λ (l : List ℕ). getD l 1 0) (take-all (length word - place) (drop place word) (omega (arith, length-drop place word)))
+-- the front of the word's rest
+pub front-here : (word : List ℕ) (place : ℕ) (front : Front) → FrontIs (take (length word - place) (drop place word)) front → FrontIs (drop place word) front
+front-here word place front w = rw (take-all (length word - place) (drop place word) (omega (arith, length-drop place word))) at w
 
 module _ {s : List ℕ} {table : List (List ℕ)} {word : List ℕ} {place : ℕ} {m : Match} {number stop : ℕ} (w : Seeking s table word place m number stop) where
   pub seeking-done : stop ≤ number → MatchIs s word place m Nothing
@@ -206,14 +213,14 @@ module _ {s : List ℕ} {table : List (List ℕ)} {word : List ℕ} {place : ℕ
       let none-more : stop - number ≡ 0 = omega arith in
       rw (w .is) (nothing-left s word place _ (ap (numbered s table _ number) none-more))
 
-  module _ (h : number < stop) (b : ℕ) (eb : b ≡ getD (take (length word - place) (drop place word)) 1 0) (r : Matched) (v : MatchIs s word place (firstMatch (ruleOf s table b number) word place) r) where
-    one-more : m ≡ orElse (firstMatch (ruleOf s table b number) word place) (firstMatch (numbered s table (getD (drop place word) 1 0) (number + 1) (stop - (number + 1))) word place)
+  module _ (h : number < stop) (r : Matched) (v : MatchIs s word place (firstMatch (ruleOf s table (drop place word) number) word place) r) where
+    one-more : m ≡ orElse (firstMatch (ruleOf s table (drop place word) number) word place) (firstMatch (numbered s table (drop place word) (number + 1) (stop - (number + 1))) word place)
     unfolding numbered
     one-more =
         let left : stop - number ≡ suc (stop - (number + 1)) = omega arith in
-        w .is ∙ ap (λ (n : ℕ). firstMatch (numbered s table (getD (drop place word) 1 0) number n) word place) left
-        ∙ first-append (ruleOf s table (getD (drop place word) 1 0) number) _ word place
-        ∙ rw (add-one, next-byte word place b eb) refl
+        w .is ∙ ap (λ (n : ℕ). firstMatch (numbered s table (drop place word) number n) word place) left
+        ∙ first-append (ruleOf s table (drop place word) number) _ word place
+        ∙ rw add-one refl
 
     pub seeking-found : (step start end : ℕ) → r ≡ By step start end → MatchIs s word place m (By step start end)
     seeking-found step start end e = rw one-more (found-first s word place _ _ step start end (rw e at v))
@@ -221,7 +228,7 @@ module _ {s : List ℕ} {table : List (List ℕ)} {word : List ℕ} {place : ℕ
     pub seeking-next : r ≡ Nothing → Seeking s table word place m (number + 1) stop
     seeking-next e = record { is = one-more ∙ missed-first s word place _ _ (rw e at v) }
 
-pub ruleset seeking-laws = (seeking-start, seeking-done, next-byte, seeking-found, seeking-next, needs)
+pub ruleset seeking-laws = (seeking-start, seeking-done, front-here, seeking-found, seeking-next, needs)
 
 -- ---- the look-up
 
@@ -231,7 +238,7 @@ module _ (s : List ℕ) (table : List (List ℕ)) (start stop : ℕ) (word : Lis
   unfolding foundIn
   found-placed h from to f t w = rw (pick-true _ _ _ (lt-ltb NUMBERS stop h), ← f, ← t) w
 
-  pub found-numbered : stop ≤ NUMBERS → MatchIs s word place (firstMatch (numbered s table (getD (drop place word) 1 0) start (stop - start)) word place) r
+  pub found-numbered : stop ≤ NUMBERS → MatchIs s word place (firstMatch (numbered s table (drop place word) start (stop - start)) word place) r
       → MatchIs s word place (foundIn s table start stop word place) r
   unfolding foundIn
   found-numbered h w = rw (pick-false _ _ _ (le-ltb NUMBERS stop h)) w

@@ -1,10 +1,10 @@
 -- A row of the table: noting a rule, and the loops over a list. A rule whose pattern begins with a byte of another kind than the word's never
--- matches, so the rules from the first to the last of a kind are enough; nor does one whose second byte is another. Assumes nothing.
+-- matches, so the rules from the first to the last of a kind are enough; nor does one whose first two bytes are others. Assumes nothing.
 use borrow.Author.Needs.{needs}
 use mathlib.Core.Path.{_≡_, refl, sym, ap, subst, _∙_}
 use mathlib.Core.Bool.{Bool, true, false}
 use mathlib.Core.List.{List, [], _∷_, _++_, append-assoc, append-nil}
-use Prim.Native.Nat.{ℕ, zero, suc, _+_, _-_, _%_, _≤_, _<_}
+use Prim.Native.Nat.{ℕ, zero, suc, _+_, _-_, _*_, _%_, _≤_, _<_}
 use native.Mathlib.Nat.{add-zero}
 use native.Mathlib.Omega.{arith}
 use lib.Dec.{eqb, ltb}
@@ -30,10 +30,10 @@ use Rattle.pack.proofs.RuleLaws.{RuleIs, rule-is, pattern-order, pattern-fits}
 use Rattle.pack.proofs.Laws.{RulesAt, one-rule, ListIs, good-rule, held-by, held-whole, list-held, list-told}
 use Rattle.rule_index.specs
 use specs.Matching.{Match, none, by, Matcher, firstMatch}
-use specs.Contracts.{NUMBERS, PLACES, SECONDS, packIn, rulesBetween, numberIn, mayFollow, ruleIn, ruleOf, numbered, foundIn, notedIn, ListPlaced, RowReady, RowPlaces, numberedIn, Shaped, Agree, RowFinds, ListReady, ListIndexed}
-use Rattle.rule_index.proofs.NumberLaws.{set-here, set-shaped, numbered-shaped, numbered-place, numbered-second, numbered-row, numbered-agree, agree-same, agree-then, agree-row}
+use specs.Contracts.{NUMBERS, PLACES, LEADS, packIn, rulesBetween, storedFor, leadOf, mayLead, ruleIn, ruleOf, numbered, foundIn, notedIn, ListPlaced, RowReady, RowPlaces, numberedIn, Shaped, Agree, RowFinds, ListReady, ListIndexed}
+use Rattle.rule_index.proofs.NumberLaws.{set-here, set-shaped, numbered-shaped, numbered-place, numbered-lead, numbered-row, numbered-agree, agree-same, agree-then, agree-row}
 
--- ---- a rule whose pattern begins with a byte of another kind does not match, nor one with another second byte
+-- ---- a rule whose pattern begins with a byte of another kind does not match, nor one with other first two bytes
 
 other-first : (p s : List ℕ) → 0 < length p → (getD p 0 0 % 64 ≡ getD s 0 0 % 64 → ⊥) → prefixOf p s ≡ false
 unfolding prefixOf
@@ -46,13 +46,20 @@ unfolding and
 and-none true b e = e
 and-none false b e = refl
 
-other-second : (p s : List ℕ) → (getD p 1 0 ≡ 0 → ⊥) → (getD p 1 0 ≡ getD s 1 0 → ⊥) → prefixOf p s ≡ false
+-- neither as its first byte alone nor as its first two
+module _ (x y a b : ℕ) (p s : List ℕ) where
+  lead-by : (t : Bool) → eqb a x ≡ t → (x + 256 * y ≡ a + 256 * b → ⊥) → prefixOf (x ∷ y ∷ p) (a ∷ b ∷ s) ≡ false
+  unfolding prefixOf
+  lead-by true e k = let same = eqb-true a x e in and-none _ _ (and-first _ _ (ne-eqb b y (λ q. k (omega arith))))
+  lead-by false e k = and-first _ _ e
+
+other-lead : (p s : List ℕ) → 0 < length p → (leadOf p ≡ getD s 0 0 → ⊥) → (leadOf p ≡ leadOf s → ⊥) → prefixOf p s ≡ false
 unfolding prefixOf
-other-second [] s z k = absurd (z refl)
-other-second (x ∷ []) s z k = absurd (z refl)
-other-second (x ∷ y ∷ p) [] z k = refl
-other-second (x ∷ y ∷ p) (a ∷ []) z k = and-none _ _ refl
-other-second (x ∷ y ∷ p) (a ∷ b ∷ s) z k = and-none _ _ (and-first _ _ (ne-eqb b y (λ e. k (sym e))))
+other-lead [] s h j k = let no-way : ⊥ = omega arith in absurd no-way
+other-lead (x ∷ p) [] h j k = refl
+other-lead (x ∷ []) (a ∷ s) h j k = and-first _ _ (ne-eqb a x (λ q. j (omega arith)))
+other-lead (x ∷ y ∷ p) (a ∷ []) h j k = and-none _ _ refl
+other-lead (x ∷ y ∷ p) (a ∷ b ∷ s) h j k = lead-by x y a b p s _ refl k
 
 module _ (r : Rule) (word : List ℕ) (place : ℕ) where
   never-by : (t : Bool) → ltb (length word) place ≡ t → prefixOf (r .pattern) (drop place word) ≡ false → ruleMatches (r .pattern) (r .left) (r .right) word place ≡ false
@@ -60,14 +67,14 @@ module _ (r : Rule) (word : List ℕ) (place : ℕ) where
   never-by true e f = pick-true _ _ _ e
   never-by false e f = pick-false _ _ _ e ∙ and-first _ _ f
 
-  never-second : (getD (r .pattern) 1 0 ≡ 0 → ⊥) → (getD (r .pattern) 1 0 ≡ getD (drop place word) 1 0 → ⊥) → ruleMatches (r .pattern) (r .left) (r .right) word place ≡ false
-  never-second z k = never-by _ refl (other-second (r .pattern) (drop place word) z k)
-
   module _ (some : 0 < length (r .pattern)) where
     never-other : (getD (r .pattern) 0 0 % 64 ≡ getD word place 0 % 64 → ⊥) → ruleMatches (r .pattern) (r .left) (r .right) word place ≡ false
     never-other k =
         let here : getD (drop place word) 0 0 ≡ getD word place 0 = getD-drop place word 0 0 ∙ ap (λ (n : ℕ). getD word n 0) (add-zero place) in
         never-by _ refl (other-first (r .pattern) (drop place word) some (λ q. k (q ∙ ap (λ (n : ℕ). n % 64) here)))
+
+    never-lead : (leadOf (r .pattern) ≡ getD (drop place word) 0 0 → ⊥) → (leadOf (r .pattern) ≡ leadOf (drop place word) → ⊥) → ruleMatches (r .pattern) (r .left) (r .right) word place ≡ false
+    never-lead j k = never-by _ refl (other-lead (r .pattern) (drop place word) some j k)
 
     past-first : (p : List ℕ) → 0 < length p → prefixOf p [] ≡ false
     unfolding prefixOf
@@ -231,8 +238,9 @@ pub record PlacedAt (s : List ℕ) (at : ℕ) (r : Rule) (next : ℕ) : Type 0 w
 -- a rule by its number
 pub record NumberedAt (s : List ℕ) (table : List (List ℕ)) (at : ℕ) (r : Rule) (next : ℕ) : Type 0 where
   pub rest : List ℕ
-  pub reads : readRule (drop (numberIn PLACES table at) s) ≡ got r rest
-  pub second : numberIn SECONDS table at ≡ getD (r .pattern) 1 0
+  pub reads : readRule (drop (storedFor PLACES table at) s) ≡ got r rest
+  pub lead : storedFor LEADS table at ≡ leadOf (r .pattern)
+  pub some : 0 < length (r .pattern)
   pub forward : next ≡ suc at
   pub few : at < NUMBERS
 
@@ -242,9 +250,9 @@ module _ (s : List ℕ) (table : List (List ℕ)) where
   no-places zero at to h = refl
   no-places (suc f) at to h = pick-false _ _ _ (le-ltb at to h)
 
-  no-numbers : (b at n : ℕ) → n ≡ 0 → numbered s table b at n ≡ []
+  no-numbers : (t : List ℕ) (at n : ℕ) → n ≡ 0 → numbered s table t at n ≡ []
   unfolding numbered
-  no-numbers b at n h = ap (numbered s table b at) h
+  no-numbers t at n h = ap (numbered s table t at) h
 
   -- nothing stands between a place or number and one that is not behind it
   nothing-found : (at to : ℕ) → to ≤ at → (word : List ℕ) (place : ℕ) → foundIn s table at to word place ≡ none
@@ -275,7 +283,7 @@ module _ (s : List ℕ) (table : List (List ℕ)) where
   over-found at to h word place = pick-true _ _ _ (lt-ltb NUMBERS to h)
 
   under-found : (at to : ℕ) → to ≤ NUMBERS → (word : List ℕ) (place : ℕ)
-      → foundIn s table at to word place ≡ firstMatch (numbered s table (getD (drop place word) 1 0) at (to - at)) word place
+      → foundIn s table at to word place ≡ firstMatch (numbered s table (drop place word) at (to - at)) word place
   unfolding foundIn
   under-found at to h word place = pick-false _ _ _ (le-ltb NUMBERS to h)
 
@@ -290,20 +298,19 @@ module _ (s : List ℕ) (table : List (List ℕ)) where
   placed-found : FindsFirst (PlacedAt s) (foundIn s table)
   placed-found = record { is = placed-is }
 
-  may-not : (x b : ℕ) (z : Bool) → eqb x 0 ≡ z → mayFollow x b ≡ false → (x ≡ 0 → ⊥) × (x ≡ b → ⊥)
-  unfolding mayFollow
-  may-not x b true e f = let no : true ≡ false = sym (pick-true _ _ _ e) ∙ f in clash (cc)
-  may-not x b false e f = (eqb-false x 0 e, eqb-false x b (sym (pick-false _ _ _ e) ∙ f))
+  may-not : (x : ℕ) (t : List ℕ) (z : Bool) → eqb x (getD t 0 0) ≡ z → mayLead x t ≡ false → (x ≡ getD t 0 0 → ⊥) × (x ≡ leadOf t → ⊥)
+  unfolding mayLead
+  may-not x t true e f = let no : true ≡ false = sym (pick-true _ _ _ e) ∙ f in clash (cc)
+  may-not x t false e f = (eqb-false x (getD t 0 0) e, eqb-false x (leadOf t) (sym (pick-false _ _ _ e) ∙ f))
 
   -- the rule of a number is tried, or does not match
-  number-one : {at next : ℕ} {r : Rule} → NumberedAt s table at r next → (word : List ℕ) (place : ℕ) (x : Match) (z : Bool)
-      → mayFollow (numberIn SECONDS table at) (getD (drop place word) 1 0) ≡ z
-      → pick (ruleMatches (r .pattern) (r .left) (r .right) word place) (by r) x ≡ orElse (firstMatch (ruleOf s table (getD (drop place word) 1 0) at) word place) x
+  number-one : {at next : ℕ} {r : Rule} → NumberedAt s table at r next → (word : List ℕ) (place : ℕ) (x : Match) (z : Bool) → mayLead (storedFor LEADS table at) (drop place word) ≡ z
+      → pick (ruleMatches (r .pattern) (r .left) (r .right) word place) (by r) x ≡ orElse (firstMatch (ruleOf s table (drop place word) at) word place) x
   unfolding ruleOf ruleIn firstMatch orElse
   number-one {r = r} o word place x true e = rw (pick-true _ _ _ e, o .reads) (first-pick _ r x none x refl)
   number-one {r = r} o word place x false e =
       let other = may-not _ _ _ refl e in
-      rw (pick-false _ _ _ e) (pick-false _ _ _ (never-second r word place (λ q. other .0 (o .second ∙ q)) (λ q. other .1 (o .second ∙ q))))
+      rw (pick-false _ _ _ e) (pick-false _ _ _ (never-lead r word place (o .some) (λ q. other .0 (o .lead ∙ q)) (λ q. other .1 (o .lead ∙ q))))
 
   numbered-order : {to at : ℕ} {rs : List Rule} → Stand (NumberedAt s table) to at rs → at ≤ to
   numbered-order stand-none = omega arith
@@ -314,16 +321,16 @@ module _ (s : List ℕ) (table : List (List ℕ)) where
   numbered-few o (stand-rule p w) = numbered-few p w
 
   numbered-read : (n : ℕ) {to at : ℕ} {rs : List Rule} → Stand (NumberedAt s table) to at rs → to ≡ at + n → (word : List ℕ) (place : ℕ)
-      → firstMatch rs word place ≡ firstMatch (numbered s table (getD (drop place word) 1 0) at n) word place
+      → firstMatch rs word place ≡ firstMatch (numbered s table (drop place word) at n) word place
   unfolding numbered firstMatch
   numbered-read zero stand-none e word place = refl
   numbered-read (suc n) stand-none e word place = let no-way : ⊥ = omega arith in absurd no-way
   numbered-read zero (stand-rule o w) e word place = let no-way : ⊥ = omega (arith, numbered-order w, o .forward) in absurd no-way
   numbered-read (suc n) {at = at} (stand-rule {r = r} o w) e word place =
       ap (pick (ruleMatches (r .pattern) (r .left) (r .right) word place) (by r)) (numbered-read n w (omega (arith, o .forward)) word place)
-      ∙ ap (λ (k : ℕ). pick (ruleMatches (r .pattern) (r .left) (r .right) word place) (by r) (firstMatch (numbered s table (getD (drop place word) 1 0) k n) word place)) (o .forward)
+      ∙ ap (λ (k : ℕ). pick (ruleMatches (r .pattern) (r .left) (r .right) word place) (by r) (firstMatch (numbered s table (drop place word) k n) word place)) (o .forward)
       ∙ number-one o word place _ _ refl
-      ∙ sym (first-append (ruleOf s table (getD (drop place word) 1 0) at) _ word place)
+      ∙ sym (first-append (ruleOf s table (drop place word) at) _ word place)
 
   numbered-by : {to at : ℕ} {rs : List Rule} → to ≤ NUMBERS → at ≤ to → Stand (NumberedAt s table) to at rs → (word : List ℕ) (place : ℕ) → firstMatch rs word place ≡ foundIn s table at to word place
   numbered-by {to} {at} h l v word place = numbered-read (to - at) v (omega arith) word place ∙ sym (under-found at to h word place)
@@ -552,7 +559,7 @@ module _ {s : List ℕ} {t table : List (List ℕ)} {list place first at left nu
       pub numbering-pattern : pattern < length s
       numbering-pattern = midway-pattern (w .midway) h x o pattern b c d e f g end q
 
-      module _ (kind : ℕ) (ek : kind ≡ getD s pattern 0 % 64) (y : ℕ) (ey : y ≡ getD (take (b - pattern) (drop pattern s)) 1 0)
+      module _ (kind : ℕ) (ek : kind ≡ getD s pattern 0 % 64) (y : ℕ) (ey : y ≡ leadOf (take (b - pattern) (drop pattern s)))
           (t₁ : List (List ℕ)) (et : t₁ ≡ numberedIn table number at y) where
         shape₁ : Shaped t₁
         shape₁ = rw et (numbered-shaped (w .shape) number numbering-free at y)
@@ -574,15 +581,15 @@ module _ {s : List ℕ} {t table : List (List ℕ)} {list place first at left nu
           long-row = note-long (getD t₁ list []) row′ kind number (number + 1) numbering-kind er ∙ shape₁ .wide list numbering-row
 
           module _ (u : List (List ℕ)) (a : Agree (number + 1) (set t₁ list row′) u) where
-            placed-here : numberIn PLACES u number ≡ at
+            placed-here : storedFor PLACES u number ≡ at
             placed-here =
                 a .places number (omega arith) ∙ agree₂ {n = number + 1} .places number (omega arith)
-                ∙ ap (λ (v : List (List ℕ)). numberIn PLACES v number) et ∙ numbered-place (w .shape) number numbering-free at y
+                ∙ ap (λ (v : List (List ℕ)). storedFor PLACES v number) et ∙ numbered-place (w .shape) number numbering-free at y
 
-            second-here : numberIn SECONDS u number ≡ y
-            second-here =
-                a .seconds number (omega arith) ∙ agree₂ {n = number + 1} .seconds number (omega arith)
-                ∙ ap (λ (v : List (List ℕ)). numberIn SECONDS v number) et ∙ numbered-second (w .shape) number numbering-free at y
+            lead-here : storedFor LEADS u number ≡ y
+            lead-here =
+                a .leads number (omega arith) ∙ agree₂ {n = number + 1} .leads number (omega arith)
+                ∙ ap (λ (v : List (List ℕ)). storedFor LEADS v number) et ∙ numbered-lead (w .shape) number numbering-free at y
 
             turn-notes : RowNotes (NumberedAt s u) (foundIn s u) (w .before ++ rule-here (w .midway) h x o pattern b c d e f g end q .value ∷ []) (number + 1) (getD (set t₁ list row′) list [])
             turn-notes =
@@ -592,7 +599,8 @@ module _ {s : List ℕ} {t table : List (List ℕ)} {list place first at left nu
                 (record {
                   rest = drop end s;
                   reads = rw placed-here (v .reads);
-                  second = second-here ∙ ey ∙ ap (λ (l : List ℕ). getD l 1 0) (v .pattern);
+                  lead = lead-here ∙ ey ∙ ap (λ (l : List ℕ). leadOf l) (v .pattern);
+                  some = some-pattern (w .midway) h x o pattern b c d e f g end q;
                   forward = omega arith;
                   few = numbering-free;
                 })

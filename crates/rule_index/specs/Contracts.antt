@@ -1,7 +1,7 @@
 -- The table by which the rules of a pack's lists are looked up: a row for each of 98 lists, which has for each of 64 kinds of byte the number of
--- the first rule to try, and behind those the number behind the last one; and of each number its rule's place and its pattern's second byte.
+-- the first rule to try, and behind those the number behind the last one; and of each number its rule's place and the first two bytes of its pattern.
 -- What is over 4,096 is no number but a place of the pack, put behind the numbers.
-use Prim.Native.Nat.{ℕ, zero, suc, _+_, _-_, _/_, _%_, _≤_, _<_, max}
+use Prim.Native.Nat.{ℕ, zero, suc, _+_, _-_, _*_, _/_, _%_, _≤_, _<_, max}
 use mathlib.Core.Path.{_≡_}
 use mathlib.Core.Bool.{Bool, true}
 use mathlib.Core.List.{List, [], _∷_, _++_}
@@ -16,6 +16,7 @@ use Rattle.strings.specs.Contracts.{behind}
 use Rattle.pack.specs.Numbers.{surveyedNumbers}
 use Rattle.pack.specs.declared.sections.Surveyed.{Surveyed}
 use Rattle.rule_index.specs.Matching.{Match, none, by, Matcher, firstMatch}
+use Rattle.rule_index.specs.declared.numbers.Front.{Front}
 use Rattle.rule_index.specs.declared.matching.Matched.{Matched}
 use Rattle.rule_index.specs.declared.matching.Matched.the-variants.{By, Nothing}
 
@@ -36,42 +37,46 @@ unfoldable pub rulesBetween : ℕ → List ℕ → ℕ → ℕ → List Rule
 rulesBetween zero s at stop = []
 rulesBetween (suc f) s at stop = pick (ltb at stop) (behind (readRule (drop at s)) (λ r q. r ∷ rulesBetween f s (placeIn s q) stop)) []
 
--- how many rules have a number, the first row of their places, and of their second bytes
+-- how many rules have a number, the first row of their places, and of the first two bytes of their patterns
 abbrev pub NUMBERS : ℕ
 NUMBERS = 4096
 
 abbrev pub PLACES : ℕ
 PLACES = 98
 
-abbrev pub SECONDS : ℕ
-SECONDS = 130
+abbrev pub LEADS : ℕ
+LEADS = 130
 
 -- what the rows from one on hold for a number
-unfoldable pub numberIn : ℕ → List (List ℕ) → ℕ → ℕ
-numberIn base table e = getD (getD table (base + e / 128) []) (e % 128) 0
+unfoldable pub storedFor : ℕ → List (List ℕ) → ℕ → ℕ
+storedFor base table e = getD (getD table (base + e / 128) []) (e % 128) 0
 
--- a pattern with the second byte x (0 where it has none) may stand where b is the second byte
-unfoldable pub mayFollow : ℕ → ℕ → Bool
-mayFollow x b = pick (eqb x 0) true (eqb x b)
+-- the first two bytes of a text as one number
+abbrev pub leadOf : List ℕ → ℕ
+leadOf t = getD t 0 0 + 256 * getD t 1 0
+
+-- a pattern with the first two bytes x may stand at the front of t: as its first byte alone, or as both
+unfoldable pub mayLead : ℕ → List ℕ → Bool
+mayLead x t = pick (eqb x (getD t 0 0)) true (eqb x (leadOf t))
 
 unfoldable pub ruleIn : Read Rule → List Rule
 ruleIn cut = []
 ruleIn (got r q) = r ∷ []
 
--- the rule of a number, where it is tried before a byte
-unfoldable pub ruleOf : List ℕ → List (List ℕ) → ℕ → ℕ → List Rule
-ruleOf s table b e = pick (mayFollow (numberIn SECONDS table e) b) (ruleIn (readRule (drop (numberIn PLACES table e) s))) []
+-- the rule of a number, where it is tried before a text
+unfoldable pub ruleOf : List ℕ → List (List ℕ) → List ℕ → ℕ → List Rule
+ruleOf s table t e = pick (mayLead (storedFor LEADS table e) t) (ruleIn (readRule (drop (storedFor PLACES table e) s))) []
 
 -- those of n numbers from e on
-unfoldable pub numbered : List ℕ → List (List ℕ) → ℕ → ℕ → ℕ → List Rule
-numbered s table b e zero = []
-numbered s table b e (suc n) = ruleOf s table b e ++ numbered s table b (suc e) n
+unfoldable pub numbered : List ℕ → List (List ℕ) → List ℕ → ℕ → ℕ → List Rule
+numbered s table t e zero = []
+numbered s table t e (suc n) = ruleOf s table t e ++ numbered s table t (suc e) n
 
 -- the rule that is found by two numbers, or two places, of a row
 unfoldable pub foundIn : List ℕ → List (List ℕ) → ℕ → ℕ → Matcher
 foundIn s table start stop word place =
     pick (ltb NUMBERS stop) (firstMatch (rulesBetween (stop - NUMBERS) s (start - NUMBERS) (stop - NUMBERS)) word place)
-    (firstMatch (numbered s table (getD (drop place word) 1 0) start (stop - start)) word place)
+    (firstMatch (numbered s table (drop place word) start (stop - start)) word place)
 
 -- the one that a row has where a byte is met
 abbrev pub foundBy : List ℕ → List (List ℕ) → List ℕ → Matcher
@@ -106,11 +111,16 @@ FirstBetween s start stop word place r = MatchIs s word place (firstMatch (rules
 abbrev pub OneMatch : List ℕ → ℕ → List ℕ → ℕ → Matched → Type 0
 OneMatch s at word place r = MatchIs s word place (firstMatch (ruleIn (readRule (drop at s))) word place) r
 
-abbrev pub NumberMatch : List ℕ → List (List ℕ) → ℕ → ℕ → List ℕ → ℕ → Matched → Type 0
-NumberMatch s table e b word place r = MatchIs s word place (firstMatch (ruleOf s table b e) word place) r
+abbrev pub NumberMatch : List ℕ → List (List ℕ) → ℕ → List ℕ → ℕ → Matched → Type 0
+NumberMatch s table e word place r = MatchIs s word place (firstMatch (ruleOf s table (drop place word) e) word place) r
+
+-- the front of a text: its first byte, and its first two as one number
+pub record FrontIs (t : List ℕ) (front : Front) : Type 0 where
+  pub one : front .one ≡ getD t 0 0
+  pub two : front .two ≡ leadOf t
 
 abbrev pub FirstNumbered : List ℕ → List (List ℕ) → ℕ → ℕ → List ℕ → ℕ → Matched → Type 0
-FirstNumbered s table start stop word place r = MatchIs s word place (firstMatch (numbered s table (getD (drop place word) 1 0) start (stop - start)) word place) r
+FirstNumbered s table start stop word place r = MatchIs s word place (firstMatch (numbered s table (drop place word) start (stop - start)) word place) r
 
 -- the promise of `first_match`
 abbrev pub FirstMatch : List ℕ → List (List ℕ) → ℕ → List ℕ → ℕ → Matched → Type 0
@@ -156,11 +166,11 @@ pub record RowPlaces (s row : List ℕ) (rules : List Rule) : Type 0 where
 -- ---- the table
 
 -- x stored for a number, in the rows from one on
-unfoldable pub putIn : ℕ → List (List ℕ) → ℕ → ℕ → List (List ℕ)
-putIn base table e x = set table (base + e / 128) (set (getD table (base + e / 128) []) (e % 128) x)
+unfoldable pub storing : ℕ → List (List ℕ) → ℕ → ℕ → List (List ℕ)
+storing base table e x = set table (base + e / 128) (set (getD table (base + e / 128) []) (e % 128) x)
 
 abbrev pub numberedIn : List (List ℕ) → ℕ → ℕ → ℕ → List (List ℕ)
-numberedIn table e place second = putIn SECONDS (putIn PLACES table e place) e second
+numberedIn table e place lead = storing LEADS (storing PLACES table e place) e lead
 
 -- its rows
 pub record Shaped (table : List (List ℕ)) : Type 0 where
@@ -169,8 +179,8 @@ pub record Shaped (table : List (List ℕ)) : Type 0 where
 
 -- two tables have the same rules for the numbers below n
 pub record Agree (n : ℕ) (t u : List (List ℕ)) : Type 0 where
-  pub places : (e : ℕ) → e < n → numberIn PLACES u e ≡ numberIn PLACES t e
-  pub seconds : (e : ℕ) → e < n → numberIn SECONDS u e ≡ numberIn SECONDS t e
+  pub places : (e : ℕ) → e < n → storedFor PLACES u e ≡ storedFor PLACES t e
+  pub leads : (e : ℕ) → e < n → storedFor LEADS u e ≡ storedFor LEADS t e
 
 -- by a row the rules of a list are found, whatever is stored for the numbers from n on
 pub record RowFinds (s : List ℕ) (table : List (List ℕ)) (n : ℕ) (row : List ℕ) (rules : List Rule) : Type 0 where

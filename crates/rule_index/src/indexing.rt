@@ -5,8 +5,8 @@ ghost use lib.ListN.{length, getD};
 ghost use Rattle.rule_index.specs.Contracts.{notedIn, RowReady, RowPlaces, ListReady, ListIndexed, ListsReady, Finds, IndexIs};
 ghost use Rattle.pack.specs.PlaceContracts.{ruleCount, listAt};
 use crate::numbers::NUMBERS;
+use crate::numbers::lead_of;
 use crate::numbers::number_rule;
-use crate::numbers::second_byte;
 use pack::RuleAt;
 use pack::Surveyed;
 
@@ -103,8 +103,8 @@ fn number_list(pack: &[u8], table: &mut Table, list: usize, place: usize, first:
                 end,
             } => {
                 let kind = kind_at(pack, pattern);
-                let second = second_byte(&pack[pattern..pattern_end]);
-                number_rule(table, number, at, second);
+                let lead = lead_of(&pack[pattern..pattern_end]);
+                number_rule(table, number, at, lead);
                 note(&mut table[list], kind, number, number + 1);
                 at = end;
                 number += 1;

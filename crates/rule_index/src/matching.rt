@@ -1,18 +1,18 @@
 // The first rule of a list that matches at a place of a word (`RulesApplication` of engine.rs).
 ghost use mathlib.Core.Path.{_≡_};
 ghost use Prim.Native.Nat.{_≤_, _<_, _-_, max};
-ghost use lib.ListN.{length};
-ghost use Rattle.rule_index.specs.Contracts.{foundIn, MatchIs, OneMatch, NumberMatch, FirstNumbered, FirstBetween, FirstMatch};
+ghost use lib.ListN.{length, drop};
+ghost use Rattle.rule_index.specs.Contracts.{foundIn, MatchIs, FrontIs, OneMatch, NumberMatch, FirstNumbered, FirstBetween, FirstMatch};
 use crate::indexing::KINDS;
 use crate::indexing::LISTS;
 use crate::indexing::Table;
+use crate::numbers::Front;
+use crate::numbers::LEADS;
 use crate::numbers::NUMBERS;
 use crate::numbers::PLACES;
-use crate::numbers::SECONDS;
-use crate::numbers::may_follow;
+use crate::numbers::front_of;
+use crate::numbers::may_lead;
 use crate::numbers::number_at;
-use crate::numbers::second_byte;
-use crate::numbers::wide;
 use pack::RuleAt;
 
 // The rule that matches: how far its pattern reaches, and where its expression stands in the pack.
@@ -23,6 +23,12 @@ pub enum Matched {
         end: usize,
     },
     Nothing,
+}
+
+fn wide(x: u8) -> usize
+    ensures { λ r. ⌜ r ≡ x ⌝ }
+{
+    x as usize
 }
 
 // At least one byte is passed.
@@ -110,19 +116,19 @@ fn match_one(pack: &[u8], at: usize, word: &[u8], place: usize) -> Matched
     }
 }
 
-// The rule of a number, where it matches; `next` is the byte behind the place. Most rules are passed over by it.
+// The rule of a number, where it matches; `front` is that of the word's rest. Most rules are passed over by it.
 fn try_number(
     pack: &[u8],
     table: &Table,
     number: usize,
-    next: usize,
+    front: Front,
     word: &[u8],
     place: usize,
 ) -> Matched
-    requires { ⌜ (number < 4096) × (place < length (now word)) ⌝ }
-    ensures { λ r. ⌜ NumberMatch (now (pack .entry)) (now (table .entry)) number next (now (word .entry)) place r ⌝ }
+    requires { ⌜ (number < 4096) × (place < length (now word)) × FrontIs (drop place (now word)) front ⌝ }
+    ensures { λ r. ⌜ NumberMatch (now (pack .entry)) (now (table .entry)) number (now (word .entry)) place r ⌝ }
 {
-    if may_follow(number_at(table, SECONDS, number), next) {
+    if may_lead(number_at(table, LEADS, number), front) {
         match_one(pack, number_at(table, PLACES, number), word, place)
     } else {
         Matched::Nothing
@@ -141,10 +147,10 @@ fn first_numbered(
     requires { ⌜ (stop ≤ 4096) × (place < length (now word)) ⌝ }
     ensures { λ r. ⌜ FirstNumbered (now (pack .entry)) (now (table .entry)) start stop (now (word .entry)) place r ⌝ }
 {
-    let next = second_byte(&word[place..word.len()]);
+    let front = front_of(&word[place..word.len()]);
     let mut number = start;
     while number < stop {
-        match try_number(pack, table, number, next, word, place) {
+        match try_number(pack, table, number, front, word, place) {
             Matched::By {
                 step,
                 expression,

@@ -1,5 +1,5 @@
 use Prim.Native.Nat.{_-_}
-use lib.ListN.{getD, drop}
+use lib.ListN.{drop}
 use Rattle.rule_index.specs.Matching.{firstMatch}
 use Rattle.rule_index.specs.Contracts.{numbered}
 use Rattle.rule_index.proofs.MatchLaws.{Seeking, seeking-laws}
@@ -7,10 +7,10 @@ use Rattle.rule_index.proofs.matching.first_numbered.Statement.{stateme
 use Rattle.rule_index.proofs.matching.first_numbered.Tie as tie
 
 abbrev Inv-loop : tie.InvT-loop
-Inv-loop pack table start stop word place next number₀ number = Seeking pack table word place (firstMatch (numbered pack table (getD (drop place word) 1 0) start (stop - start)) word place) number stop
+Inv-loop pack table start stop word place front number₀ number = Seeking pack table word place (firstMatch (numbered pack table (drop place word) start (stop - start)) word place) number stop
 
 abbrev μ-loop : tie.MeasureT-loop
-μ-loop pack table start stop word place next number₀ number = stop - number
+μ-loop pack table start stop word place front number₀ number = stop - number
 
 pub first-numbered-spec : {M : Type 1} → statement M
 first-numbered-spec =
