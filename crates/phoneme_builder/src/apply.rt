@@ -1,6 +1,7 @@
 // Applying a rule (01, Spelling a name, step 7).
 ghost use Rattle.phoneme_builder.specs.BufferContracts.{arena, Offers, OfferedTo, RowOffers, RowOffered, TextOffers, TextOffered, Applies, AppliedTo};
 use crate::set::Between;
+use crate::set::MOST;
 use crate::set::ROW;
 use crate::set::Slots;
 use crate::set::Store;
@@ -8,6 +9,7 @@ use crate::set::Target;
 use crate::set::add_to;
 use crate::set::copy_text;
 use crate::set::langs_at;
+use crate::slots::NO_LANGUAGES;
 use crate::slots::first_of;
 use crate::slots::langs_of;
 use crate::slots::second_of;
@@ -51,6 +53,15 @@ fn offer(
     }
 }
 
+// The languages with which an alternative is offered to a text with `langs`: none where `before`, the languages of those before it with
+// the same text, leave something of them, since one of those has entered then; else its own.
+fn langs_to_offer(langs: u64, before: u64, own: u64) -> u64 {
+    match languages::narrow_codes(langs, before) {
+        Narrowed::To(_) => NO_LANGUAGES,
+        Narrowed::Nothing => own,
+    }
+}
+
 // Under one old text the alternatives in order, until the count reaches the limit.
 fn apply_row(
     store: &mut Store,
@@ -75,6 +86,7 @@ fn apply_row(
         let x = alts[j];
         let start = first_of(x);
         let end = second_of(x);
+        let other = langs_to_offer(langs, alts[j + MOST], langs_of(x));
         j += 1;
         match offer(
             store,
@@ -83,7 +95,7 @@ fn apply_row(
             text,
             langs,
             &expr[start..end],
-            langs_of(x),
+            other,
             most.limit,
         ) {
             Applied::Now(grown) => {
