@@ -205,9 +205,9 @@ module _ (names e : List ℕ) (from start end : ℕ) (set : LanguageSet) (next :
     is-round =
         elim (decLt (length (inside e)) from) [
           | yes l ↦ elim (decLt (length (inside e) + 1) from) [
-              | yes z ↦ let n = told Nothing (part-past names (inside e) from l (λ i. omega arith)) in clash (cc)
-              | no z ↦ is-extra (omega arith) _ refl
-            ]
+            | yes z ↦ let n = told Nothing (part-past names (inside e) from l (λ i. omega arith)) in clash (cc)
+            | no z ↦ is-extra (omega arith) _ refl
+          ]
           | no l ↦ is-part (omega arith)
         ]
 
