@@ -181,7 +181,12 @@ fn put_line(x: usize, y: usize, z: usize, s: &[u8], out: &mut [u8], used: usize)
 // Puts an alternative of e behind a blank.
 fn put_alternative(a: Alternative, e: &[u8], out: &mut [u8], used: usize) -> usize {
     match a {
-        Alternative::At { start, end, set } => {
+        Alternative::At {
+            start,
+            end,
+            set,
+            next: _,
+        } => {
             let used = put_word(BLANK, out, used);
             let used = put_bytes(lists::part(e, start, end), out, used);
             let used = put_word(COLON, out, used);
@@ -196,12 +201,28 @@ fn put_alternative(a: Alternative, e: &[u8], out: &mut [u8], used: usize) -> usi
     }
 }
 
+// Where the alternative behind a is asked for.
+fn behind(a: Alternative) -> usize {
+    match a {
+        Alternative::At {
+            start: _,
+            end: _,
+            set: _,
+            next,
+        } => next,
+        Alternative::Nothing => 0,
+    }
+}
+
 // Puts the first n alternatives of e.
 fn put_alternatives(n: usize, e: &[u8], names: &[u8], out: &mut [u8], used: usize) -> usize {
     let mut used = put_word(GOOD, out, used);
     let mut i: usize = 0;
+    let mut from: usize = 0;
     while i < n {
-        used = put_alternative(phonemes::alternative(e, names, i), e, out, used);
+        let a = phonemes::alternative(e, names, from);
+        used = put_alternative(a, e, out, used);
+        from = behind(a);
         i += 1;
     }
     used

@@ -75,7 +75,7 @@ unfolding pick
 under-skips e a alts true h = h
 under-skips e a alts false h = later h
 
-under-has : (e : Entry) {alts : List Alternative} {a : Alternative} → a ∈ alts → isEmpty (narrowed (e .langs) (a .langs)) ≡ false
+pub under-has : (e : Entry) {alts : List Alternative} {a : Alternative} → a ∈ alts → isEmpty (narrowed (e .langs) (a .langs)) ≡ false
     → Holds (under e alts) (e .text ++ a .text) (narrowed (e .langs) (a .langs))
 unfolding under pick
 under-has e here ne = rw ne (first refl refl)

@@ -1,6 +1,7 @@
 -- Laws of sets as numbers: narrowing is `&` and the test, merging is `|`, and a set is empty where nothing stands below bit 32. Assumes nothing.
 use mathlib.Core.Path.{_≡_, refl, sym, ap, ap₂, _∙_}
 use mathlib.Core.Bool.{Bool, true, false}
+use mathlib.Core.Logic.{_⊎_}
 use Prim.Native.Nat.{ℕ, _+_, _-_, _*_, _^_, _%_, _<_}
 use native.Mathlib.Omega.{arith}
 use lib.Bits.{bitAnd, bitOr, and-block, or-block, and-mask, and-comm, or-comm, and-zero-l, and-zero-r, or-zero-l, or-zero-r, or-add-and}
@@ -14,7 +15,7 @@ use Rattle.languages.specs.declared.sets.LanguageSet.the-variants.{Any, 
 use Rattle.languages.specs.declared.sets.Narrowed.{Narrowed}
 use Rattle.languages.specs.declared.sets.Narrowed.the-variants.{To, Nothing}
 use Rattle.base.proofs.Arms.{clash}
-use Rattle.languages.proofs.Laws.{narrow-below, merge-below}
+use Rattle.languages.proofs.Laws.{narrow-below, merge-below, narrow-merged, narrow-second}
 
 -- ---- the parts below bit 32 and from there on
 
@@ -141,6 +142,20 @@ module _ {x y : ℕ} (c : IsCode x) (d : IsCode y) where
   pub merge-decoded : decoded (codesMerged x y) ≡ merged (decoded x) (decoded y)
   unfolding merge-code
   merge-decoded = decoded-is merge-code ∙ sym (ap₂ merged (decoded-is c) (decoded-is d))
+
+  -- where they leave something of a set merged, one of them does
+  pub merged-either : (g : LanguageSet) → isEmpty (narrowed g (decoded (codesMerged x y))) ≡ false
+      → (isEmpty (narrowed g (decoded x)) ≡ false) ⊎ (isEmpty (narrowed g (decoded y)) ≡ false)
+  merged-either g h = narrow-merged g (decoded x) (decoded y) (rw merge-decoded at h)
+
+  -- where merging y adds nothing to x, what y leaves of a set x leaves too
+  pub merged-covers : codesMerged x y ≡ x → (g : LanguageSet) → isEmpty (narrowed g (decoded y)) ≡ false → isEmpty (narrowed g (decoded x)) ≡ false
+  merged-covers e g h = rw (← merge-decoded, e) at (narrow-second g (decoded x) (decoded y) h)
+
+-- no languages leave nothing of a set
+pub none-left : (g : LanguageSet) → isEmpty (narrowed g (decoded 0)) ≡ true
+unfolding decoded pick narrowed isEmpty
+none-left g = refl
 
 -- merged with no languages, a set stays as it was
 pub merge-none : (x : ℕ) → codesMerged x 0 ≡ x

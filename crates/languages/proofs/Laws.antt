@@ -1,20 +1,21 @@
 -- What the crates above use of language sets and of listed names. Assumes nothing.
 use mathlib.Core.Path.{_≡_, refl, sym, ap, _∙_}
 use mathlib.Core.Bool.{Bool, true, false}
+use mathlib.Core.Logic.{_⊎_, inl, inr}
 use mathlib.Core.List.{List, [], _∷_}
 use Prim.Native.Nat.{ℕ, suc, _^_, _≤_, _<_, min}
 use native.Mathlib.Omega.{arith}
 use native.Mathlib.Nat.{lt-of-lt-of-le, lt-of-le-of-lt, lt-of-not-le, not-le-of-lt, le-of-suc-le-suc, not-suc-le-zero}
 use lib.Count.{ones, trailingZeros}
-use lib.Bits.{and-lt, or-lt, and-le-l}
+use lib.Bits.{bitAnd, bitOr, and-lt, or-lt, and-le-l, and-zero-l, or-zero-l, or-add-and}
 use lib.Dec.{eqb, ltb}
 use lib.ListN.{length, getD}
 use lib.Pow.{pow-lt, pow-mono}
-use borrow.Author.Tests.{eqb-true, ltb-true, leb-true}
+use borrow.Author.Tests.{eqb-true, eqb-false, ne-eqb, ltb-true, leb-true}
 use Rattle.base.specs.Pick.{pick}
-use Rattle.base.proofs.Bits.{single-is}
+use Rattle.base.proofs.Bits.{and-over-or, single-is}
 use Rattle.letters.specs.Order.{sameText}
-use Rattle.languages.specs.Sets.{narrowed, merged, singleOf, without}
+use Rattle.languages.specs.Sets.{narrowed, merged, isEmpty, singleOf, without}
 use Rattle.languages.specs.Names.{languageName, namePlace, bitAt, languageBit}
 use Rattle.strings.specs.Reading.{stringsOf}
 use Rattle.languages.specs.declared.sets.LanguageSet.{LanguageSet}
@@ -72,6 +73,39 @@ none-below n = tt
 pub mask-below : (n x : ℕ) → x < 2 ^ n → BitsBelow n (SomeLanguages x)
 unfolding BitsBelow
 mask-below n x p = p
+
+-- ---- narrowing by a merged set
+
+or-either : (x y : ℕ) (t : Bool) → eqb x 0 ≡ t → eqb (bitOr x y) 0 ≡ false → (eqb x 0 ≡ false) ⊎ (eqb y 0 ≡ false)
+or-either x y true p h = inr (rw (eqb-true x 0 p, or-zero-l y) at h)
+or-either x y false p h = inl p
+
+or-second : (x y : ℕ) → eqb y 0 ≡ false → eqb (bitOr x y) 0 ≡ false
+or-second x y h = ne-eqb (bitOr x y) 0 (λ z. eqb-false y 0 h (omega (arith, or-add-and x y, and-le-l x y)))
+
+-- where something is left of g, something is left by one of both
+pub narrow-merged : (g a b : LanguageSet) → isEmpty (narrowed g (merged a b)) ≡ false → (isEmpty (narrowed g a) ≡ false) ⊎ (isEmpty (narrowed g b) ≡ false)
+unfolding narrowed merged isEmpty
+narrow-merged g a Any h = inr h
+narrow-merged g a NoLanguages h = inl h
+narrow-merged g Any (SomeLanguages y) h = inl h
+narrow-merged g NoLanguages (SomeLanguages y) h = inr h
+narrow-merged Any (SomeLanguages x) (SomeLanguages y) h = or-either x y _ refl h
+narrow-merged NoLanguages (SomeLanguages x) (SomeLanguages y) h = inl h
+narrow-merged (SomeLanguages m) (SomeLanguages x) (SomeLanguages y) h = or-either (bitAnd m x) (bitAnd m y) _ refl (rw (and-over-or m x y) at h)
+
+-- what the second leaves of g, both leave
+pub narrow-second : (g a b : LanguageSet) → isEmpty (narrowed g b) ≡ false → isEmpty (narrowed g (merged a b)) ≡ false
+unfolding narrowed merged isEmpty
+narrow-second g a Any h = h
+narrow-second g a NoLanguages h = clash (cc)
+narrow-second Any Any (SomeLanguages y) h = refl
+narrow-second NoLanguages Any (SomeLanguages y) h = h
+narrow-second (SomeLanguages m) Any (SomeLanguages y) h = ne-eqb m 0 (λ z. eqb-false (bitAnd m y) 0 h (ap (λ (n : ℕ). bitAnd n y) z ∙ and-zero-l y))
+narrow-second g NoLanguages (SomeLanguages y) h = h
+narrow-second Any (SomeLanguages x) (SomeLanguages y) h = or-second x y h
+narrow-second NoLanguages (SomeLanguages x) (SomeLanguages y) h = h
+narrow-second (SomeLanguages m) (SomeLanguages x) (SomeLanguages y) h = rw (and-over-or m x y) (or-second (bitAnd m x) (bitAnd m y) h)
 
 -- ---- the single language of a set
 

@@ -2,6 +2,7 @@
 -- A text that may enter is first written into the row behind the others. Of each function the record of what it asks and what it gives.
 use Prim.Native.Nat.{ℕ, zero, suc, _+_, _-_, _*_, _/_, _%_, _≤_, _<_}
 use mathlib.Core.Path.{_≡_}
+use mathlib.Core.Bool.{false}
 use mathlib.Core.List.{List, [], _∷_, _++_, map}
 use lib.Dec.{eqb}
 use lib.Ieee.{size}
@@ -10,7 +11,10 @@ use lib.Seq.{sets}
 use Rattle.base.specs.Pick.{pick}
 use Rattle.letters.specs.Order.{orderOf}
 use Rattle.languages.specs.Contracts.{decoded, codesMerged, IsCode}
+use Rattle.languages.specs.Sets.{narrowed, isEmpty}
 use Rattle.languages.specs.declared.sets.LanguageSet.{LanguageSet}
+use Rattle.languages.specs.declared.sets.Narrowed.{Narrowed}
+use Rattle.languages.specs.declared.sets.Narrowed.the-variants.{To, Nothing}
 use Rattle.choices.specs.Texts.{Text, byOrder}
 use Rattle.choices.specs.Apply.{Alternative, Entry, NextSet, overlong, nextSet, insert, under, enter, apply, start}
 use Rattle.choices.specs.Choices.{Increasing}
@@ -32,6 +36,10 @@ ROW = 128
 
 abbrev pub MOST : ℕ
 MOST = 256
+
+-- the numbers of a table of alternatives
+abbrev pub TABLE : ℕ
+TABLE = 512
 
 -- the bytes of a set's rows, and the sets
 abbrev pub STORE : ℕ
@@ -256,11 +264,12 @@ pub record CopiedIs (t : Text) (d : List ℕ) (r : ℕ) : Type 0 where
 
 -- ---- apply
 
--- the alternative of number j of an expression's table, and k of them from j on
-unfoldable pub altAt : List ℕ → List ℕ → ℕ → Alternative
-altAt expr alts j =
-    let x = getD alts j 0 in
-    record { text = take (secondOf x - firstOf x) (drop (firstOf x) expr); langs = decoded (langsOf x) }
+-- the alternative of an expression that a number stands for, that of number j of its table, and k of them from j on
+unfoldable pub altOf : List ℕ → ℕ → Alternative
+altOf expr x = record { text = take (secondOf x - firstOf x) (drop (firstOf x) expr); langs = decoded (langsOf x) }
+
+abbrev pub altAt : List ℕ → List ℕ → ℕ → Alternative
+altAt expr alts j = altOf expr (getD alts j 0)
 
 unfoldable pub altsFrom : List ℕ → List ℕ → ℕ → ℕ → List Alternative
 altsFrom expr alts j zero = []
@@ -275,10 +284,24 @@ pub record AltIn (expr : List ℕ) (x : ℕ) : Type 0 where
   pub end-in : secondOf x ≤ length expr
   pub code : IsCode (langsOf x)
 
--- the table holds m alternatives, each a part of the expression
+-- an alternative before number j has the text t, and its languages leave something of g
+pub record Earlier (expr alts : List ℕ) (j : ℕ) (t : Text) (g : LanguageSet) : Type 0 where
+  pub number : ℕ
+  pub before : number < j
+  pub text : altAt expr alts number .text ≡ t
+  pub some : isEmpty (narrowed g (altAt expr alts number .langs)) ≡ false
+
+-- where the languages with the number p leave something of a set, those of one before number j with the text t do
+pub record Before (expr alts : List ℕ) (j : ℕ) (t : Text) (p : ℕ) : Type 0 where
+  pub code : IsCode p
+  pub some : (g : LanguageSet) → isEmpty (narrowed g (decoded p)) ≡ false → Earlier expr alts j t g
+
+-- the table holds m alternatives, each a part of the expression, and for each the languages of those before it with the same text
 pub record AltsIn (expr alts : List ℕ) (m : ℕ) : Type 0 where
-  pub long : m ≤ length alts
+  pub few : m ≤ MOST
+  pub room : length alts ≡ TABLE
   pub each : (j : ℕ) → j < m → AltIn expr (getD alts j 0)
+  pub before : (j : ℕ) → j < m → Before expr alts j (altAt expr alts j .text) (getD alts (j + MOST) 0)
 
 -- what an answer says of set `to`: it is one, or a text was too long (01, the table, 7)
 unfoldable pub KeptBy : Applied → Arena → ℕ → Type 0
@@ -307,6 +330,11 @@ pub record Offers (a : Arena) (to : Target) (g h limit : ℕ) : Type 0 where
   pub few : limit ≤ MOST
   pub code : IsCode g
   pub other : IsCode h
+
+-- the languages with which an alternative is offered: none where those before it with the same text leave something, else its own
+unfoldable pub withheld : Narrowed → ℕ → ℕ
+withheld (To x) own = 0
+withheld Nothing own = own
 
 -- the alternatives entered under the entry e
 abbrev pub OfferedUnder : Entry → List Alternative → ℕ → Arena → Arena → Target → Applied → Type 0

@@ -2,7 +2,7 @@
 use Prim.Native.Nat.{ℕ, suc, _+_, _-_, _≤_, _<_, min}
 use mathlib.Core.Path.{_≡_}
 use mathlib.Core.Bool.{Bool, true}
-use mathlib.Core.List.{List, [], _∷_, map}
+use mathlib.Core.List.{List, [], _∷_, _++_, map}
 use mathlib.Core.Logic.{_⊎_}
 use lib.Dec.{leb}
 use lib.Seq.{sets}
@@ -11,13 +11,15 @@ use lib.ListN.{length, take, drop}
 use Rattle.choices.specs.Texts.{Text}
 use Rattle.languages.specs.Contracts.{decoded, IsCode}
 use Rattle.languages.specs.declared.sets.LanguageSet.{LanguageSet}
-use Rattle.choices.specs.Apply.{Entry, apply, start}
+use Rattle.letters.specs.Order.{sameText}
+use Rattle.choices.specs.Apply.{Alternative, Entry, textsOf, under, enter, apply, start}
+use Rattle.choices.specs.Choices.{Increasing}
 use Rattle.phonemes.specs.Expressions.{bar}
 use Rattle.refusals.specs.Numbers.{numberOf}
 use Rattle.refusals.specs.declared.Refusal.the-variants.{TextTooLong, TooManyTexts}
 use Rattle.phoneme_builder.specs.Sets.{Spelling, refusal, texts}
 use Rattle.phoneme_builder.specs.Passes.{offered, Turn, turnOn, turnsOf, Ran, tooLong, ran, flagged, run, raised, finalText, finalFrom, finalPass, then, wordOf, joined}
-use Rattle.phoneme_builder.specs.BufferContracts.{MOST, SETS, AltsIn, alternatives, Holds, slotTexts, part, Arena, SetAt, TextIn, entryIn, entriesAt, Stayed, Only, AppliedAt, BetweenIn, sourceOf}
+use Rattle.phoneme_builder.specs.BufferContracts.{MOST, TABLE, SETS, langsOf, altOf, AltIn, AltsIn, alternatives, Holds, slotTexts, part, Arena, SetAt, TextIn, entryIn, entriesAt, Stayed, Only, AppliedAt, BetweenIn, sourceOf}
 use Rattle.phoneme_builder.specs.declared.pass.Turned.{Turned}
 use Rattle.phoneme_builder.specs.declared.pass.Turned.the-variants as turned
 use Rattle.phoneme_builder.specs.declared.pass.Passed.{Passed}
@@ -41,15 +43,40 @@ use Rattle.phoneme_builder.specs.declared.words.Worded.the-variants as w
 unfoldable pub namesIn : List ℕ → ℕ → List ℕ
 namesIn s guesses = take (guesses - 1) (drop 1 s)
 
--- an expression has fewer than 256 bytes, and a table has 256 places
+-- ---- the table of an expression's alternatives
+
+-- the first n stand there, and x is another
+pub record Asks (e alts : List ℕ) (n x : ℕ) : Type 0 where
+  pub parts : AltsIn e alts n
+  pub own : AltIn e x
+
+-- the languages of y, where it has the text of x
+abbrev pub langsIfAlike : List ℕ → ℕ → ℕ → ℕ
+langsIfAlike e x y = pick (sameText (altOf e x .text) (altOf e y .text)) (langsOf y) 0
+
+-- under each text the same comes of both lists of alternatives, whatever comes behind them
+pub record Alike (xs ys : List Alternative) : Type 0 where
+  pub are : (u : Entry) (limit : ℕ) (rest l : List Entry) → Increasing (textsOf l) → enter limit (under u xs ++ rest) l ≡ enter limit (under u ys ++ rest) l
+
+pub record Keeps (e alts : List ℕ) (n x : ℕ) : Type 0 where
+  pub asks : Asks e alts n x
+  pub room : n < MOST
+
+-- the table then holds what is alike to the first n with x behind them
+pub record KeptIn (e alts alts′ : List ℕ) (n x r : ℕ) : Type 0 where
+  pub parts : AltsIn e alts′ r
+  pub few : r ≤ n + 1
+  pub alike : (more : List Alternative) → Alike (alternatives e alts′ r ++ more) (alternatives e alts n ++ altOf e x ∷ more)
+
+-- an expression has fewer than 256 bytes, and a table has 512 places
 pub record Fills (e alts : List ℕ) : Type 0 where
   pub short : length e < 256
-  pub room : length alts ≡ MOST
+  pub room : length alts ≡ TABLE
 
--- the table holds the alternatives of e
+-- of what the table holds the same comes as of the alternatives of e
 pub record AltsAre (names e alts : List ℕ) (m : ℕ) : Type 0 where
   pub parts : AltsIn e alts m
-  pub are : alternatives e alts m ≡ offered names e
+  pub are : (limit : ℕ) (old : List Entry) → apply limit (alternatives e alts m) old ≡ apply limit (offered names e) old
 
 -- a rule's expression applied
 pub record RuleApplies (a : Arena) (sets : Between) (expr : List ℕ) (limit : ℕ) : Type 0 where

@@ -1,6 +1,10 @@
 // Applying a rule (01, Spelling a name, step 7).
-ghost use Rattle.phoneme_builder.specs.BufferContracts.{arena, Offers, OfferedTo, RowOffers, RowOffered, TextOffers, TextOffered, Applies, AppliedTo};
+ghost use mathlib.Core.Path.{_≡_};
+ghost use Rattle.languages.specs.Contracts.{codesNarrowed};
+ghost use Rattle.phoneme_builder.specs.BufferContracts.{arena, langsOf, withheld, Offers, OfferedTo, RowOffers, RowOffered, TextOffers, TextOffered, Applies, AppliedTo};
+use crate::expressions::text_in;
 use crate::set::Between;
+use crate::set::MOST;
 use crate::set::ROW;
 use crate::set::Slots;
 use crate::set::Store;
@@ -8,9 +12,8 @@ use crate::set::Target;
 use crate::set::add_to;
 use crate::set::copy_text;
 use crate::set::langs_at;
-use crate::slots::first_of;
+use crate::slots::NO_LANGUAGES;
 use crate::slots::langs_of;
-use crate::slots::second_of;
 use languages::Narrowed;
 
 // How many alternatives a table has, and how many texts a set may have.
@@ -51,6 +54,17 @@ fn offer(
     }
 }
 
+// The languages with which the alternative x is offered to a text with `langs`: none where `before`, the languages of those before it
+// with the same text, leave something of them, since one of those has entered then; else its own.
+fn langs_to_offer(langs: u64, before: u64, x: u64) -> u64
+    ensures { λ r. ⌜ r ≡ withheld (codesNarrowed langs before) (langsOf x) ⌝ }
+{
+    match languages::narrow_codes(langs, before) {
+        Narrowed::To(_) => NO_LANGUAGES,
+        Narrowed::Nothing => langs_of(x),
+    }
+}
+
 // Under one old text the alternatives in order, until the count reaches the limit.
 fn apply_row(
     store: &mut Store,
@@ -73,8 +87,7 @@ fn apply_row(
             return Applied::Now(count);
         }
         let x = alts[j];
-        let start = first_of(x);
-        let end = second_of(x);
+        let other = langs_to_offer(langs, alts[j + MOST], x);
         j += 1;
         match offer(
             store,
@@ -82,8 +95,8 @@ fn apply_row(
             Target { set: to.set, count },
             text,
             langs,
-            &expr[start..end],
-            langs_of(x),
+            text_in(expr, x),
+            other,
             most.limit,
         ) {
             Applied::Now(grown) => {

@@ -7,6 +7,7 @@ ghost use Rattle.phoneme_builder.specs.BufferContracts.{arena};
 ghost use Rattle.phoneme_builder.specs.Passes.{joined};
 ghost use Rattle.phoneme_builder.specs.Contracts.{CodeOf, raisedBy, FinishesAll, FinishedAll, Spells, SpelledAs, TextsIn, textsIn, barred, PutBarred, Joins, GivenIs, wordBy, WordIs};
 use crate::expressions::Alternatives;
+use crate::expressions::TABLE;
 use crate::finals::FinalSets;
 use crate::finals::Finished;
 use crate::finals::final_pass;
@@ -232,7 +233,7 @@ pub fn word(
         guesses: by.guesses,
         set,
     };
-    let mut alts = [0u64; MOST];
+    let mut alts = [0u64; TABLE];
     match spell_word(store, slots, &mut alts, pack, table, within, langs, word) {
         Finished::Into { texts, flag } => Worded::Done {
             length: give(store, slots, texts, out, at),

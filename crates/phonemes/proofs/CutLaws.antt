@@ -20,11 +20,10 @@ use Rattle.texts.specs.Parts.{placeOf}
 use Rattle.texts.proofs.Laws.{place-most}
 use Rattle.phonemes.specs
 use specs.Expressions.{bar, plus, onFirst, cutAt, withBits, namesMask, formedPiece}
-use specs.Contracts.{cutEnd, listedPiece, expressionTold, judgedPieces, nthCut}
+use specs.Contracts.{cutEnd, listedPiece, expressionTold, judgedPieces}
 use specs.declared
 use declared.answers.Expression.{Expression}
 use declared.answers.Expression.the-variants.{Malformed}
-use declared.phonemes.Part.the-variants.{From, Past}
 use Rattle.base.proofs.PickLaws.{pick-true, pick-false}
 
 -- ---- one step of a cut
@@ -116,6 +115,13 @@ module _ (b : ℕ) (t : List ℕ) (from : ℕ) (h : from ≤ length t) where
         cut-one ∙ ap (λ (l : List (List ℕ)). take (to - from) (drop from t) ∷ l)
         (rest ∙ ap (λ (n : ℕ). cutAt b (drop (suc n) (drop from t))) p ∙ ap (cutAt b) behind)
 
+    -- its bytes
+    pub cut-long : from + length (take (to - from) (drop from t)) ≡ to
+    cut-long =
+        let o = cut-order in
+        let m = cut-fits in
+        omega (arith, length-take-le (to - from) (drop from t) (rw length-drop (omega arith)))
+
     pub cut-last : length t ≤ to → cutAt b (drop from t) ≡ take (to - from) (drop from t) ∷ []
     cut-last g =
         let p = place in
@@ -203,43 +209,3 @@ module _ {names t : List ℕ} {more from count : ℕ} {known : Bool} (w : Judgin
     judging-done r h s = s ∙ sym (piece-by [] (cut-last bar t from (w .within) to e h))
 
 pub ruleset judging-laws = (judging-start, judging-stop, judging-next, judging-done, cut-laws, needs)
-
--- ---- the i-th part, as far as place from: left parts are still to be passed
-
-pub record Finding (t : List ℕ) (i from left : ℕ) : Type 0 where
-  pub within : from ≤ length t
-  pub is : nthCut 0 i (cutAt bar t) ≡ nthCut from left (cutAt bar (drop from t))
-
-pub finding-start : (t : List ℕ) (i : ℕ) → Finding t i 0 i
-finding-start t i = record { within = zero-le; is = refl }
-
-module _ {t : List ℕ} {i from left : ℕ} (w : Finding t i from left) (to : ℕ) (e : to ≡ cutEnd bar t from) where
-  long : from + length (take (to - from) (drop from t)) ≡ to
-  long =
-      let o = cut-order bar t from (w .within) to e in
-      let m = cut-fits bar t from (w .within) to e in
-      omega (arith, length-take-le (to - from) (drop from t) (rw length-drop (omega arith)))
-
-  first-is : (n : ℕ) (l : List (List ℕ)) → n ≡ 0 → nthCut from n (take (to - from) (drop from t) ∷ l) ≡ From from to
-  unfolding nthCut
-  first-is n l z = rw z (ap (From from) long)
-
-  later-is : (n : ℕ) (l : List (List ℕ)) → (n ≡ 0 → ⊥) → nthCut from n (take (to - from) (drop from t) ∷ l) ≡ nthCut (to + 1) (n - 1) l
-  unfolding nthCut
-  later-is zero l z = absurd (z refl)
-  later-is (suc n) l z =
-      let m : suc n - 1 ≡ n = omega arith in
-      ap₂ (λ (x y : ℕ). nthCut (x + 1) y l) long (sym m)
-
-  pub finding-found : left ≡ 0 → From from to ≡ nthCut 0 i (cutAt bar t)
-  finding-found z = sym (w .is ∙ ap (nthCut from left) (cut-one bar t from (w .within) to e) ∙ first-is left _ z)
-
-  pub finding-next : (left ≡ 0 → ⊥) → to < length t → Finding t i (to + 1) (left - 1)
-  finding-next z h =
-      record { within = omega arith; is = w .is ∙ ap (nthCut from left) (cut-more bar t from (w .within) to e h) ∙ later-is left _ z }
-
-  pub finding-past : (left ≡ 0 → ⊥) → length t ≤ to → Past (left - 1) ≡ nthCut 0 i (cutAt bar t)
-  unfolding nthCut
-  finding-past z h = sym (w .is ∙ ap (nthCut from left) (cut-last bar t from (w .within) to e h) ∙ later-is left [] z)
-
-pub ruleset finding-laws = (finding-start, finding-found, finding-next, finding-past, cut-laws, needs)

@@ -104,9 +104,10 @@ pub text-long : (a : List ℕ) → length (textOf a) ≡ placeOf opening a
 unfolding textOf
 text-long a = length-take-le (placeOf opening a) a (place-most opening a)
 
-pub piece-is : (names a : List ℕ) (start p : ℕ) (s : LanguageSet) → p ≡ placeOf opening a → s ≡ setOf names a → At start (start + p) s ≡ pieceFrom names a start
+pub piece-is : (names a : List ℕ) (start next p : ℕ) (s : LanguageSet) → p ≡ placeOf opening a → s ≡ setOf names a
+    → At start (start + p) s next ≡ pieceFrom names a start next
 unfolding pieceFrom
-piece-is names a start p s e f = ap₂ (λ (n : ℕ) (x : LanguageSet). At start (start + n) x) (e ∙ sym (text-long a)) f
+piece-is names a start next p s e f = ap₂ (λ (n : ℕ) (x : LanguageSet). At start (start + n) x next) (e ∙ sym (text-long a)) f
 
 -- a place in a piece is one in the expression
 pub piece-fits : (b : ℕ) (a : List ℕ) (start p : ℕ) → p ≡ placeOf b a → start + length a < 2 ^ 64 → Fits w64 (start + p)

@@ -6,13 +6,14 @@ use mathlib.Core.List.{List, [], _∷_, _++_}
 use mathlib.Core.Logic.{⊎-elim}
 use Prim.Native.Nat.{ℕ, zero, suc, _+_, _-_, _^_, _≤_, _<_, zero-le}
 use native.Mathlib.Nat.{sub-zero}
+use native.Mathlib.Decide.{decLt}
 use native.Mathlib.Omega.{arith}
 use lib.Bits.{or-lt}
 use lib.Dec.{eqb}
 use lib.ListN.{length, getD, take, drop, length-take, length-drop, length-append, List·getD-append}
 use lib.Pow.{pow-pos}
 use lib.Seq.{take-nil, take-length, take-take, drop-drop, getD-append-add}
-use borrow.Author.Tests.{ltb-false}
+use borrow.Author.Tests.{ltb-false, eq-eqb, ne-eqb}
 use Rattle.languages.specs.Names.{languageBit}
 use Rattle.strings.specs.Reading.{stringsOf}
 use Rattle.languages.specs.declared.names.Listed.{Listed}
@@ -24,18 +25,15 @@ use Rattle.texts.proofs.Laws.{front-is, place-most, first-some-by, last-some-by
 use Rattle.rule.specs.Matching.{ruleMatches}
 use Rattle.phonemes.specs
 use specs.Expressions.{round, bar, opening, onFirst, cutAt, inside, extra, piecesIn, withBits, namesMask, pieceMask, textOf, maskSet, setOf, checkedOf}
-use specs.Contracts.{hasExtra, nthCut, pieceFrom, nthFrom, alternativeOf}
+use specs.Contracts.{cutEnd, hasExtra, partsFrom, piecesFrom, pieceFrom, firstFrom, alternativeFrom}
 use specs.declared
-use declared.answers.Expression.{Expression}
-use declared.answers.Expression.the-variants.{Good}
 use declared.answers.Alternative.{Alternative}
 use declared.answers.Alternative.the-variants.{At, Nothing}
-use declared.phonemes.Part.{Part}
-use declared.phonemes.Part.the-variants.{From, Past}
 use Rattle.phonemes.proofs
+use proofs.CutLaws.{cut-order, cut-fits, cut-more, cut-last}
 use proofs.ExprLaws.{text-long, extra-yes, pieces-single, pieces-round}
-use proofs.AltLaws.{laid-cut, beyond, part-at, alt-single, alt-single-past, alt-part, alt-past, alt-none, alt-extra}
-use Rattle.base.proofs.PickLaws.{pick-inv, pick-all, and-inv}
+use proofs.AltLaws.{parts-in, parts-behind, parts-past, part-in, part-past, part-none, part-extra, alt-round, alt-single, alt-past}
+use Rattle.base.proofs.PickLaws.{pick-true, pick-false, pick-inv, pick-all, and-inv}
 use Rattle.languages.specs.Contracts.{BitsBelow}
 use Rattle.base.proofs.Arms.{clash}
 
@@ -61,92 +59,6 @@ inside-part e s z h =
     let m : 1 + s ≡ s + 1 = omega arith in
     ap (λ (t : List ℕ). take (z - s) (drop s t)) (inside-is e) ∙ ap (take (z - s)) (drop-take s (length e - 2) (drop 1 e))
     ∙ take-take (z - s) (length e - 2 - s) (drop s (drop 1 e)) n ∙ ap (take (z - s)) (drop-drop s 1 e ∙ ap (λ (k : ℕ). drop k e) m)
-
--- an alternative that was found is one of the pieces: its text is the expression's part, and its set the piece's
-pub record IsAlternative (names e : List ℕ) (i start end : ℕ) (set : LanguageSet) : Type 0 where
-  pub order : start ≤ end
-  pub fits : end ≤ length e
-  pub there : i < length (piecesIn e)
-  pub text : take (end - start) (drop start e) ≡ textOf (getD (piecesIn e) i [])
-  pub held : set ≡ setOf names (getD (piecesIn e) i [])
-
--- a piece of n bytes that starts at k
-is-piece : (names e a : List ℕ) (i k n : ℕ) (start end : ℕ) (set : LanguageSet) → getD (piecesIn e) i [] ≡ a → a ≡ take n (drop k e) → k + n ≤ length e
-    → i < length (piecesIn e) → pieceFrom names a k ≡ At start end set → IsAlternative names e i start end set
-unfolding pieceFrom textOf
-is-piece names e a i k n start end set g w h t q =
-    let p : k ≡ start = cc in
-    let z : k + length (textOf a) ≡ end = cc in
-    let m : length a ≤ n = omega (arith, ap length w, length-take n (drop k e)) in
-    let o : length (textOf a) ≤ n = omega (arith, text-long a, place-most opening a) in
-    let d : end - start ≡ placeOf opening a = omega (arith, text-long a) in
-    let x : set ≡ setOf names a = cc in
-    record {
-      order = omega arith;
-      fits = omega arith;
-      there = t;
-      text =
-          ap₂ (λ (j l : ℕ). take j (drop l e)) d (sym p) ∙ sym (take-take (placeOf opening a) n (drop k e) (omega (arith, place-most opening a)))
-          ∙ ap (take (placeOf opening a)) (sym w) ∙ ap textOf (sym g);
-      held = x ∙ ap (setOf names) (sym g);
-    }
-
-module _ (names e : List ℕ) (i start end : ℕ) (set : LanguageSet) where
-  is-single : firstIs round e ≡ false → (j : ℕ) → i ≡ j → alternativeOf names e i ≡ At start end set → IsAlternative names e i start end set
-  is-single f zero z q =
-      let l = pieces-single e false (sym f) refl in
-      is-piece names e e i 0 (length e) start end set (ap₂ (λ (y : List (List ℕ)) (k : ℕ). getD y k []) l z) (sym (take-length e)) (omega arith)
-      (rw l (omega arith)) (alt-single names e i false (sym f) refl _ z refl ∙ q)
-  is-single f (suc j) z q = let n = alt-single-past names e i false (sym f) refl (λ y. omega arith) in clash (cc)
-
-  is-part : firstIs round e ≡ true → (s z : ℕ) → nthCut 0 i (cutAt bar (inside e)) ≡ From s z → alternativeOf names e i ≡ At start end set → IsAlternative names e i start end set
-  is-part f s z g q =
-      let w = part-at (inside e) i _ refl s z g in
-      let l = pieces-round e true (sym f) (inside e) refl refl in
-      let some = first-some-by round e true (sym f) refl in
-      is-piece names e _ i (s + 1) (z - s) start end set
-      (ap (λ (y : List (List ℕ)). getD y i []) l ∙ List·getD-append (cutAt bar (inside e)) (extra (inside e)) [] i (w .there) ∙ w .piece)
-      (inside-part e s z (w .fits)) (omega (arith, inside-long e))
-      (rw l (omega (arith, length-append (cutAt bar (inside e)) (extra (inside e)))))
-      (alt-part names e i true (sym f) refl (inside e) refl _ refl s z _ g refl ∙ q)
-
-  -- with one more empty piece there is something between the brackets
-  extra-some : (t : List ℕ) → hasExtra t ≡ true → 1 ≤ length t
-  unfolding hasExtra
-  extra-some t y = ⊎-elim (λ v. first-some-by bar t _ refl (v .0)) (λ v. last-some-by bar t _ refl (v .1)) (pick-inv _ _ _ _ y)
-
-  is-extra : firstIs round e ≡ true → (left : ℕ) (y : Bool) → hasExtra (inside e) ≡ y → nthCut 0 i (cutAt bar (inside e)) ≡ Past left → alternativeOf names e i ≡ At start end set → IsAlternative names e i start end set
-  is-extra f zero true y g q =
-      let b = beyond (laid-cut bar (inside e)) i 0 g in
-      let x = extra-yes (inside e) true (sym y) refl in
-      let l = pieces-round e true (sym f) (inside e) refl refl ∙ ap (λ (p : List (List ℕ)). cutAt bar (inside e) ++ p) x in
-      let some = extra-some (inside e) y in
-      is-piece names e [] i (length (inside e) + 2) 0 start end set
-      (ap₂ (λ (p : List (List ℕ)) (k : ℕ). getD p k []) l (b .passed) ∙ getD-append-add (cutAt bar (inside e)) ([] ∷ []) 0 []) refl
-      (omega (arith, inside-long e)) (rw l (omega (arith, length-append (cutAt bar (inside e)) ([] ∷ []))))
-      (alt-extra names e i true (sym f) refl (inside e) refl _ refl 0 g true _ refl (sym y) refl refl ∙ q)
-  is-extra f zero false y g q = let n = alt-none names e i true (sym f) refl (inside e) refl _ refl 0 g false refl (sym y) refl in clash (cc)
-  is-extra f (suc left) b y g q = let n = alt-past names e i true (sym f) refl (inside e) refl _ refl (suc left) g (λ z. omega arith) in clash (cc)
-
-  is-round : firstIs round e ≡ true → (x : Part) → nthCut 0 i (cutAt bar (inside e)) ≡ x → alternativeOf names e i ≡ At start end set → IsAlternative names e i start end set
-  is-round f (From s z) g q = is-part f s z g q
-  is-round f (Past left) g q = is-extra f left _ refl g q
-
-  is-any : (f : Bool) → firstIs round e ≡ f → alternativeOf names e i ≡ At start end set → IsAlternative names e i start end set
-  is-any true f q = is-round f _ refl q
-  is-any false f q = is-single f i refl q
-
-module _ (names e : List ℕ) (i start end : ℕ) (set : LanguageSet) (r : Alternative) (p : r ≡ alternativeOf names e i) (q : r ≡ At start end set) where
-  -- which piece an alternative is that was found
-  pub is-alternative : IsAlternative names e i start end set
-  is-alternative = is-any names e i start end set _ refl (sym p ∙ q)
-
-  -- its text is a part of the expression
-  pub alternative-order : start ≤ end
-  alternative-order = is-alternative .order
-
-  pub alternative-fits : end ≤ length e
-  alternative-fits = is-alternative .fits
 
 -- ---- a piece's set has only bits of listed names
 
@@ -185,48 +97,145 @@ unfolding Under
 bit-under names name (Bit b) e = bit-below names name b _ refl e
 bit-under names name Unlisted e = tt
 
-bit-of : (names name : List ℕ) (x : Listed) → languageBit names name ≡ x → Under (length (stringsOf names)) x
-unfolding Under
-bit-of names name (Bit b) e = bit-held names name b _ refl e
-bit-of names name Unlisted e = tt
+set-small : (names a : List ℕ) → BitsBelow 32 (setOf names a)
+set-small names a = set-below names 32 (λ name. bit-under names name _ refl) a
 
-module _ (names e : List ℕ) (i start end : ℕ) (set : LanguageSet) (r : Alternative) (p : r ≡ alternativeOf names e i) (q : r ≡ At start end set) where
-  -- an alternative's set fits a mask
-  pub alternative-below : BitsBelow 32 set
-  alternative-below = rw (is-alternative names e i start end set r p q .held) (set-below names 32 (λ name. bit-under names name _ refl) _)
+-- ---- the alternative from a place on
 
-  -- and has only bits of listed names
-  pub alternative-listed : BitsBelow (length (stringsOf names)) set
-  alternative-listed = rw (is-alternative names e i start end set r p q .held) (set-below names _ (λ name. bit-of names name _ refl) _)
+-- it is the first of the pieces from there on, and the others stand from `next` on: its text is the expression's part, and its set the piece's
+pub record IsAlternative (names e : List ℕ) (from start end : ℕ) (set : LanguageSet) (next : ℕ) : Type 0 where
+  pub piece : List ℕ
+  pub are : piecesFrom e from ≡ piece ∷ piecesFrom e next
+  pub order : start ≤ end
+  pub fits : end ≤ length e
+  pub text : take (end - start) (drop start e) ≡ textOf piece
+  pub held : set ≡ setOf names piece
+  pub below : BitsBelow 32 set
 
--- ---- the alternatives are as many as the expression was found to have
+-- a piece of n bytes that starts at k
+is-piece : (names e a : List ℕ) (from k n start end : ℕ) (set : LanguageSet) (m next : ℕ) → pieceFrom names a k m ≡ At start end set next
+    → a ≡ take n (drop k e) → k + n ≤ length e → piecesFrom e from ≡ a ∷ piecesFrom e m → IsAlternative names e from start end set next
+unfolding pieceFrom textOf
+is-piece names e a from k n start end set m next q w h l =
+    let p : k ≡ start = cc in
+    let z : k + length (textOf a) ≡ end = cc in
+    let y : m ≡ next = cc in
+    let u : length a ≤ n = omega (arith, ap length w, length-take n (drop k e)) in
+    let o : length (textOf a) ≤ n = omega (arith, text-long a, place-most opening a) in
+    let d : end - start ≡ placeOf opening a = omega (arith, text-long a) in
+    let x : set ≡ setOf names a = cc in
+    record {
+      piece = a;
+      are = l ∙ ap (λ (i : ℕ). a ∷ piecesFrom e i) y;
+      order = omega arith;
+      fits = omega arith;
+      text =
+          ap₂ (λ (j i : ℕ). take j (drop i e)) d (sym p) ∙ sym (take-take (placeOf opening a) n (drop k e) (omega (arith, place-most opening a)))
+          ∙ ap (take (placeOf opening a)) (sym w);
+      held = x;
+      below = rw x (set-small names a);
+    }
 
-pub good-count : (names e : List ℕ) (n : ℕ) (c : Expression) → c ≡ checkedOf names e → c ≡ Good n → n ≡ length (piecesIn e)
-unfolding checkedOf
-good-count names e n c p q =
-    ⊎-elim (λ v. ⊎-elim (λ w. let g = w .1 in cc) (λ w. let g = w .1 in clash (cc)) (pick-inv _ _ _ _ (v .1)))
-    (λ v. let g = v .1 in clash (cc)) (pick-inv _ _ _ _ (sym p ∙ q))
+-- with one more empty piece there is something between the brackets
+extra-some : (t : List ℕ) → hasExtra t ≡ true → 1 ≤ length t
+unfolding hasExtra
+extra-some t y = ⊎-elim (λ v. first-some-by bar t _ refl (v .0)) (λ v. last-some-by bar t _ refl (v .1)) (pick-inv _ _ _ _ y)
 
-nth-none : (k : ℕ) (names : List ℕ) (i : ℕ) (ps : List (List ℕ)) → nthFrom k names i ps ≡ Nothing → length ps ≤ i
-unfolding nthFrom
-nth-none k names i [] e = zero-le
-nth-none k names zero (a ∷ ps) e = clash (cc)
-nth-none k names (suc i) (a ∷ ps) e = let h = nth-none _ names i ps e in omega arith
+-- between round brackets the pieces are the parts
+round-from : (e : List ℕ) (from : ℕ) → firstIs round e ≡ true → piecesFrom e from ≡ partsFrom (inside e) from
+unfolding piecesFrom
+round-from e from f = pick-true _ _ _ f
 
--- of any expression there is one for each piece
-pub pieces-past : (names e : List ℕ) (i : ℕ) (r : Alternative) → r ≡ alternativeOf names e i → r ≡ Nothing → length (piecesIn e) ≤ i
-unfolding alternativeOf
-pieces-past names e i r p q = nth-none _ names i _ (sym p ∙ q)
+single-from : (e : List ℕ) (from : ℕ) → firstIs round e ≡ false → from ≡ 0 → piecesFrom e from ≡ e ∷ []
+unfolding piecesFrom
+single-from e from f z = pick-false _ _ _ f ∙ pick-true _ _ _ (eq-eqb from 0 z)
 
-module _ (names e : List ℕ) (n i : ℕ) (c : Expression) (g : c ≡ checkedOf names e) (h : c ≡ Good n) (r : Alternative) (p : r ≡ alternativeOf names e i) where
-  -- there is one for each number below the count
-  pub alternative-past : r ≡ Nothing → n ≤ i
-  unfolding alternativeOf
-  alternative-past q = let m = nth-none _ names i _ (sym p ∙ q) in omega (arith, good-count names e n c g h)
+single-past : (e : List ℕ) (from : ℕ) → firstIs round e ≡ false → (from ≡ 0 → ⊥) → piecesFrom e from ≡ []
+unfolding piecesFrom
+single-past e from f z = pick-false _ _ _ f ∙ pick-false _ _ _ (ne-eqb from 0 z)
 
-  -- and for no other
-  pub alternative-there : (start end : ℕ) (set : LanguageSet) → r ≡ At start end set → i < n
-  alternative-there start end set q = omega (arith, is-alternative names e i start end set r p q .there, good-count names e n c g h)
+module _ (names e : List ℕ) (from start end : ℕ) (set : LanguageSet) (next : ℕ) (q : alternativeFrom names e from ≡ At start end set next) where
+  is-single : firstIs round e ≡ false → (j : ℕ) → from ≡ j → IsAlternative names e from start end set next
+  is-single f zero z =
+      is-piece names e e from 0 (length e) start end set (length e + 1) next (alt-single names e from false (sym f) refl _ z refl ∙ q) (sym (take-length e)) (omega arith)
+      (single-from e from f z ∙ ap (_∷_ e) (sym (single-past e (length e + 1) f (λ y. omega arith))))
+  is-single f (suc j) z = let n = alt-past names e from false (sym f) refl (λ y. omega arith) in clash (cc)
+
+  module _ (f : firstIs round e ≡ true) where
+    told : (r : Alternative) → r ≡ firstFrom (from + 1) from names (partsFrom (inside e) from) → r ≡ At start end set next
+    told r g = alt-round names e from true (sym f) (inside e) r refl refl g ∙ q
+
+    -- behind a part comes the next one, or the one that is added at the end
+    part-then : (to : ℕ) → from ≤ length (inside e) → to ≡ cutEnd bar (inside e) from
+        → partsFrom (inside e) from ≡ take (to - from) (drop from (inside e)) ∷ partsFrom (inside e) (to + 1)
+    part-then to h g =
+        let t = inside e in
+        let m = cut-fits bar t from h to g in
+        elim (decLt to (length t)) [
+          | yes l ↦ parts-in t from h ∙ ap (λ (ps : List (List ℕ)). ps ++ extra t) (cut-more bar t from h to g l)
+              ∙ ap (_∷_ (take (to - from) (drop from t))) (sym (parts-in t (to + 1) (omega arith)))
+          | no l ↦
+              let n : length t ≤ to = omega arith in
+              parts-in t from h ∙ ap (λ (ps : List (List ℕ)). ps ++ extra t) (cut-last bar t from h to g n)
+              ∙ ap (_∷_ (take (to - from) (drop from t))) (sym (parts-behind t (to + 1) (omega arith)))
+        ]
+
+    is-part : from ≤ length (inside e) → IsAlternative names e from start end set next
+    is-part h =
+        let t = inside e in
+        let to = cutEnd bar t from in
+        let m = cut-fits bar t from h to refl in
+        let o = cut-order bar t from h to refl in
+        let some = first-some-by round e true (sym f) refl in
+        is-piece names e _ from (from + 1) (to - from) start end set (to + 1) next (told _ (part-in names t from h to refl _ refl))
+        (inside-part e from to m) (omega (arith, inside-long e))
+        (round-from e from f ∙ part-then to h refl ∙ ap (_∷_ (take (to - from) (drop from t))) (sym (round-from e (to + 1) f)))
+
+    is-extra : from ≡ length (inside e) + 1 → (y : Bool) → hasExtra (inside e) ≡ y → IsAlternative names e from start end set next
+    is-extra z true y =
+        let t = inside e in
+        let some = extra-some t y in
+        is-piece names e [] from (from + 1) 0 start end set (from + 1) next (told _ (part-extra names t from z true (sym y) _ refl refl))
+        refl (omega (arith, inside-long e))
+        (round-from e from f ∙ parts-behind t from z ∙ extra-yes t true (sym y) refl
+        ∙ ap (_∷_ []) (sym (round-from e (from + 1) f ∙ parts-past t (from + 1) (omega arith) (λ i. omega arith))))
+    is-extra z false y = let n = told Nothing (part-none names (inside e) from z false (sym y) refl) in clash (cc)
+
+    is-round : IsAlternative names e from start end set next
+    is-round =
+        elim (decLt (length (inside e)) from) [
+          | yes l ↦ elim (decLt (length (inside e) + 1) from) [
+            | yes z ↦ let n = told Nothing (part-past names (inside e) from l (λ i. omega arith)) in clash (cc)
+            | no z ↦ is-extra (omega arith) _ refl
+          ]
+          | no l ↦ is-part (omega arith)
+        ]
+
+  is-any : (f : Bool) → firstIs round e ≡ f → IsAlternative names e from start end set next
+  is-any true f = is-round f
+  is-any false f = is-single f from refl
+
+pub is-alternative : {names e : List ℕ} {from start end : ℕ} {set : LanguageSet} {next : ℕ} {r : Alternative} → r ≡ alternativeFrom names e from → r ≡ At start end set next
+    → IsAlternative names e from start end set next
+is-alternative p q = is-any _ _ _ _ _ _ _ (sym p ∙ q) _ refl
+
+none-left : (names : List ℕ) (start from : ℕ) (ps : List (List ℕ)) → firstFrom start from names ps ≡ Nothing → ps ≡ []
+unfolding firstFrom pieceFrom
+none-left names start from [] q = refl
+none-left names start from (a ∷ ps) q = clash (cc)
+
+-- where there is none, no pieces are left
+pub pieces-past : (names e : List ℕ) (from : ℕ) {r : Alternative} → r ≡ alternativeFrom names e from → r ≡ Nothing → piecesFrom e from ≡ []
+unfolding alternativeFrom
+pieces-past names e from p q = none-left names _ from (piecesFrom e from) (sym p ∙ q)
+
+-- at the start all are left
+start-by : (e : List ℕ) (f : Bool) → firstIs round e ≡ f → piecesFrom e 0 ≡ piecesIn e
+start-by e true f = round-from e 0 f ∙ parts-in (inside e) 0 zero-le ∙ sym (pieces-round e true (sym f) (inside e) refl refl)
+start-by e false f = single-from e 0 f refl ∙ sym (pieces-single e false (sym f) refl)
+
+pub pieces-start : (e : List ℕ) → piecesFrom e 0 ≡ piecesIn e
+pieces-start e = start-by e _ refl
 
 -- ---- an expression has at most one piece more than bytes
 
@@ -263,5 +272,3 @@ match-end p l r t at x e q =
     ⊎-elim (λ v. let g = v .1 in clash (cc))
     (λ v. omega (arith, ltb-false (length t) at (v .0), prefix-within p (drop at t) (and-inv _ _ (v .1) .0), length-drop at t))
     (pick-inv _ _ _ _ (sym e ∙ q))
-
-pub ruleset rule-laws = (is-alternative, alternative-order, alternative-fits, alternative-below, alternative-listed, pieces-past, alternative-past, alternative-there, pieces-few, match-end)

@@ -9,12 +9,13 @@ pub enum Expression {
     UnlistedName,
 }
 
-// An alternative: its text is the expression's part from start to end.
+// An alternative: its text is the expression's part from start to end, and the next one is asked for from place `next` on.
 pub enum Alternative {
     At {
         start: usize,
         end: usize,
         set: LanguageSet,
+        next: usize,
     },
     Nothing,
 }

@@ -9,17 +9,11 @@ ghost use Rattle.phonemes.specs.Numbers.{expressionNumbers};
 ghost use Rattle.phonemes.specs.Expressions.{bar, opening, plus, cutAt, inside, formedPiece, boxOf, namesMask, pieceMask, setOf, checkedOf};
 ghost use Rattle.base.specs.Pick.{and};
 ghost use Rattle.texts.specs.Parts.{placeOf};
-ghost use Rattle.phonemes.specs.Contracts.{cutEnd, hasExtra, listedPiece, judgedPieces, expressionTold, nthCut, pieceFrom, alternativeOf};
+ghost use Rattle.phonemes.specs.Contracts.{cutEnd, hasExtra, listedPiece, judgedPieces, expressionTold, pieceFrom, partsFrom, firstFrom, alternativeFrom};
 use crate::answers::Alternative;
 use crate::answers::Expression;
 use languages::LanguageSet;
 use languages::Listed;
-
-// A part of what is cut at each bar, or how many more parts were asked for than there are.
-enum Part {
-    From { start: usize, end: usize },
-    Past(usize),
-}
 
 // What is between the round brackets.
 fn between(e: &[u8]) -> &[u8]
@@ -85,11 +79,11 @@ pub fn names_mask(names: &[u8], joined: &[u8]) -> Listed
     }
 }
 
-// The bits of an alternative's names; none where it has no `[`.
-fn piece_mask(names: &[u8], a: &[u8]) -> Listed
+// The bits of the names of an alternative, whose first `[` is at p; none where it has none.
+fn piece_mask(names: &[u8], a: &[u8], p: usize) -> Listed
+    requires { ⌜ p ≡ placeOf opening (now a) ⌝ }
     ensures { λ r. ⌜ r ≡ pieceMask (now (names .entry)) (now (a .entry)) ⌝ }
 {
-    let p = texts::find_byte(a, b'[');
     if p < a.len() {
         names_mask(names, names_part(a, p))
     } else {
@@ -100,18 +94,19 @@ fn piece_mask(names: &[u8], a: &[u8]) -> Listed
 fn piece_listed(names: &[u8], a: &[u8]) -> bool
     ensures { λ r. ⌜ r ≡ listedPiece (now (names .entry)) (now (a .entry)) ⌝ }
 {
-    match piece_mask(names, a) {
+    match piece_mask(names, a, texts::find_byte(a, b'[')) {
         Listed::Bit(_) => true,
         Listed::Unlisted => false,
     }
 }
 
-// The set of an alternative.
-fn piece_set(names: &[u8], a: &[u8]) -> LanguageSet
+// The set of an alternative, whose first `[` is at p.
+fn piece_set(names: &[u8], a: &[u8], p: usize) -> LanguageSet
+    requires { ⌜ p ≡ placeOf opening (now a) ⌝ }
     ensures { λ r. ⌜ r ≡ setOf (now (names .entry)) (now (a .entry)) ⌝ }
 {
-    if texts::find_byte(a, b'[') < a.len() {
-        match piece_mask(names, a) {
+    if p < a.len() {
+        match piece_mask(names, a, p) {
             Listed::Bit(m) => LanguageSet::SomeLanguages(m),
             Listed::Unlisted => LanguageSet::SomeLanguages(0),
         }
@@ -201,60 +196,45 @@ pub fn check_expression(e: &[u8], names: &[u8]) -> Expression
     }
 }
 
-// The i-th part of t between its bars.
-fn nth_part(t: &[u8], i: usize) -> Part
-    ensures { λ r. ⌜ r ≡ nthCut 0 i (cutAt bar (now (t .entry))) ⌝ }
-{
-    let n = t.len();
-    let mut from: usize = 0;
-    let mut left = i;
-    loop {
-        let to = cut_end(t, b'|', from);
-        if left == 0 {
-            return Part::From {
-                start: from,
-                end: to,
-            };
-        }
-        left -= 1;
-        if n <= to {
-            return Part::Past(left);
-        }
-        from = to + 1;
-    }
-}
-
-// The alternative whose bytes are a, of an expression in which it starts at `start`.
-fn piece_from(names: &[u8], a: &[u8], start: usize) -> Alternative
+// The alternative whose bytes are a, of an expression in which it starts at `start`, and where the next one is asked for.
+fn piece_from(names: &[u8], a: &[u8], start: usize, next: usize) -> Alternative
     requires { ⌜ start + length (now a) < 2 ^ 64 ⌝ }
-    ensures { λ r. ⌜ r ≡ pieceFrom (now (names .entry)) (now (a .entry)) start ⌝ }
+    ensures { λ r. ⌜ r ≡ pieceFrom (now (names .entry)) (now (a .entry)) start next ⌝ }
 {
+    let p = texts::find_byte(a, b'[');
     Alternative::At {
         start,
-        end: start + texts::find_byte(a, b'['),
-        set: piece_set(names, a),
+        end: start + p,
+        set: piece_set(names, a, p),
+        next,
     }
 }
 
-// The alternative of number i, counted from 0.
-pub fn alternative(e: &[u8], names: &[u8], i: usize) -> Alternative
-    ensures { λ r. ⌜ r ≡ alternativeOf (now (names .entry)) (now (e .entry)) i ⌝ }
+// The alternative from a place of t on, which is what stands between round brackets; the one that is added at the end stands behind t.
+fn part_from(names: &[u8], t: &[u8], from: usize) -> Alternative
+    ensures { λ r. ⌜ r ≡ firstFrom (from + 1) from (now (names .entry)) (partsFrom (now (t .entry)) from) ⌝ }
+{
+    let n = t.len();
+    if from <= n {
+        let to = cut_end(t, b'|', from);
+        return piece_from(names, &t[from..to], from + 1, to + 1);
+    }
+    if from == n + 1 {
+        if has_extra(t) {
+            return piece_from(names, &t[0..0], from + 1, from + 1);
+        }
+    }
+    Alternative::Nothing
+}
+
+// The alternative from a place on, the first one from place 0: each says from where on the next one is asked for.
+pub fn alternative(e: &[u8], names: &[u8], from: usize) -> Alternative
+    ensures { λ r. ⌜ r ≡ alternativeFrom (now (names .entry)) (now (e .entry)) from ⌝ }
 {
     if texts::first_is(e, b'(') {
-        let t = between(e);
-        match nth_part(t, i) {
-            Part::From { start, end } => piece_from(names, &t[start..end], start + 1),
-            Part::Past(left) => {
-                if left == 0 {
-                    if has_extra(t) {
-                        return piece_from(names, &t[0..0], t.len() + 2);
-                    }
-                }
-                Alternative::Nothing
-            }
-        }
-    } else if i == 0 {
-        piece_from(names, e, 0)
+        part_from(names, between(e), from)
+    } else if from == 0 {
+        piece_from(names, e, 0, e.len() + 1)
     } else {
         Alternative::Nothing
     }

@@ -5,5 +5,5 @@ use proofs.phonemes.piece_listed.Tie as tie
 
 pub piece-listed-spec : {M : Type 1} → statement M
 piece-listed-spec =
-    tie.close (tie.spec (λ c κs. search piece-laws) (λ c. search piece-laws) (λ c. search piece-laws) (λ c. search piece-laws)
-    (λ c. search piece-laws))
+    tie.close (tie.spec (λ c κs. search piece-laws) (λ c κs. search piece-laws) (λ c. search piece-laws) (λ c. search piece-laws)
+    (λ c. search piece-laws) (λ c. search piece-laws))

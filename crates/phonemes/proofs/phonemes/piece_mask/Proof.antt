@@ -6,5 +6,5 @@ use proofs.phonemes.piece_mask.Tie as tie
 
 pub piece-mask-spec : {M : Type 1} → statement M
 piece-mask-spec =
-    tie.close (tie.spec (λ c κs. search piece-laws) (λ c κs. search piece-laws) (λ c κs. search piece-laws) (λ c. search (listed-one, piece-laws))
+    tie.close (tie.spec (λ c κs. search (listed-one, piece-laws)) (λ c κs. search (listed-one, piece-laws)) (λ c. search (listed-one, piece-laws))
     (λ c. search (listed-one, piece-laws)))
