@@ -233,20 +233,20 @@ pub(crate) fn afresh(call: Call) -> Call
 }
 
 // The set that a name starts with.
-fn start_of(pack: &[u8], call: Call, name: &[u8]) -> LanguageSet
+fn start_of(pack: &[u8], table: &Table, call: Call, name: &[u8]) -> LanguageSet
     ensures { λ r. ⌜ r ≡ pick (call .fresh) (guessedAt (now (pack .entry)) (call .guesses) (call .languages) (now (name .entry))) (call .set) ⌝ }
 {
     if call.fresh {
-        pack::guess_languages(pack, call.guesses, call.languages, name)
+        rule_index::guess_languages(pack, table, call.guesses, call.languages, name)
     } else {
         call.set
     }
 }
 
 // The same call with that set.
-pub(crate) fn start_at(pack: &[u8], call: Call, name: &[u8]) -> Call
+pub(crate) fn start_at(pack: &[u8], table: &Table, call: Call, name: &[u8]) -> Call
     ensures { λ r. ⌜ r ≡ startedBy call (guessedAt (now (pack .entry)) (call .guesses) (call .languages) (now (name .entry))) ⌝ }
 {
-    let set = start_of(pack, call, name);
+    let set = start_of(pack, table, call, name);
     with_start(call, false, set)
 }

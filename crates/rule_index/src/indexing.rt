@@ -4,6 +4,7 @@ ghost use Prim.Native.Nat.{_+_, _%_, _<_};
 ghost use lib.ListN.{length, getD};
 ghost use Rattle.rule_index.specs.Contracts.{notedIn, ListReady, RowFinds, ListsReady, Finds, IndexIs};
 ghost use Rattle.pack.specs.PlaceContracts.{listAt};
+use crate::guessing::note_guesses;
 use pack::RuleAt;
 use pack::Surveyed;
 
@@ -13,9 +14,13 @@ pub(crate) const LISTS: usize = 98;
 // Bytes are told apart by their lower six bits.
 pub(crate) const KINDS: usize = 64;
 
-// A row for each list: for each kind of byte where the first rule to try stands, and behind those where the last one ends (0 where
-// there is none).
-pub type Table = [[usize; 128]; 98];
+// A row has for each kind of byte where the first rule to try stands, and behind those where the last one ends (0 where there is none).
+pub const COLUMNS: usize = 128;
+
+// The table's rows: one for each list, and behind those what is noted of the guessing rules.
+pub const ROWS: usize = 162;
+
+pub type Table = [[usize; COLUMNS]; ROWS];
 
 // A rule that stands from `at` to `end`, noted in a row: the first of its kind, or the last so far.
 fn note(row: &mut [usize], kind: usize, at: usize, end: usize)
@@ -84,10 +89,11 @@ fn index_lists(pack: &[u8], places: &[usize], lists: usize, table: &mut Table)
 pub fn index(pack: &[u8], table: &mut Table) -> Surveyed
     ensures { λ r. ⌜ IndexIs (now (pack .entry)) r (now (table .exit)) ⌝ }
 {
-    *table = [[0usize; 128]; 98];
+    *table = [[0usize; COLUMNS]; ROWS];
     let mut places = [0usize; LISTS];
     match pack::survey(pack, &mut places) {
         Surveyed::Accepted { languages, guesses } => {
+            note_guesses(pack, guesses, table);
             index_lists(pack, &places, 3 * languages + 2, table);
             Surveyed::Accepted { languages, guesses }
         }
