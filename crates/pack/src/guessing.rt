@@ -2,16 +2,11 @@
 ghost use mathlib.Core.Path.{_≡_};
 ghost use Prim.Native.Nat.{_≤_, min};
 ghost use lib.ListN.{length, drop};
-ghost use Rattle.lang.specs.Patterns.{matchesOf};
-ghost use Rattle.lang.specs.Contracts.{signatureOf};
-ghost use Rattle.languages.specs.Numbers.{setNumbers};
 ghost use Rattle.strings.specs.Reading.{readMany};
 ghost use Rattle.pack.specs.Packs.{guess, readGuess, readGuesses, guessGood, guessesGood};
-ghost use Rattle.pack.specs.Guessing.{allListed, narrowedBy, narrowedByAll, leftOver};
-ghost use Rattle.pack.specs.Contracts.{endIn, guessStandsAt, guessesFrom, guessedAt};
-ghost use Rattle.strings.specs.Contracts.{readSome};
+ghost use Rattle.pack.specs.Guessing.{allListed};
+ghost use Rattle.pack.specs.Contracts.{endIn, guessStandsAt, guessesFrom};
 use crate::sections::Section;
-use languages::LanguageSet;
 use strings::Next;
 use strings::Number;
 
@@ -26,7 +21,7 @@ pub enum GuessAt {
     Cut,
 }
 
-// The guessing rule at a place.
+// The guessing rule at a place, of any bytes.
 pub fn guess_at(pack: &[u8], at: usize) -> GuessAt
     ensures { λ r. ⌜ r ≡ guessStandsAt (now (pack .entry)) at ⌝ }
 {
