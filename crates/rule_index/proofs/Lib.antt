@@ -1,3 +1,4 @@
 pub mod RowLaws
+pub mod GuessLaws
 pub mod TableLaws
 pub mod MatchLaws

@@ -17,6 +17,8 @@ use Rattle.pack.specs.Packs.{Pack, Verdict, accepted, refused, listCount, packO
 use Rattle.rule_lines.specs.Rules.{Rule}
 use Rattle.pack.specs.PlaceContracts.{placesOf, surveyedOf, listAt, SurveyIs}
 use Rattle.pack.specs.Numbers.{surveyedNumbers}
+use Rattle.pack.specs.Contracts.{guessedAt}
+use Rattle.languages.specs.declared.sets.LanguageSet.{LanguageSet}
 use Rattle.pack.specs.declared.sections.Surveyed.{Surveyed}
 use Rattle.pack.specs.declared.sections.Surveyed.the-variants as surveyed
 use Rattle.base.proofs.Arms.{clash}
@@ -24,8 +26,11 @@ use Rattle.pack.proofs.NumberLaws.{surveyed-one}
 use Rattle.pack.proofs.Laws.{RulesAt, no-rule, one-rule, good-rule, languages-few, lists-counted, places-counted, list-held, list-told, SurveyedPack, surveyed-pack}
 use Rattle.rule_index.specs
 use specs.Matching.{none, Matcher, firstMatch}
-use specs.Contracts.{packBy, packIn, rulesBetween, tried, matcher, Blank, ListReady, RowFinds, ListsReady, Finds, IndexIs}
-use Rattle.rule_index.proofs.RowLaws.{never-past}
+use specs.Contracts.{packBy, packIn, rulesBetween, tried, matcher, Blank, ListReady, RowFinds, ListsReady, Finds, ListsFound, IndexIs}
+use specs.GuessContracts.{requiredRow, rows, Roomy, guesser, guesserBy, GuessesReady, GuessesNoted}
+use Rattle.rule_index.proofs
+use proofs.RowLaws.{never-past}
+use proofs.GuessLaws.{row-within, guesser-kept}
 
 -- ---- a list matches nothing behind a word
 
@@ -43,12 +48,6 @@ blank-finds {s} {row} w = record {
       let kind = getD word place 0 % 64 in
       ap (λ (e : ℕ). firstMatch (rulesBetween e s (getD row kind 0) e) word place) (w .clear kind (omega arith));
 }
-
--- a row that is there lies in the table
-row-within : (table : List (List ℕ)) (k : ℕ) → length (getD table k []) ≡ 128 → k < length table
-row-within [] k h = let no-way : ⊥ = omega arith in absurd no-way
-row-within (x ∷ table) zero h = omega arith
-row-within (x ∷ table) (suc k) h = omega (arith, row-within table k h)
 
 no-list : (ls : List (List Rule)) (k : ℕ) → length ls ≤ k → getD ls k [] ≡ []
 no-list [] k h = refl
@@ -72,7 +71,7 @@ module _ (s : List ℕ) (table : List (List ℕ)) (rows : (k : ℕ) → k < 98 �
 -- ---- the loop over the lists
 
 -- the rows before the k-th find the rules of their lists, and the others are blank
-pub record Listing (s places : List ℕ) (lists : ℕ) (table : List (List ℕ)) (k : ℕ) : Type 0 where
+pub record Listing (s places : List ℕ) (lists : ℕ) (table₀ table : List (List ℕ)) (k : ℕ) : Type 0 where
   pub is : packOf s ≡ accepted (packIn s)
   pub counted : lists ≡ listCount (length (packIn s .names))
   pub held : (j : ℕ) → j < lists → getD places j 0 ≡ getD (placesOf s) j 0
@@ -81,8 +80,9 @@ pub record Listing (s places : List ℕ) (lists : ℕ) (table : List (List ℕ))
   pub within : k ≤ lists
   pub few : lists ≤ 98
   pub long : length places ≡ 98
+  pub kept : (j : ℕ) → requiredRow ≤ j → getD table j [] ≡ getD table₀ j []
 
-pub listing-start : {s places : List ℕ} {lists : ℕ} {table : List (List ℕ)} → ListsReady s places lists table → Listing s places lists table 0
+pub listing-start : {s places : List ℕ} {lists : ℕ} {table : List (List ℕ)} → ListsReady s places lists table → Listing s places lists table table 0
 unfolding listCount
 listing-start {s} w = record {
   is = w .is;
@@ -93,9 +93,10 @@ listing-start {s} w = record {
   within = zero-le;
   few = omega (arith, languages-few s (packIn s) (1 + stringsLength (packIn s .names)) (w .is) refl);
   long = w .long;
+  kept = λ j h. refl;
 }
 
-module _ {s places : List ℕ} {lists k : ℕ} {table : List (List ℕ)} (w : Listing s places lists table k) where
+module _ {s places : List ℕ} {lists k : ℕ} {table₀ table : List (List ℕ)} (w : Listing s places lists table₀ table k) where
   many : length (packIn s .lists) ≡ lists
   many = lists-counted s (packIn s) (1 + stringsLength (packIn s .names)) (w .is) refl ∙ sym (w .counted)
 
@@ -111,8 +112,11 @@ module _ {s places : List ℕ} {lists k : ℕ} {table : List (List ℕ)} (w : Li
       subst (λ (rs : List Rule). RowFinds s (getD table j []) rs) (sym (no-list (packIn s .lists) j (omega (arith, many, ltb-false j lists e))))
       (blank-finds (w .blank j (omega (arith, ltb-false j lists e)) l))
 
-  pub listing-done : lists ≤ k → Finds s table
-  listing-done h = finds s table (λ j l. row-by h j l _ refl) (λ j word place l. past-by j word place l _ refl) (omega (arith, many))
+  pub listing-done : lists ≤ k → ListsFound s table₀ table
+  listing-done h = record {
+    found = finds s table (λ j l. row-by h j l _ refl) (λ j word place l. past-by j word place l _ refl) (omega (arith, many));
+    kept = w .kept;
+  }
 
   module _ (h : k < lists) where
     pub listing-row : k < 98
@@ -138,7 +142,7 @@ module _ {s places : List ℕ} {lists k : ℕ} {table : List (List ℕ)} (w : Li
           let same : j ≡ k = omega arith in
           rw (same, getD-set-same table k row [] (row-within table k (w .blank k (omega arith) listing-row .long))) row-told
 
-      pub listing-turn : Listing s places lists (set table k row) (k + 1)
+      pub listing-turn : Listing s places lists table₀ (set table k row) (k + 1)
       listing-turn = record {
         is = w .is;
         counted = w .counted;
@@ -148,6 +152,7 @@ module _ {s places : List ℕ} {lists k : ℕ} {table : List (List ℕ)} (w : Li
         within = omega arith;
         few = w .few;
         long = w .long;
+        kept = λ j l. getD-set-other table k j row [] (λ n. omega arith) ∙ w .kept j l;
       }
 
 pub ruleset listing-laws = (listing-start, listing-done, listing-row, listing-place, listing-next, listing-turn, needs)
@@ -166,7 +171,7 @@ module _ {s t t′ : List ℕ} {r : Surveyed} (w : SurveyIs s t r t′) where
 
   -- a refused pack has no list
   pub index-refused : {table : List (List ℕ)} → ((k : ℕ) → k < 98 → Blank (getD table k [])) → (place : ℕ) → r ≡ surveyed.Refused place → IndexIs s (surveyed.Refused place) table
-  unfolding firstMatch
+  unfolding firstMatch guesserBy
   index-refused {table} blank place q =
       let none-there : packIn s .lists ≡ [] = refused-by place _ refl (sym (surveyed-one _ _ (w .result)) ∙ q) in
       let empty : (k : ℕ) → getD (packIn s .lists) k [] ≡ [] = λ k. ap (λ (l : List (List Rule)). getD l k []) none-there in
@@ -174,11 +179,17 @@ module _ {s t t′ : List ℕ} {r : Surveyed} (w : SurveyIs s t r t′) where
         result = ap surveyedNumbers (sym q) ∙ w .result;
         found = finds s table (λ k h. subst (λ (l : List Rule). RowFinds s (getD table k []) l) (sym (empty k)) (blank-finds (blank k h)))
             (λ k word place h. ap (λ (l : List Rule). firstMatch l word place) (empty k)) (omega (arith, ap length none-there));
+        guessed = refl;
       }
 
   module _ (n g : ℕ) (q : r ≡ surveyed.Accepted n g) where
-    pub index-accepted : {table : List (List ℕ)} → Finds s table → IndexIs s (surveyed.Accepted n g) table
-    index-accepted f = record { result = ap surveyedNumbers (sym q) ∙ w .result; found = f }
+    pub index-accepted : {blank noted table : List (List ℕ)} → GuessesNoted s g blank noted → ListsFound s noted table → IndexIs s (surveyed.Accepted n g) table
+    unfolding guesserBy
+    index-accepted {noted = noted} {table = table} v f = record {
+      result = ap surveyedNumbers (sym q) ∙ w .result;
+      found = f .found;
+      guessed = ap (λ (a : ℕ → List ℕ → LanguageSet). a n) (guesser-kept s noted table g (f .kept) ∙ v .guessed);
+    }
 
     there : SurveyedPack s n g
     there = surveyed-pack s n g r (surveyed-one _ _ (w .result)) q
@@ -199,31 +210,41 @@ module _ {s t t′ : List ℕ} {r : Surveyed} (w : SurveyIs s t r t′) where
     unfolding listCount
     lists-many = ap listCount (there .languages ∙ ap (λ (p : Pack). length (p .names)) (sym same))
 
-    pub index-ready : {table : List (List ℕ)} → length t ≡ 98 → ((k : ℕ) → k < 98 → Blank (getD table k [])) → ListsReady s t′ (3 * n + 2) table
-    index-ready long blank =
+    pub index-ready : {blank table : List (List ℕ)} → GuessesNoted s g blank table → length t ≡ 98 → ((k : ℕ) → k < 98 → Blank (getD blank k []))
+        → ListsReady s t′ (3 * n + 2) table
+    index-ready v long blank =
         let room : length (placesOf s) ≡ 3 * n + 2 = places-counted s (packIn s) g (there .is ∙ ap accepted (sym same)) (there .guesses ∙ ap (λ (p : Pack). 1 + stringsLength (p .names)) (sym same)) ∙ sym lists-many in
         record {
           is = there .is ∙ ap accepted (sym same);
           counted = lists-many;
           long = ap length (w .buffer) ∙ length-sets t 0 (placesOf s) ∙ long;
           held = λ k h. ap (λ (x : List ℕ). getD x k 0) (w .buffer ∙ sets-eq (placesOf s) t 0 (omega (arith, long, few))) ∙ List·getD-append (placesOf s) _ 0 k (omega arith);
-          blank = blank;
+          blank = λ k h. subst Blank (sym (v .kept k (omega arith))) (blank k h);
         }
+
+    pub index-guesses : {table : List (List ℕ)} → Roomy table → GuessesReady s g table
+    index-guesses room = record { pack = there .pack; is = there .is; held = there .guesses; room = room }
 
 -- ---- a new table
 
 pub zeros-long : length (replicate {A = ℕ} 98 0) ≡ 98
 zeros-long = length-replicate {A = ℕ} 98 0
 
-pub zeros-blank : (n m : ℕ) → n ≡ 98 → m ≡ 128 → (k : ℕ) → k < 98 → Blank (getD (replicate n (replicate m 0)) k [])
+pub zeros-roomy : (n m : ℕ) → n ≡ rows → m ≡ 128 → Roomy (replicate n (replicate m 0))
+zeros-roomy n m en em k h = ap length (getD-replicate n k _ [] (omega arith)) ∙ length-replicate m 0 ∙ em
+
+pub zeros-blank : (n m : ℕ) → n ≡ rows → m ≡ 128 → (k : ℕ) → k < 98 → Blank (getD (replicate n (replicate m 0)) k [])
 zeros-blank n m en em k h =
     subst Blank (sym (getD-replicate n k _ [] (omega arith)))
     (record { long = length-replicate m 0 ∙ em; clear = λ kind l. getD-replicate m (kind + 64) 0 0 (omega arith) })
 
-pub ruleset survey-laws = (index-refused, index-accepted, thrice-fits, lists-fit, index-ready, zeros-long, zeros-blank, needs)
+pub ruleset survey-laws = (index-refused, index-accepted, thrice-fits, lists-fit, index-guesses, index-ready, zeros-long, zeros-roomy, zeros-blank, needs)
 
 -- the promise of `index` allows one answer, and one table as far as it is looked at
-pub index-one : (s : List ℕ) (r r′ : Surveyed) (t t′ : List (List ℕ)) → IndexIs s r t → IndexIs s r′ t′ → _≡_ {A = Surveyed × (ℕ → Matcher)} (r, matcher s t) (r′, matcher s t′)
+pub index-one : (s : List ℕ) (r r′ : Surveyed) (t t′ : List (List ℕ)) → IndexIs s r t → IndexIs s r′ t′
+    → _≡_ {A = Surveyed × (ℕ → Matcher) × (List ℕ → LanguageSet)} (r, matcher s t, guesserBy (guesser s t) r) (r′, matcher s t′, guesserBy (guesser s t′) r′)
 index-one s r r′ t t′ a b =
+    let verdict : r ≡ r′ = surveyed-one _ _ (one (a .result) (b .result)) in
     let same : matcher s t ≡ matcher s t′ = λ i k. (a .found k ∙ sym (b .found k)) i in
-    ap₂ (λ (x : Surveyed) (m : ℕ → Matcher). (x, m)) (surveyed-one _ _ (one (a .result) (b .result))) same
+    let guesses : guesserBy (guesser s t) r ≡ guesserBy (guesser s t′) r′ = a .guessed ∙ ap (guesserBy (guessedAt s)) verdict ∙ sym (b .guessed) in
+    λ i. (verdict i, same i, guesses i)

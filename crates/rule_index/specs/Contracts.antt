@@ -1,5 +1,5 @@
 -- The table by which the rules of a pack's lists are looked up: a row for each of 98 lists, which has for each of 64 kinds of byte where the
--- first rule to try stands, and behind those where the last one ends.
+-- first rule to try stands, and behind those where the last one ends. Behind these rows it has what is noted of the guessing rules.
 use Prim.Native.Nat.{ℕ, zero, suc, _+_, _-_, _%_, _≤_, _<_, max}
 use mathlib.Core.Path.{_≡_}
 use mathlib.Core.List.{List, [], _∷_}
@@ -13,6 +13,8 @@ use Rattle.pack.specs.PlaceContracts.{surveyedOf, placesOf}
 use Rattle.strings.specs.Contracts.{behind}
 use Rattle.pack.specs.Numbers.{surveyedNumbers}
 use Rattle.pack.specs.declared.sections.Surveyed.{Surveyed}
+use Rattle.pack.specs.Contracts.{guessedAt}
+use Rattle.rule_index.specs.GuessContracts.{requiredRow, guesser, guesserBy}
 use Rattle.rule_index.specs.Matching.{Match, none, by, Matcher, firstMatch}
 use Rattle.rule_index.specs.declared.matching.Matched.{Matched}
 use Rattle.rule_index.specs.declared.matching.Matched.the-variants.{By, Nothing}
@@ -114,7 +116,13 @@ pub record ListsReady (s places : List ℕ) (lists : ℕ) (table : List (List �
 abbrev pub Finds : List ℕ → List (List ℕ) → Type 0
 Finds s table = (k : ℕ) → matcher s table k ≡ firstMatch (getD (packIn s .lists) k [])
 
--- the promise of `index`: the verdict of a survey, and what is found by the table
+-- the same, and the rows behind those of the lists are as they were
+pub record ListsFound (s : List ℕ) (table table′ : List (List ℕ)) : Type 0 where
+  pub found : Finds s table′
+  pub kept : (k : ℕ) → requiredRow ≤ k → getD table′ k [] ≡ getD table k []
+
+-- the promise of `index`: the verdict of a survey, what is found by the table, and what is guessed by it
 pub record IndexIs (s : List ℕ) (r : Surveyed) (table : List (List ℕ)) : Type 0 where
   pub result : surveyedNumbers r ≡ surveyedNumbers (surveyedOf (packOf s))
   pub found : Finds s table
+  pub guessed : guesserBy (guesser s table) r ≡ guesserBy (guessedAt s) r

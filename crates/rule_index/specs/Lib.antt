@@ -1,2 +1,3 @@
 pub mod Matching
+pub mod GuessContracts
 pub mod Contracts

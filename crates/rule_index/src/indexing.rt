@@ -2,7 +2,7 @@
 ghost use mathlib.Core.Path.{_≡_};
 ghost use Prim.Native.Nat.{_+_, _%_, _<_};
 ghost use lib.ListN.{length, getD};
-ghost use Rattle.rule_index.specs.Contracts.{notedIn, ListReady, RowFinds, ListsReady, Finds, IndexIs};
+ghost use Rattle.rule_index.specs.Contracts.{notedIn, ListReady, RowFinds, ListsReady, ListsFound, IndexIs};
 ghost use Rattle.pack.specs.PlaceContracts.{listAt};
 use crate::guessing::note_guesses;
 use pack::RuleAt;
@@ -76,7 +76,7 @@ fn index_list(pack: &[u8], row: &mut [usize], place: usize)
 // The lists at their places, each noted in its row.
 fn index_lists(pack: &[u8], places: &[usize], lists: usize, table: &mut Table)
     requires { ⌜ ListsReady (now pack) (now places) lists (now table) ⌝ }
-    ensures { λ r. ⌜ Finds (now (pack .entry)) (now (table .exit)) ⌝ }
+    ensures { λ r. ⌜ ListsFound (now (pack .entry)) (now (table .entry)) (now (table .exit)) ⌝ }
 {
     let mut k: usize = 0;
     while k < lists {

@@ -5,7 +5,7 @@ use proofs.indexing.index_lists.Statement.{statement}
 use proofs.indexing.index_lists.Tie as tie
 
 abbrev Inv-loop : tie.InvT-loop
-Inv-loop pack places lists table₀ k₀ table k = Listing pack places lists table k
+Inv-loop pack places lists table₀ k₀ table k = Listing pack places lists table₀ table k
 
 abbrev μ-loop : tie.MeasureT-loop
 μ-loop pack places lists table₀ k₀ table k = lists - k
