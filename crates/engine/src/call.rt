@@ -10,7 +10,7 @@ ghost use Rattle.strings.specs.Reading.{stringsOf};
 ghost use Rattle.pack.specs.Packs.{any};
 ghost use Rattle.languages.specs.declared.sets.LanguageSet.the-variants.{Any};
 ghost use Rattle.engine.specs.Calls.{settingsKnown, kindKnown, haveLanguages, typeOf, startSet};
-ghost use Rattle.engine.specs.Contracts.{OpenedIs, isGuessed, callFor, withStart, startedBy};
+ghost use Rattle.engine.specs.Contracts.{OpenedIs, CallReady, isGuessed, callFor, withStart, startedBy};
 ghost use Rattle.pack.specs.Contracts.{guessedAt};
 use languages::LanguageSet;
 use languages::Listed;
@@ -234,6 +234,7 @@ pub(crate) fn afresh(call: Call) -> Call
 
 // The set that a name starts with.
 fn start_of(pack: &[u8], table: &Table, call: Call, name: &[u8]) -> LanguageSet
+    requires { ⌜ CallReady (now pack) (now table) call ⌝ }
     ensures { λ r. ⌜ r ≡ pick (call .fresh) (guessedAt (now (pack .entry)) (call .guesses) (call .languages) (now (name .entry))) (call .set) ⌝ }
 {
     if call.fresh {
@@ -245,6 +246,7 @@ fn start_of(pack: &[u8], table: &Table, call: Call, name: &[u8]) -> LanguageSet
 
 // The same call with that set.
 pub(crate) fn start_at(pack: &[u8], table: &Table, call: Call, name: &[u8]) -> Call
+    requires { ⌜ CallReady (now pack) (now table) call ⌝ }
     ensures { λ r. ⌜ r ≡ startedBy call (guessedAt (now (pack .entry)) (call .guesses) (call .languages) (now (name .entry))) ⌝ }
 {
     let set = start_of(pack, table, call, name);

@@ -166,6 +166,7 @@ fn spell_lowered(
 
 // A name lower-cased at the front of a buffer, its languages guessed, and then its hyphens made spaces. Returns the call with its set.
 fn lower_name(pack: &[u8], table: &Table, call: Call, name: &[u8], low: &mut [u8]) -> Call
+    requires { ⌜ CallReady (now pack) (now table) call ⌝ }
     requires { ⌜ (length (now name) ≤ 96) × (length (now low) ≡ 96) ⌝ }
     ensures { λ r. ⌜ LoweredIs (now (pack .entry)) call (now (name .entry)) (now (low .exit)) r ⌝ }
 {

@@ -12,4 +12,8 @@ abbrev μ-loop : tie.MeasureT-loop
 μ-loop t q₀ bits₀ q bits = length t - q
 
 pub bits-in-spec : {M : Type 1} → statement M
-bits-in-spec = tie.close (tie.spec Inv-loop μ-loop (λ c. search requiring-laws) (λ c. search requiring-laws) (λ c. search requiring-laws) (λ c. search requiring-laws) (λ c. search requiring-laws) (λ c κs. search requiring-laws) (λ c. search requiring-laws) (λ c. search requiring-laws) (λ c. search requiring-laws) (λ c. search requiring-laws) (λ c κs. search requiring-laws) (λ c. search requiring-laws) (λ c. search requiring-laws) (λ c. search requiring-laws) (λ c. search requiring-laws))
+bits-in-spec =
+    tie.close (tie.spec Inv-loop μ-loop (λ c. search requiring-laws) (λ c. search requiring-laws) (λ c. search requiring-laws)
+    (λ c. search requiring-laws) (λ c. search requiring-laws) (λ c κs. search requiring-laws) (λ c. search requiring-laws)
+    (λ c. search requiring-laws) (λ c. search requiring-laws) (λ c. search requiring-laws) (λ c κs. search requiring-laws)
+    (λ c. search requiring-laws) (λ c. search requiring-laws) (λ c. search requiring-laws) (λ c. search requiring-laws))

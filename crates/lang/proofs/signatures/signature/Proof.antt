@@ -12,4 +12,6 @@ abbrev μ-loop : tie.MeasureT-loop
 μ-loop name i₀ bits₀ i bits = length name - i
 
 pub signature-spec : {M : Type 1} → statement M
-signature-spec = tie.close (tie.spec Inv-loop μ-loop (λ c. search signing-laws) (λ c. search signing-laws) (λ c κs. search signing-laws) (λ c. search signing-laws) (λ c. search signing-laws) (λ c. search signing-laws) (λ c. search signing-laws))
+signature-spec =
+    tie.close (tie.spec Inv-loop μ-loop (λ c. search signing-laws) (λ c. search signing-laws) (λ c κs. search signing-laws) (λ c. search signing-laws)
+    (λ c. search signing-laws) (λ c. search signing-laws) (λ c. search signing-laws))

@@ -7,4 +7,6 @@ use proofs.guessing.narrow.Tie as tie
 
 pub narrow-spec : {M : Type 1} → statement M
 unfolding narrowedBy
-narrow-spec = tie.close (tie.spec (λ c κs. search (cases, needs)) (λ c κs. search (cases, needs)) (λ c. search (cases, needs)) (λ c. search (cases, needs)) (λ c. search (cases, needs)))
+narrow-spec =
+    tie.close (tie.spec (λ c κs. search (cases, needs)) (λ c κs. search (cases, needs)) (λ c. search (cases, needs)) (λ c. search (cases, needs))
+    (λ c. search (cases, needs)))

@@ -11,4 +11,6 @@ abbrev μ-loop : tie.MeasureT-loop
 μ-loop pack table count all name signature left₀ i₀ left i = count - i
 
 pub narrow-all-spec : {M : Type 1} → statement M
-narrow-all-spec = tie.close (tie.spec Inv-loop μ-loop (λ c κs. search narrowing-laws) (λ c. search narrowing-laws) (λ c κs. search narrowing-laws) (λ c. search narrowing-laws) (λ c. search narrowing-laws) (λ c. search narrowing-laws) (λ c. search narrowing-laws))
+narrow-all-spec =
+    tie.close (tie.spec Inv-loop μ-loop (λ c κs. search narrowing-laws) (λ c. search narrowing-laws) (λ c κs. search narrowing-laws)
+    (λ c. search narrowing-laws) (λ c. search narrowing-laws) (λ c. search narrowing-laws) (λ c. search narrowing-laws))

@@ -12,4 +12,8 @@ abbrev μ-loop : tie.MeasureT-loop
 μ-loop pack guesses table₀ count i₀ at₀ table i at = count - i
 
 pub note-guesses-spec : {M : Type 1} → statement M
-note-guesses-spec = tie.close (tie.spec Inv-loop μ-loop (λ c κs. search noting-laws) (λ c. omega (arith, section-within (c .before .before .pre))) (λ c. search noting-laws) (λ c κs. search noting-laws) (λ c. search noting-laws) (λ c. search noting-laws) (λ c. search noting-laws) (λ c. search noting-laws) (λ c κs. search noting-laws) (λ c κs. search noting-laws) (λ c. search noting-laws) (λ c. search noting-laws) (λ c. search noting-laws) (λ c. search noting-laws) (λ c. search noting-laws) (λ c. search noting-laws))
+note-guesses-spec =
+    tie.close (tie.spec Inv-loop μ-loop (λ c κs. search noting-laws) (λ c. omega (arith, section-within (c .before .before .pre)))
+    (λ c. search noting-laws) (λ c κs. search noting-laws) (λ c. search noting-laws) (λ c. search noting-laws) (λ c. search noting-laws)
+    (λ c. search noting-laws) (λ c κs. search noting-laws) (λ c κs. search noting-laws) (λ c. search noting-laws) (λ c. search noting-laws)
+    (λ c. search noting-laws) (λ c. search noting-laws) (λ c. search noting-laws) (λ c. search noting-laws))
