@@ -22,10 +22,10 @@ abbrev pub requiredRow : ℕ
 requiredRow = 98
 
 abbrev pub placeRow : ℕ
-placeRow = 130
+placeRow = requiredRow + 32
 
 abbrev pub rows : ℕ
-rows = 162
+rows = placeRow + 32
 
 -- each row of the table has 128 numbers
 abbrev pub Roomy : List (List ℕ) → Type 0

@@ -14,12 +14,13 @@ use languages::LanguageSet;
 use pack::GuessAt;
 
 // A pack has at most so many guessing rules.
-const GUESSES: usize = 4096;
+pub(crate) const GUESSES: usize = 4096;
 
-// The first row of what they require, and the first row of their places.
+// The first row of what they require.
 const REQUIRED: usize = 98;
 
-const PLACES: usize = 130;
+// The first row of their places.
+pub(crate) const PLACES: usize = REQUIRED + GUESSES / COLUMNS;
 
 // A number stored as the i-th from a row on.
 fn put_at(table: &mut Table, row: usize, i: usize, value: usize)

@@ -4,6 +4,8 @@ ghost use Prim.Native.Nat.{_+_, _%_, _<_};
 ghost use lib.ListN.{length, getD};
 ghost use Rattle.rule_index.specs.Contracts.{notedIn, ListReady, RowFinds, ListsReady, ListsFound, IndexIs};
 ghost use Rattle.pack.specs.PlaceContracts.{listAt};
+use crate::guessing::GUESSES;
+use crate::guessing::PLACES;
 use crate::guessing::note_guesses;
 use pack::RuleAt;
 use pack::Surveyed;
@@ -18,7 +20,7 @@ pub(crate) const KINDS: usize = 64;
 pub const COLUMNS: usize = 128;
 
 // The table's rows: one for each list, and behind those what is noted of the guessing rules.
-pub const ROWS: usize = 162;
+pub const ROWS: usize = PLACES + GUESSES / COLUMNS;
 
 pub type Table = [[usize; COLUMNS]; ROWS];
 
