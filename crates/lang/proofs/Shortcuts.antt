@@ -1,7 +1,7 @@
 -- What the shortcuts pass over does not match: a place whose first byte is another, and a pattern with a byte that is not in the name's
 -- signature. Assumes nothing.
 use mathlib.Core.Path.{_≡_, refl, sym, ap, ap₂, subst, _∙_}
-use mathlib.Core.Bool.{Bool, true, false, not, false≢true}
+use mathlib.Core.Bool.{Bool, true, false, false≢true}
 use mathlib.Core.List.{List, [], _∷_, _++_}
 use mathlib.Core.Logic.{⊎-elim}
 use Prim.Native.Nat.{ℕ, zero, suc, _+_, _-_, _*_, _%_, _^_, _≤_, _<_}
@@ -12,12 +12,12 @@ use native.Mathlib.Omega.{arith}
 use lib.Bits.{bitAnd, bitOr, and-comm, and-zero-r, or-zero-l, or-zero-r}
 use lib.Dec.{eqb, ltb, lit<}
 use lib.ListN.{length, getD, take, drop, length-drop, drop-of-length-le}
-use lib.Pow.{shl-exact, pow-pos}
+use lib.Pow.{shl-exact}
 use lib.Seq.{drop-nil, drop-cons, drop-drop, getD-take, getD-drop}
 use borrow.Author.Needs.{needs}
 use borrow.Author.Tests.{eq-eqb, ne-eqb, leb-true, ltb-false, eqb-true, eqb-false}
 use Rattle.base.proofs.Bits.{bit, bits-ext, and-bit, or-bit, or-assoc, and-or, and-over-or}
-use Rattle.base.specs.Pick.{pick, and}
+use Rattle.base.specs.Pick.{pick}
 use Rattle.letters.specs.Utf8.{decodeAt, encode}
 use Rattle.letters.specs.Reading.{codesOf}
 use Rattle.letters.specs.declared.utf8.Step.{Step}

@@ -16,7 +16,7 @@ use Rattle.lang.specs.Patterns.{matchesOf}
 use Rattle.lang.specs.Contracts.{signatureOf, requiredOf, hasBits}
 use Rattle.lang.proofs.Shortcuts.{lacking-not}
 use Rattle.languages.specs.declared.sets.LanguageSet.{LanguageSet}
-use Rattle.strings.specs.Reading.{Read, cut, got, readMany}
+use Rattle.strings.specs.Reading.{Read, got, readMany}
 use Rattle.strings.proofs.Readers.{then-inv}
 use Rattle.pack.specs.Packs.{Guess, guess, readGuess}
 use Rattle.pack.specs.PlaceContracts.{ruleCount}
@@ -27,7 +27,7 @@ use Rattle.pack.specs.declared.guessing.GuessAt.the-variants as guesses
 use Rattle.pack.proofs.GuessLaws.{GuessIs, guess-is, guess-cut, guess-order, guess-fits}
 use Rattle.pack.proofs.Laws.{GuessSection, guesses-whole}
 use Rattle.rule_index.specs
-use specs.GuessContracts.{requiredRow, placeRow, rows, Roomy, notedAt, putAt, narrowedIn, narrowedNoted, narrowedByFirst, guesser, GuessesReady, GuessesNoted}
+use specs.GuessContracts.{requiredRow, placeRow, Roomy, notedAt, putAt, narrowedIn, narrowedNoted, narrowedByFirst, guesser, GuessesReady, GuessesNoted}
 
 -- ---- a number of the table
 
