@@ -15,10 +15,10 @@ pub(crate) fn check(kept: &[u8]) -> Said {
 
 // `guess NAME`: the languages that a pack guesses for a name, or 5 with the place.
 pub(crate) fn guess(kept: &[u8], name: &[u8]) -> Said {
-    let mut places = [0usize; 1];
-    match pack::survey(kept, &mut places) {
+    let mut table = [[0usize; rule_index::COLUMNS]; rule_index::ROWS];
+    match rule_index::index(kept, &mut table) {
         Surveyed::Accepted { languages, guesses } => {
-            let set = pack::guess_languages(kept, guesses, languages, name);
+            let set = rule_index::guess_languages(kept, &table, guesses, languages, name);
             languages_cases::set(set, said::GUESSED)
         }
         Surveyed::Refused(place) => Said::Count(said::FIVE, place),

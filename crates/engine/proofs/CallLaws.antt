@@ -1,6 +1,6 @@
 -- What a call is told, and the pack it works with: its numbers, the refusals before the pack, and what known settings give.
 -- Assumes nothing.
-use mathlib.Core.Path.{_≡_, refl, sym, ap, ap₂, _∙_}
+use mathlib.Core.Path.{_≡_, refl, sym, ap, ap₂, subst, _∙_}
 use mathlib.Core.Bool.{Bool, true, false, false≢true}
 use mathlib.Core.List.{List, [], _∷_}
 use Prim.Native.Nat.{ℕ, zero, suc, _+_, _-_, _*_, _%_, _^_, _≤_, _<_, zero-le, suc-le-suc, min}
@@ -21,12 +21,16 @@ use Rattle.languages.specs.Names.{namePlace, bitAt, languageBit}
 use Rattle.strings.specs.Reading.{stringsOf}
 use Rattle.languages.specs.declared.names.Listed.{Listed}
 use Rattle.languages.specs.declared.names.Listed.the-variants.{Bit, Unlisted}
+use Rattle.languages.specs.Numbers.{setNumbers}
 use Rattle.languages.specs.declared.sets.LanguageSet.{LanguageSet}
 use Rattle.languages.specs.declared.sets.LanguageSet.the-variants.{Any, NoLanguages, SomeLanguages}
+use Rattle.languages.proofs.NumberLaws.{set-one}
 use Rattle.pack.specs.Packs.{Pack, Verdict, accepted, refused, any, holds, namesGood, packOf, stringsLength}
 use Rattle.pack.proofs.NumberLaws.{surveyed-one}
 use Rattle.pack.specs.PlaceContracts.{surveyedOf}
+use Rattle.pack.specs.Contracts.{guessedAt}
 use Rattle.rule_index.specs.Contracts.{packIn, IndexIs}
+use Rattle.rule_index.specs.GuessContracts.{guesser, guesserBy}
 use Rattle.rule_index.proofs.TableLaws.{pack-in}
 use Rattle.pack.specs.declared.sections.Surveyed.{Surveyed}
 use Rattle.pack.specs.declared.sections.Surveyed.the-variants as surveyed
@@ -37,7 +41,8 @@ use Rattle.base.proofs.Arms.{clash}
 use Rattle.refusals.specs.declared.Refusal.{Refusal}
 use Rattle.refusals.specs.declared.Refusal.the-variants.{NotUtf8, OutsideRange, NameTooLong, SettingUnknown}
 use Rattle.engine.specs.Calls.{kindKnown, settingsKnown, haveLanguages, typeOf, startSet, CallOutcome, refusedBy, key, unless, onPack, lettersThen, checkedThen, callOf}
-use Rattle.engine.specs.Contracts.{OpenedIs, isGuessed, callFor, foundBy, FoundIs}
+use Rattle.engine.specs.Contracts.{OpenedIs, CallReady, isGuessed, callFor, foundBy, FoundIs}
+use Rattle.engine.specs.declared.call.Call.{Call}
 use Rattle.engine.specs.declared.call.Settings.{Settings}
 use Rattle.engine.specs.declared.call.Start.{Start}
 use Rattle.engine.specs.declared.call.Start.the-variants.{Guessed, Given}
@@ -174,6 +179,10 @@ module _ (s : List ℕ) (t : List (List ℕ)) (r : Surveyed) (w : IndexIs s r t)
     languages : n ≡ length (packIn s .names)
     languages = found .languages ∙ ap (λ (x : Pack). length (x .names)) same
 
+    guessed-by : guesser s t g n ≡ guessedAt s g n
+    unfolding guesserBy
+    guessed-by = subst (λ (x : Surveyed). guesserBy (guesser s t) x ≡ guesserBy (guessedAt s) x) q (w .guessed)
+
     pub open-usable : (other : ℕ) → other ≡ namePlace any (stringsOf (take (g - 1) (drop 1 s))) → OpenedIs s t (Usable n g other)
     unfolding OpenedIs
     open-usable other o =
@@ -185,9 +194,16 @@ module _ (s : List ℕ) (t : List (List ℕ)) (r : Surveyed) (w : IndexIs s r t)
           any-is = is-any ∙ ap (λ (x : Pack). namePlace any (x .names)) same;
           any-below = omega (arith, is-any, found .languages, any-held s (found .pack) (found .is));
           finds = w .found;
+          guesses-by = guessed-by;
         }
 
 pub ruleset open-laws = (open-broken, names-start, names-end, any-there, open-usable, needs)
+
+-- ---- guessing by the table of a call that is ready
+
+pub start-guessed : {s : List ℕ} {table : List (List ℕ)} {call : Call} → CallReady s table call → (name : Text) (x : LanguageSet)
+    → setNumbers x ≡ setNumbers (guesser s table (call .guesses) (call .languages) name) → x ≡ guessedAt s (call .guesses) (call .languages) name
+start-guessed w name x e = set-one _ _ e ∙ ap (λ (f : Text → LanguageSet). f name) (w .pack .guesses-by)
 
 -- ---- a call of known settings
 

@@ -22,6 +22,7 @@ use Rattle.pack.specs.Packs.{accepted, refused, packOf, any, stringsLength}
 use Rattle.refusals.specs.declared.Refusal.the-variants.{TextTooLong, TooManyTexts, NoRoom}
 use Rattle.choices.specs.Texts.{Text}
 use Rattle.rule_index.specs.Contracts.{packIn, Finds}
+use Rattle.rule_index.specs.GuessContracts.{guesser}
 use Rattle.phoneme_builder.specs.declared.words.Worded.{Worded}
 use Rattle.phoneme_builder.specs.declared.words.Worded.the-variants.{Done, TooLong, TooMany}
 use Rattle.engine.specs.Spelling.{Spelt, unspelt, speltAs, Steps, or, onePart, eachWord, spelledName, afreshBy, partedAs}
@@ -50,7 +51,7 @@ spelledIn (key t f) room = pick (leb (length t) room) (spelled.Done (length t) f
 
 -- ---- the pack
 
--- the numbers of an accepted pack, and a table by which its rules are found
+-- the numbers of an accepted pack, and a table by which its rules are found and languages are guessed
 pub record UsablePack (s : List ℕ) (table : List (List ℕ)) (languages guesses other : ℕ) : Type 0 where
   pub is : packOf s ≡ accepted (packIn s)
   pub languages-are : languages ≡ length (packIn s .names)
@@ -58,6 +59,7 @@ pub record UsablePack (s : List ℕ) (table : List (List ℕ)) (languages guesse
   pub any-is : other ≡ namePlace any (packIn s .names)
   pub any-below : other < languages
   pub finds : Finds s table
+  pub guesses-by : guesser s table guesses languages ≡ guessedAt s guesses languages
 
 unfoldable pub OpenedIs : List ℕ → List (List ℕ) → Opened → Type 0
 OpenedIs s table (Usable languages guesses other) = UsablePack s table languages guesses other

@@ -10,7 +10,7 @@ ghost use Rattle.strings.specs.Reading.{stringsOf};
 ghost use Rattle.pack.specs.Packs.{any};
 ghost use Rattle.languages.specs.declared.sets.LanguageSet.the-variants.{Any};
 ghost use Rattle.engine.specs.Calls.{settingsKnown, kindKnown, haveLanguages, typeOf, startSet};
-ghost use Rattle.engine.specs.Contracts.{OpenedIs, isGuessed, callFor, withStart, startedBy};
+ghost use Rattle.engine.specs.Contracts.{OpenedIs, CallReady, isGuessed, callFor, withStart, startedBy};
 ghost use Rattle.pack.specs.Contracts.{guessedAt};
 use languages::LanguageSet;
 use languages::Listed;
@@ -233,20 +233,22 @@ pub(crate) fn afresh(call: Call) -> Call
 }
 
 // The set that a name starts with.
-fn start_of(pack: &[u8], call: Call, name: &[u8]) -> LanguageSet
+fn start_of(pack: &[u8], table: &Table, call: Call, name: &[u8]) -> LanguageSet
+    requires { ⌜ CallReady (now pack) (now table) call ⌝ }
     ensures { λ r. ⌜ r ≡ pick (call .fresh) (guessedAt (now (pack .entry)) (call .guesses) (call .languages) (now (name .entry))) (call .set) ⌝ }
 {
     if call.fresh {
-        pack::guess_languages(pack, call.guesses, call.languages, name)
+        rule_index::guess_languages(pack, table, call.guesses, call.languages, name)
     } else {
         call.set
     }
 }
 
 // The same call with that set.
-pub(crate) fn start_at(pack: &[u8], call: Call, name: &[u8]) -> Call
+pub(crate) fn start_at(pack: &[u8], table: &Table, call: Call, name: &[u8]) -> Call
+    requires { ⌜ CallReady (now pack) (now table) call ⌝ }
     ensures { λ r. ⌜ r ≡ startedBy call (guessedAt (now (pack .entry)) (call .guesses) (call .languages) (now (name .entry))) ⌝ }
 {
-    let set = start_of(pack, call, name);
+    let set = start_of(pack, table, call, name);
     with_start(call, false, set)
 }

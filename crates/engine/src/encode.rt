@@ -164,7 +164,7 @@ pub(crate) fn spell_part(
     requires { ⌜ length (now name) ≤ 96 ⌝ }
     ensures { λ r. ⌜ SpeltWhole (speltPart (now (pack .entry)) call (now (name .entry))) (now (out .entry)) (now (out .exit)) at r ⌝ }
 {
-    let by = start_at(pack, call, name);
+    let by = start_at(pack, table, call, name);
     if call.concat {
         let kind = call.kind;
         let mut joined = [0u8; 96];

@@ -165,13 +165,14 @@ fn spell_lowered(
 }
 
 // A name lower-cased at the front of a buffer, its languages guessed, and then its hyphens made spaces. Returns the call with its set.
-fn lower_name(pack: &[u8], call: Call, name: &[u8], low: &mut [u8]) -> Call
+fn lower_name(pack: &[u8], table: &Table, call: Call, name: &[u8], low: &mut [u8]) -> Call
+    requires { ⌜ CallReady (now pack) (now table) call ⌝ }
     requires { ⌜ (length (now name) ≤ 96) × (length (now low) ≡ 96) ⌝ }
     ensures { λ r. ⌜ LoweredIs (now (pack .entry)) call (now (name .entry)) (now (low .exit)) r ⌝ }
 {
     let n = name.len();
     lower_case::lower_into(name, low);
-    let by = start_at(pack, call, &low[0..n]);
+    let by = start_at(pack, table, call, &low[0..n]);
     name_parts::replace_hyphens(low);
     by
 }
@@ -192,7 +193,7 @@ fn spell_fine(
 {
     let n = name.len();
     let mut low = [0u8; 96];
-    let by = lower_name(pack, call, name, &mut low);
+    let by = lower_name(pack, table, call, name, &mut low);
     spell_lowered(store, slots, pack, table, by, &low[0..n], out)
 }
 
@@ -261,7 +262,7 @@ pub(crate) fn spell_at(
 pub fn spell(settings: Settings, start: Start, pack: &[u8], name: &[u8], out: &mut [u8]) -> Spelled
     ensures { λ r. ⌜ SpellIs (callOf settings start (now (pack .entry)) (now (name .entry))) (now (out .entry)) r (now (out .exit)) ⌝ }
 {
-    let mut table = [[0usize; 128]; 162];
+    let mut table = [[0usize; rule_index::COLUMNS]; rule_index::ROWS];
     let opened = open(pack, &mut table);
     let mut store = [[0u8; 32768]; 4];
     let mut slots = [[0u64; 256]; 4];

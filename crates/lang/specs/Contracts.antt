@@ -6,7 +6,7 @@ use mathlib.Core.List.{List, [], _∷_}
 use lib.Bits.{bitAnd, bitOr}
 use lib.Dec.{eqb, leb, ltb}
 use lib.ListN.{length, getD}
-use Rattle.base.specs.Pick.{pick, and}
+use Rattle.base.specs.Pick.{pick}
 use Rattle.lang.specs.Patterns.{middle}
 use Rattle.texts.specs.Parts.{opening, closing}
 
@@ -22,14 +22,15 @@ unfoldable pub signatureOf : List ℕ → ℕ
 signatureOf [] = 0
 signatureOf (x ∷ l) = bitOr (bitOf x) (signatureOf l)
 
-unfoldable pub hasBit : ℕ → ℕ → Bool
-hasBit bits b = not (eqb (bitAnd bits (bitOf b)) 0)
+-- the bits of the bytes outside the boxes; within a box none is looked at, up to its `]`
+unfoldable pub bitsIn : Bool → List ℕ → ℕ
+bitsIn inside [] = 0
+bitsIn inside (x ∷ l) =
+    pick inside (bitsIn (not (eqb x closing)) l) (pick (eqb x opening) (bitsIn true l) (bitOr (bitOf x) (bitsIn false l)))
 
--- each byte outside the boxes has its bit; within a box none is looked at, up to its `]`
-unfoldable pub mayIn : ℕ → Bool → List ℕ → Bool
-mayIn bits inside [] = true
-mayIn bits inside (x ∷ l) =
-    pick inside (mayIn bits (not (eqb x closing)) l) (pick (eqb x opening) (mayIn bits true l) (and (hasBit bits x) (mayIn bits false l)))
+-- what a pattern requires of the signature of a name that it matches
+unfoldable pub requiredOf : List ℕ → ℕ
+requiredOf p = bitsIn false (middle p)
 
-unfoldable pub mayMatch : List ℕ → ℕ → Bool
-mayMatch p bits = mayIn bits false (middle p)
+unfoldable pub hasBits : ℕ → ℕ → Bool
+hasBits signature required = eqb (bitAnd signature required) required

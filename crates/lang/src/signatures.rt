@@ -1,52 +1,57 @@
-// A name's signature, by which most patterns that do not match are passed over.
+// A name's signature and the bits that a pattern requires of it, by which most patterns that do not match are passed over.
 ghost use mathlib.Core.Path.{_≡_};
 ghost use mathlib.Core.Bool.{false};
-ghost use Rattle.lang.specs.Contracts.{signatureOf, hasBit, mayIn, mayMatch};
+ghost use Rattle.lang.specs.Contracts.{bitOf, signatureOf, bitsIn, requiredOf, hasBits};
 use crate::pieces::middle_of;
 use crate::pieces::piece_len;
 
-// The signature of a name: of each of its bytes one of 64 bits.
+// Of a byte one of 64 bits.
+fn bit_of(b: u8) -> u64
+    ensures { λ r. ⌜ r ≡ bitOf b ⌝ }
+{
+    1 << (b % 64)
+}
+
+// The signature of a name: the bits of its bytes.
 pub fn signature(name: &[u8]) -> u64
     ensures { λ r. ⌜ r ≡ signatureOf (now (name .entry)) ⌝ }
 {
     let mut i: usize = 0;
     let mut bits: u64 = 0;
     while i < name.len() {
-        let bit: u64 = 1 << (name[i] % 64);
-        bits = bits | bit;
+        bits = bits | bit_of(name[i]);
         i += 1;
     }
     bits
 }
 
-// Whether the signature has the bit of b.
-fn has_bit(bits: u64, b: u8) -> bool
-    ensures { λ r. ⌜ r ≡ hasBit bits b ⌝ }
-{
-    let bit: u64 = 1 << (b % 64);
-    bits & bit != 0
-}
-
-// Whether each byte of t that is outside its boxes has its bit in the signature.
-fn may_be_in(t: &[u8], bits: u64) -> bool
-    ensures { λ r. ⌜ r ≡ mayIn bits false (now (t .entry)) ⌝ }
+// The bits of the bytes of t that are outside its boxes.
+fn bits_in(t: &[u8]) -> u64
+    ensures { λ r. ⌜ r ≡ bitsIn false (now (t .entry)) ⌝ }
 {
     let mut q: usize = 0;
+    let mut bits: u64 = 0;
     while q < t.len() {
         if t[q] == b'[' {
             q += piece_len(&t[q..t.len()]);
-        } else if has_bit(bits, t[q]) {
-            q += 1;
         } else {
-            return false;
+            bits = bits | bit_of(t[q]);
+            q += 1;
         }
     }
-    true
+    bits
 }
 
-// Whether a name of this signature may match the pattern: where not, `matches` is false (Shortcuts: `may-not`).
-pub fn may_match(p: &[u8], bits: u64) -> bool
-    ensures { λ r. ⌜ r ≡ mayMatch (now (p .entry)) bits ⌝ }
+// The bits that a pattern requires: where a name's signature has not all of them, `matches` is false (Shortcuts: `lacking-not`).
+pub fn required_bits(p: &[u8]) -> u64
+    ensures { λ r. ⌜ r ≡ requiredOf (now (p .entry)) ⌝ }
 {
-    may_be_in(middle_of(p), bits)
+    bits_in(middle_of(p))
+}
+
+// Whether a signature has all of the required bits.
+pub fn has_bits(signature: u64, required: u64) -> bool
+    ensures { λ r. ⌜ r ≡ hasBits signature required ⌝ }
+{
+    signature & required == required
 }

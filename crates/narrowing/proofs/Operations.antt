@@ -18,9 +18,9 @@ use Rattle.languages.proofs.NumberLaws.{set-one}
 use Rattle.languages.proofs.CodedLaws.{narrow-and-test, left-not-empty}
 use Rattle.languages.proofs as code
 use Rattle.languages.proofs.sets.LanguageSet as sets
-use Rattle.pack.specs.Guessing.{guessed, leftOver}
-use Rattle.pack.specs.Contracts.{guessedAt}
-use Rattle.pack.proofs
+use Rattle.pack.specs.Guessing.{leftOver}
+use Rattle.rule_index.specs.GuessContracts.{guesser}
+use Rattle.rule_index.proofs
 use proofs.guess_languages
 
 -- request 6: of two sets of at most 32 languages, narrowing and the test together
@@ -44,10 +44,10 @@ left-over-not-empty : (m : ℕ) → isEmpty (leftOver m) ≡ false
 unfolding leftOver
 left-over-not-empty m = left-over-by m _ refl
 
--- nor from guessing, whatever the bytes of the pack and of the name are
+-- nor from guessing, whatever the bytes of the pack and of the name are, and whatever the table holds
 pub guessing-gives-no-empty-set : (κs : Lfts (guess_languages.ended .signature .lifetimes)) (a : Args (guess_languages.ended .signature) κs) (r : LanguageSet)
     (v : Lasts guess_languages.ended κs a) → guess_languages.Reads.Learnt κs a r (atExit guess_languages.ended κs a v) → isEmpty r ≡ false
-unfolding guessedAt guessed
+unfolding guesser
 guessing-gives-no-empty-set κs a r v told = ap isEmpty (set-one r _ told) ∙ left-over-not-empty _
 
 pub merge-is-merging : (κs : Lfts 0) (x y r : LanguageSet) (v : Lasts sets.merge.ended κs (x, (y, tt)))

@@ -1,4 +1,4 @@
--- A guessing rule by its places, the test of one, the loop over the section, and guessing. Assumes nothing.
+-- A guessing rule by its places, the test of one, and the loop over the section. Assumes nothing.
 use Prim.{Unit}
 use mathlib.Core.Path.{_≡_, refl, sym, ap, ap₂, _∙_}
 use mathlib.Core.Bool.{Bool, true, false, not}
@@ -15,17 +15,14 @@ use borrow.Author.Tests.{le-leb, lt-leb, lt-ltb, le-ltb, eq-eqb, ne-eqb}
 use Rattle.base.specs.Pick.{pick, and}
 use Rattle.strings.specs.declared.Next.{Next}
 use Rattle.strings.specs.declared.Next.the-variants as next
-use Rattle.languages.specs.declared.sets.LanguageSet.{LanguageSet}
 use Rattle.rule.specs.Matching.{ruleText}
-use Rattle.lang.specs.Patterns.{inForms, matchesOf}
-use Rattle.lang.specs.Contracts.{signatureOf, mayMatch}
-use Rattle.lang.proofs.Shortcuts.{may-not}
+use Rattle.lang.specs.Patterns.{inForms}
 use Rattle.strings.specs.Reading.{Read, cut, got, andRead, readByte, readNumber, readMany, placeIn}
 use Rattle.pack.specs
 use specs.Packs.{Guess, guess, readGuess, readGuesses, all, guessGood, guessesGood}
-use specs.Guessing.{narrowedBy, narrowedByAll, leftOver, allListed, guessed}
-use specs.Contracts.{endIn, allFrom, guessesFrom, placedGuess, guessStandsAt, guessesAt, guessedAt}
-use Rattle.strings.specs.Contracts.{ByteIs, numberAt, stringAt, behind, readSome}
+use specs.Guessing.{allListed}
+use specs.Contracts.{endIn, allFrom, guessesFrom, placedGuess, guessStandsAt}
+use Rattle.strings.specs.Contracts.{ByteIs, numberAt, stringAt}
 use Rattle.strings.specs.declared.Number.{Number}
 use Rattle.strings.specs.declared.Number.the-variants as number
 use specs.declared
@@ -36,7 +33,7 @@ use declared.guessing.GuessAt.the-variants as guesses
 use Rattle.pack.proofs
 use proofs.Readers.{guess-ends}
 use proofs.RuleLaws.{then-text}
-use Rattle.strings.proofs.Readers.{EndOf, end-here, place-drop, then-inv, byte-ends, number-ends, byte-some, byte-none, count-of, count-cut, mask-of, mask-cut, text-is, text-cut, text-then, some-one, some-cut}
+use Rattle.strings.proofs.Readers.{EndOf, end-here, place-drop, then-inv, byte-ends, number-ends, byte-some, byte-none, count-of, mask-of, mask-cut, text-is, text-cut, text-then}
 use Rattle.base.proofs.Arms.{clash}
 use proofs.Judging.{runs-out, fails, section-ends, section-faulty, judge-fine, judge-faulty, walk-on, walk-off, walk-end, counted-cut, counted-much, counted-many}
 use Rattle.base.proofs.PickLaws.{and-first, and-second}
@@ -272,46 +269,3 @@ module _ (s : List ℕ) (n at : ℕ) (r : Number) (p : r ≡ numberAt 2 s at) wh
     guesses-many = counted-many s readGuess (guessesGood n) (guessesFrom n) 4096 (section-not n) (section-is n) at r p k d q
 
 pub ruleset guesses-laws = (guesses-cut, guesses-much, guesses-start, guesses-many, needs)
-
--- ---- guessing: the rules from a place on narrow what is left
-
-pub record Narrowing (s name : List ℕ) (start count whole at left mask : ℕ) : Type 0 where
-  pub is : narrowedByAll name (readSome readGuess count (drop start s)) whole ≡ narrowedByAll name (readSome readGuess left (drop at s)) mask
-
-pub narrowing-start : (s name : List ℕ) (start count whole : ℕ) → Narrowing s name start count whole start count whole
-narrowing-start s name start count whole = record { is = refl }
-
--- a pattern that the name's signature rules out
-pub ruled-out : (p name : List ℕ) (bits : ℕ) (t : Bool) → bits ≡ signatureOf name → t ≡ mayMatch p bits → t ≡ false → false ≡ matchesOf p name
-ruled-out p name bits t e f q = sym (may-not p name (ap (mayMatch p) (sym e) ∙ sym f ∙ q))
-
-module _ {s name : List ℕ} {start count whole at left mask : ℕ} (w : Narrowing s name start count whole at left mask) where
-  module _ (x : GuessAt) (g : x ≡ guessStandsAt s at) where
-    pub narrowing-next : (b m a e k : ℕ) → 0 < left → x ≡ guesses.At b m a e → k ≡ narrowedBy name (guess b m (take (e - a) (drop a s))) mask
-        → Narrowing s name start count whole e (left - 1) k
-    unfolding narrowedByAll
-    narrowing-next b m a e k h q f = record {
-      is = w .is ∙ ap (λ (l : List Guess). narrowedByAll name l mask) (some-one readGuess left _ _ _ h (guess-is s at x g b m a e q .reads))
-          ∙ ap (narrowedByAll name (readSome readGuess (left - 1) (drop e s))) (sym f);
-    }
-
-    pub narrowing-cut : x ≡ guesses.Cut → mask ≡ narrowedByAll name (readSome readGuess count (drop start s)) whole
-    unfolding narrowedByAll
-    narrowing-cut q = sym (w .is ∙ ap (λ (l : List Guess). narrowedByAll name l mask) (some-cut readGuess left _ (guess-cut s at x g q)))
-
-  pub narrowing-done : left ≤ 0 → mask ≡ narrowedByAll name (readSome readGuess count (drop start s)) whole
-  unfolding narrowedByAll readSome
-  narrowing-done h = let none : left ≡ 0 = omega arith in sym (w .is ∙ ap (λ (n : ℕ). narrowedByAll name (readSome readGuess n (drop at s)) mask) none)
-
-pub ruleset narrowing-laws = (narrowing-start, guess-order, guess-fits, narrowing-next, narrowing-cut, narrowing-done, needs)
-
-module _ (s name : List ℕ) (place n whole : ℕ) (r : Number) (p : r ≡ numberAt 2 s place) (l : whole ≡ allListed (min 32 n)) (x : LanguageSet) where
-  pub guessed-none : r ≡ number.Cut → x ≡ leftOver whole → x ≡ guessedAt s place n name
-  unfolding guessedAt guessed guessesAt behind narrowedByAll
-  guessed-none q e = e ∙ rw (count-cut s place r p q) (ap leftOver l)
-
-  pub guessed-many : (k d m : ℕ) → r ≡ number.Of k d → m ≡ narrowedByAll name (readSome readGuess k (drop d s)) whole → x ≡ leftOver m → x ≡ guessedAt s place n name
-  unfolding guessedAt guessed guessesAt behind
-  guessed-many k d m q f e = e ∙ rw (count-of s place r k d p q .reads) (ap leftOver (f ∙ ap (narrowedByAll name (readSome readGuess k (drop d s))) l))
-
-pub ruleset guessed-laws = (guessed-none, guessed-many, needs)

@@ -356,6 +356,27 @@ guesses-all s place gs q e =
     let i = then-inv (readNumber 2 (drop place s)) _ gs q e in
     rw (i .2) (many-some readGuess (i .0) (i .1) gs q (i .3))
 
+-- a guessing section: its count, and so many rules behind it
+pub record GuessSection (s : List ℕ) (place : ℕ) : Type 0 where
+  pub few : ruleCount s place ≤ 4096
+  pub fits : place + 2 ≤ length s
+  pub rest : List ℕ
+  pub reads : readMany readGuess (ruleCount s place) (drop (place + 2) s) ≡ got (guessesAt s place) rest
+
+guess-section : (s : List ℕ) (place n : ℕ) (gs : List Guess) (q : List ℕ) → readGuesses (drop place s) ≡ got gs q → guessesGood n gs ≡ true → GuessSection s place
+unfolding readGuesses guessesGood ruleCount countIn numberAt numberIn
+guess-section s place n gs q e g =
+    let i = then-inv (readNumber 2 (drop place s)) _ gs q e in
+    let w = count-of s place _ (i .0) (placeIn s (i .1)) refl (ap (numberIn s) (i .2)) in
+    let rest : i .1 ≡ drop (place + 2) s = (let o = sym (i .2) ∙ w .reads in cc) ∙ ap (λ (k : ℕ). drop k s) (w .ends) in
+    let count : ruleCount s place ≡ i .0 = ap countIn (i .2) in
+    record {
+      few = omega (arith, count, many-length readGuess (i .0) (i .1) gs q (i .3), leb-true (length gs) 4096 (and-inv _ _ g .0));
+      fits = omega (arith, w .fits, w .ends);
+      rest = q;
+      reads = ap₂ (λ (k : ℕ) (l : List ℕ). readMany readGuess k l) count (sym rest) ∙ i .3 ∙ ap (λ (l : List Guess). got l q) (sym (guesses-all s place gs q e));
+    }
+
 -- ---- what an accepted pack gives, where g is the place of its guessing section
 
 module _ (s : List ℕ) (p : Pack) (g : ℕ) (e : packOf s ≡ accepted p) (q : g ≡ 1 + stringsLength (p .names)) where
@@ -387,6 +408,9 @@ module _ (s : List ℕ) (p : Pack) (g : ℕ) (e : packOf s ≡ accepted p) (q : 
   -- the guessing rules at g are the pack's
   pub guesses-held : guessesAt s g ≡ p .guesses
   guesses-held = ap (guessesAt s) (sym place-is) ∙ guesses-all s (is .guesses) (is .middle .value) _ (is .middle .reads) ∙ is .rules
+
+  pub guesses-whole : GuessSection s g
+  guesses-whole = subst (GuessSection s) place-is (guess-section s (is .guesses) _ _ _ (is .middle .reads) (is .middle .passes))
 
   -- so a guess by the numbers of a survey is a guess by the pack's rules
   pub guess-told : (name : List ℕ) → guessedAt s g (length (p .names)) name ≡ guessed (length (p .names)) (p .guesses) name

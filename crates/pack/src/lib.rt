@@ -1,9 +1,11 @@
-// The pack: checked once, read by places, and guessing over it.
+// The pack: checked once, and read by places.
 mod guessing;
 mod rules;
 mod sections;
 
-pub use guessing::guess_languages;
+pub use guessing::GuessAt;
+pub use guessing::guess_at;
+pub use guessing::listed_mask;
 pub use rules::RuleAt;
 pub use rules::rule_at;
 pub use rules::rule_count;

@@ -15,6 +15,8 @@ use Rattle.rule_lists.specs.declared.list_writing.Written.the-variants.{Done, R
 use Rattle.pack.specs.declared.sections.Surveyed.{Surveyed}
 use Rattle.rule_index.specs.Matching.{Matcher}
 use Rattle.rule_index.specs.Contracts.{matcher, seenIn}
+use Rattle.rule_index.specs.GuessContracts.{guesser, guesserBy}
+use Rattle.languages.specs.declared.sets.LanguageSet.{LanguageSet}
 use Rattle.phoneme_builder.specs.declared.words.Worded.{Worded}
 use Rattle.lower_case.proofs.LowerLaws.{lowered-one}
 use Rattle.languages.proofs.NumberLaws.{set-one, listed-one}
@@ -231,8 +233,11 @@ lang-matches κs a = (tt, λ x y v w p q. (one p q, refl))
 pub lang-signature : Settled lang.signature.ended lang.signature.Reads.Asked lang.signature.Reads.Learnt
 lang-signature κs a = (tt, λ x y v w p q. (one p q, refl))
 
-pub lang-may-match : Settled lang.may_match.ended lang.may_match.Reads.Asked lang.may_match.Reads.Learnt
-lang-may-match κs a = (tt, λ x y v w p q. (one p q, refl))
+pub lang-required-bits : Settled lang.required_bits.ended lang.required_bits.Reads.Asked lang.required_bits.Reads.Learnt
+lang-required-bits κs a = (tt, λ x y v w p q. (one p q, refl))
+
+pub lang-has-bits : Settled lang.has_bits.ended lang.has_bits.Reads.Asked lang.has_bits.Reads.Learnt
+lang-has-bits κs a = (tt, λ x y v w p q. (one p q, refl))
 
 -- ---- rule
 
@@ -275,8 +280,11 @@ pack-rule-at κs a = (tt, λ x y v w p q. (one p q, refl))
 pub pack-rule-count : Settled pack.rule_count.ended pack.rule_count.Reads.Asked pack.rule_count.Reads.Learnt
 pack-rule-count κs a = (tt, λ x y v w p q. (one p q, refl))
 
-pub pack-guess-languages : Settled pack.guess_languages.ended pack.guess_languages.Reads.Asked pack.guess_languages.Reads.Learnt
-pack-guess-languages κs a = (tt, λ x y v w p q. (set-one x y (one p q), refl))
+pub pack-guess-at : Settled pack.guess_at.ended pack.guess_at.Reads.Asked pack.guess_at.Reads.Learnt
+pack-guess-at κs a = (tt, λ x y v w p q. (one p q, refl))
+
+pub pack-listed-mask : Settled pack.listed_mask.ended pack.listed_mask.Reads.Asked pack.listed_mask.Reads.Learnt
+pack-listed-mask κs a = (tt, λ x y v w p q. (one p q, refl))
 
 pub pack-survey : Settled pack.survey.ended pack.survey.Reads.Asked pack.survey.Reads.Learnt
 pack-survey κs a = (tt, λ x y v w p q. content (λ o. (tt, (o, tt))) (survey-one p q))
@@ -331,13 +339,16 @@ pub «rule_lists-write-lists» : SettledBy rule_lists.write_lists.ended {B = Wri
 pub loader-load : Settled loader.load.ended loader.load.Reads.Asked loader.load.Reads.Learnt
 loader-load κs a = (tt, λ x y v w p q. content (λ o. (tt, (tt, (o, tt)))) (load-one _ _ p q))
 
--- ---- rule_index: of the table is told what is found by it, and of a match the expression and not its place
+-- ---- rule_index: of the table is told what is found and guessed by it, and of a match the expression and not its place
 
-pub «rule_index-index» : SettledBy rule_index.index.ended {B = Surveyed × (ℕ → Matcher)} (λ κs a x v. (x, matcher (now (a .0)) (v .1 .0))) rule_index.index.Reads.Asked rule_index.index.Reads.Learnt
+pub «rule_index-index» : SettledBy rule_index.index.ended {B = Surveyed × (ℕ → Matcher) × (List ℕ → LanguageSet)} (λ κs a x v. (x, matcher (now (a .0)) (v .1 .0), guesserBy (guesser (now (a .0)) (v .1 .0)) x)) rule_index.index.Reads.Asked rule_index.index.Reads.Learnt
 «rule_index-index» κs a = (tt, λ x y v w. index-one _ x y _ _)
 
 pub «rule_index-first-match» : SettledBy rule_index.first_match.ended (λ κs a x v. seenIn (now (a .0)) x) rule_index.first_match.Reads.Asked rule_index.first_match.Reads.Learnt
 «rule_index-first-match» κs a = (tt, λ x y v w. match-one _ _ _ _ x y)
+
+pub «rule_index-guess-languages» : Settled rule_index.guess_languages.ended rule_index.guess_languages.Reads.Asked rule_index.guess_languages.Reads.Learnt
+«rule_index-guess-languages» κs a = (tt, λ x y v w p q. (set-one x y (one p q), refl))
 
 -- ---- phoneme_builder: of its two work buffers `word` promises nothing; the third, `out`, is its seventh parameter
 

@@ -1,4 +1,6 @@
+pub mod CellLaws
 pub mod NumberLaws
 pub mod RowLaws
+pub mod GuessLaws
 pub mod TableLaws
 pub mod MatchLaws

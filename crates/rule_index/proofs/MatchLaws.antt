@@ -28,7 +28,8 @@ use Rattle.pack.proofs.RuleLaws.{RuleIs, rule-is, rule-cut, pattern-order, patt
 use Rattle.pack.proofs.Laws.{short-expression}
 use Rattle.rule_index.specs
 use specs.Matching.{Match, none, by, firstMatch}
-use specs.Contracts.{NUMBERS, rulesBetween, ruleIn, ruleOf, mayLead, leadOf, storedFor, LEADS, PLACES, FrontIs, numbered, foundIn, matcher, RuleIn, MatchIs, seen, seenIn}
+use specs.Rows.{placesRow, leadsRow, notedAt}
+use specs.Contracts.{NUMBERS, rulesBetween, ruleIn, ruleOf, mayLead, FrontIs, numbered, foundIn, matcher, RuleIn, MatchIs, seen, seenIn}
 use Rattle.rule_index.proofs.RowLaws.{orElse, first-append}
 use specs.declared
 use declared.numbers.Front.{Front}
@@ -177,8 +178,8 @@ module _ (s : List ℕ) (bytes : (i : ℕ) → Fits w8 (getD s i 0)) (word : Lis
 pub ruleset one-laws = (one-cut, one-missed, one-found, pattern-order, pattern-fits, left-order, left-fits, right-order, right-fits, needs)
 
 module _ (s : List ℕ) (table : List (List ℕ)) (number : ℕ) (word : List ℕ) (place : ℕ) {front : Front} (w : FrontIs (drop place word) front)
-    (z : Bool) (y : ℕ) (ey : y ≡ storedFor LEADS table number) (ez : z ≡ pick (eqb y (front .one)) true (eqb y (front .two))) where
-  led : mayLead (storedFor LEADS table number) (drop place word) ≡ z
+    (z : Bool) (y : ℕ) (ey : y ≡ notedAt table leadsRow number) (ez : z ≡ pick (eqb y (front .one)) true (eqb y (front .two))) where
+  led : mayLead (notedAt table leadsRow number) (drop place word) ≡ z
   unfolding mayLead
   led = sym (rw (w .one, w .two, ey) at ez)
 
@@ -186,10 +187,10 @@ module _ (s : List ℕ) (table : List (List ℕ)) (number : ℕ) (word : List �
   unfolding ruleOf
   number-over e = nothing-left s word place _ (pick-false _ _ _ (led ∙ e))
 
-  pub number-tried : (at : ℕ) (r : Matched) → z ≡ true → at ≡ storedFor PLACES table number
+  pub number-tried : (at : ℕ) (r : Matched) → z ≡ true → at ≡ notedAt table placesRow number
       → MatchIs s word place (firstMatch (ruleIn (readRule (drop at s))) word place) r → MatchIs s word place (firstMatch (ruleOf s table (drop place word) number) word place) r
   unfolding ruleOf
-  number-tried at r e f v = rw (pick-true _ (ruleIn (readRule (drop (storedFor PLACES table number) s))) [] (led ∙ e), ← f) v
+  number-tried at r e f v = rw (pick-true _ (ruleIn (readRule (drop (notedAt table placesRow number) s))) [] (led ∙ e), ← f) v
 
 pub ruleset number-laws = (number-over, number-tried, needs)
 

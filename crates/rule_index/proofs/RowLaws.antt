@@ -30,8 +30,11 @@ use Rattle.pack.proofs.RuleLaws.{RuleIs, rule-is, pattern-order, pattern-fits}
 use Rattle.pack.proofs.Laws.{RulesAt, one-rule, ListIs, good-rule, held-by, held-whole, list-held, list-told}
 use Rattle.rule_index.specs
 use specs.Matching.{Match, none, by, Matcher, firstMatch}
-use specs.Contracts.{NUMBERS, PLACES, LEADS, packIn, rulesBetween, storedFor, leadOf, mayLead, ruleIn, ruleOf, numbered, foundIn, notedIn, ListPlaced, RowReady, RowPlaces, numberedIn, Shaped, Agree, RowFinds, ListReady, ListIndexed}
-use Rattle.rule_index.proofs.NumberLaws.{set-here, set-shaped, numbered-shaped, numbered-place, numbered-lead, numbered-row, numbered-agree, agree-same, agree-then, agree-row}
+use specs.Rows.{placesRow, leadsRow, requiredRow, rows, Roomy, notedAt}
+use specs.Contracts.{NUMBERS, packIn, rulesBetween, leadOf, mayLead, ruleIn, ruleOf, numbered, foundIn, notedIn, ListPlaced, RowReady, RowPlaces, numberedIn, Agree, RowFinds, ListReady, ListIndexed}
+use Rattle.rule_index.proofs
+use proofs.CellLaws.{set-here, set-room}
+use proofs.NumberLaws.{numbered-room, numbered-place, numbered-lead, numbered-before, numbered-behind, numbered-agree, agree-same, agree-then, agree-row}
 
 -- ---- a rule whose pattern begins with a byte of another kind does not match, nor one with other first two bytes
 
@@ -238,8 +241,8 @@ pub record PlacedAt (s : List ℕ) (at : ℕ) (r : Rule) (next : ℕ) : Type 0 w
 -- a rule by its number
 pub record NumberedAt (s : List ℕ) (table : List (List ℕ)) (at : ℕ) (r : Rule) (next : ℕ) : Type 0 where
   pub rest : List ℕ
-  pub reads : readRule (drop (storedFor PLACES table at) s) ≡ got r rest
-  pub lead : storedFor LEADS table at ≡ leadOf (r .pattern)
+  pub reads : readRule (drop (notedAt table placesRow at) s) ≡ got r rest
+  pub lead : notedAt table leadsRow at ≡ leadOf (r .pattern)
   pub some : 0 < length (r .pattern)
   pub forward : next ≡ suc at
   pub few : at < NUMBERS
@@ -304,7 +307,7 @@ module _ (s : List ℕ) (table : List (List ℕ)) where
   may-not x t false e f = (eqb-false x (getD t 0 0) e, eqb-false x (leadOf t) (sym (pick-false _ _ _ e) ∙ f))
 
   -- the rule of a number is tried, or does not match
-  number-one : {at next : ℕ} {r : Rule} → NumberedAt s table at r next → (word : List ℕ) (place : ℕ) (x : Match) (z : Bool) → mayLead (storedFor LEADS table at) (drop place word) ≡ z
+  number-one : {at next : ℕ} {r : Rule} → NumberedAt s table at r next → (word : List ℕ) (place : ℕ) (x : Match) (z : Bool) → mayLead (notedAt table leadsRow at) (drop place word) ≡ z
       → pick (ruleMatches (r .pattern) (r .left) (r .right) word place) (by r) x ≡ orElse (firstMatch (ruleOf s table (drop place word) at) word place) x
   unfolding ruleOf ruleIn firstMatch orElse
   number-one {r = r} o word place x true e = rw (pick-true _ _ _ e, o .reads) (first-pick _ r x none x refl)
@@ -506,8 +509,9 @@ pub record Numbering (s : List ℕ) (t : List (List ℕ)) (list place first : �
   pub before : List Rule
   pub midway : Midway s (listAt s place) before at left
   pub row : list < 98
-  pub shape : Shaped table
-  pub others : (k : ℕ) → k < 98 → (k ≡ list → ⊥) → getD table k [] ≡ getD t k []
+  pub roomy : Roomy table
+  pub others : (k : ℕ) → k < placesRow → (k ≡ list → ⊥) → getD table k [] ≡ getD t k []
+  pub kept : (k : ℕ) → requiredRow ≤ k → getD table k [] ≡ getD t k []
   pub agree : Agree first t table
   pub more : first ≤ number
   pub room : number + left ≤ NUMBERS
@@ -522,8 +526,9 @@ module _ {s : List ℕ} {t : List (List ℕ)} {list place first : ℕ} (w : List
     before = [];
     midway = midway-start (w .placed) left e;
     row = w .row;
-    shape = w .shape;
+    roomy = w .room;
     others = λ k h n. refl;
+    kept = λ k h. refl;
     agree = agree-same;
     more = omega arith;
     room = omega (arith, w .few);
@@ -538,8 +543,9 @@ module _ {s : List ℕ} {t table : List (List ℕ)} {list place first at left nu
           sym (noted-found (numbered-found s u) (clear-found s u) (w .notes u a (getD word place 0 % 64) (omega arith)) .is word place refl)
           ∙ ap (λ (l : List Rule). firstMatch l word place) (midway-done (w .midway) h);
     };
-    shape = w .shape;
+    room = w .roomy;
     others = w .others;
+    kept = w .kept;
     agree = w .agree;
     more = w .more;
     few = omega (arith, w .room);
@@ -552,7 +558,7 @@ module _ {s : List ℕ} {t table : List (List ℕ)} {list place first at left nu
     pub numbering-free : number < NUMBERS
     numbering-free = omega (arith, w .room)
 
-    pub numbering-row : list < 162
+    pub numbering-row : list < rows
     numbering-row = omega (arith, w .row)
 
     module _ (pattern b c d e f g end : ℕ) (q : x ≡ rules.At pattern b c d e f g end) where
@@ -561,40 +567,43 @@ module _ {s : List ℕ} {t table : List (List ℕ)} {list place first at left nu
 
       module _ (kind : ℕ) (ek : kind ≡ getD s pattern 0 % 64) (y : ℕ) (ey : y ≡ leadOf (take (b - pattern) (drop pattern s)))
           (t₁ : List (List ℕ)) (et : t₁ ≡ numberedIn table number at y) where
-        shape₁ : Shaped t₁
-        shape₁ = rw et (numbered-shaped (w .shape) number numbering-free at y)
+        roomy₁ : Roomy t₁
+        roomy₁ = rw et (numbered-room (w .roomy) number numbering-free at y)
 
-        row₁ : (k : ℕ) → k < 98 → getD t₁ k [] ≡ getD table k []
-        row₁ k l = rw et (numbered-row (w .shape) number numbering-free at y k l)
+        row₁ : (k : ℕ) → k < placesRow → getD t₁ k [] ≡ getD table k []
+        row₁ k l = rw et (numbered-before (w .roomy) number numbering-free at y k l)
+
+        behind₁ : (k : ℕ) → requiredRow ≤ k → getD t₁ k [] ≡ getD table k []
+        behind₁ k l = rw et (numbered-behind (w .roomy) number numbering-free at y k l)
 
         agree₁ : Agree number table t₁
-        agree₁ = rw et (numbered-agree (w .shape) number numbering-free at y)
+        agree₁ = rw et (numbered-agree (w .roomy) number numbering-free at y)
 
         pub numbering-kind : kind + 64 < length (getD t₁ list [])
-        numbering-kind = omega (arith, shape₁ .wide list numbering-row)
+        numbering-kind = omega (arith, roomy₁ .wide list numbering-row)
 
         module _ (row′ : List ℕ) (er : row′ ≡ notedIn (getD t₁ list []) kind number (number + 1)) where
           agree₂ : {n : ℕ} → Agree n t₁ (set t₁ list row′)
-          agree₂ = agree-row shape₁ list (w .row) row′
+          agree₂ = agree-row roomy₁ list (w .row) row′
 
           long-row : length row′ ≡ 128
-          long-row = note-long (getD t₁ list []) row′ kind number (number + 1) numbering-kind er ∙ shape₁ .wide list numbering-row
+          long-row = note-long (getD t₁ list []) row′ kind number (number + 1) numbering-kind er ∙ roomy₁ .wide list numbering-row
 
           module _ (u : List (List ℕ)) (a : Agree (number + 1) (set t₁ list row′) u) where
-            placed-here : storedFor PLACES u number ≡ at
+            placed-here : notedAt u placesRow number ≡ at
             placed-here =
                 a .places number (omega arith) ∙ agree₂ {n = number + 1} .places number (omega arith)
-                ∙ ap (λ (v : List (List ℕ)). storedFor PLACES v number) et ∙ numbered-place (w .shape) number numbering-free at y
+                ∙ ap (λ (v : List (List ℕ)). notedAt v placesRow number) et ∙ numbered-place (w .roomy) number numbering-free at y
 
-            lead-here : storedFor LEADS u number ≡ y
+            lead-here : notedAt u leadsRow number ≡ y
             lead-here =
                 a .leads number (omega arith) ∙ agree₂ {n = number + 1} .leads number (omega arith)
-                ∙ ap (λ (v : List (List ℕ)). storedFor LEADS v number) et ∙ numbered-lead (w .shape) number numbering-free at y
+                ∙ ap (λ (v : List (List ℕ)). notedAt v leadsRow number) et ∙ numbered-lead (w .roomy) number numbering-free at y
 
             turn-notes : RowNotes (NumberedAt s u) (foundIn s u) (w .before ++ rule-here (w .midway) h x o pattern b c d e f g end q .value ∷ []) (number + 1) (getD (set t₁ list row′) list [])
             turn-notes =
                 let v = rule-here (w .midway) h x o pattern b c d e f g end q in
-                rw (set-here shape₁ list numbering-row row′)
+                rw (set-here roomy₁ list numbering-row row′)
                 (row-notes (getD t₁ list []) row′ kind number (number + 1) numbering-kind er (numbered-found s u) {before = w .before} {r = v .value}
                 (record {
                   rest = drop end s;
@@ -613,8 +622,9 @@ module _ {s : List ℕ} {t table : List (List ℕ)} {list place first at left nu
             before = w .before ++ rule-here (w .midway) h x o pattern b c d e f g end q .value ∷ [];
             midway = midway-next (w .midway) h x o pattern b c d e f g end q;
             row = w .row;
-            shape = set-shaped shape₁ list numbering-row row′ long-row;
+            roomy = set-room roomy₁ list numbering-row row′ long-row;
             others = λ k l n. getD-set-other t₁ list k row′ [] n ∙ row₁ k l ∙ w .others k l n;
+            kept = λ k l. getD-set-other t₁ list k row′ [] (λ n. omega (arith, w .row)) ∙ behind₁ k l ∙ w .kept k l;
             agree = agree-then (w .more) (w .agree) (agree-then (omega arith) agree₁ (agree₂ {n = number}));
             more = omega (arith, w .more);
             room = omega (arith, w .room);

@@ -17,6 +17,8 @@ use Rattle.pack.specs.Packs.{Pack, Verdict, accepted, refused, listCount, packO
 use Rattle.rule_lines.specs.Rules.{Rule}
 use Rattle.pack.specs.PlaceContracts.{placesOf, surveyedOf, ruleCount, listAt, SurveyIs}
 use Rattle.pack.specs.Numbers.{surveyedNumbers}
+use Rattle.pack.specs.Contracts.{guessedAt}
+use Rattle.languages.specs.declared.sets.LanguageSet.{LanguageSet}
 use Rattle.pack.specs.declared.sections.Surveyed.{Surveyed}
 use Rattle.pack.specs.declared.sections.Surveyed.the-variants as surveyed
 use Rattle.base.proofs.Arms.{clash}
@@ -24,10 +26,14 @@ use Rattle.pack.proofs.NumberLaws.{surveyed-one}
 use Rattle.pack.proofs.Laws.{RulesAt, no-rule, one-rule, good-rule, languages-few, lists-counted, places-counted, list-held, list-told, SurveyedPack, surveyed-pack}
 use Rattle.rule_index.specs
 use specs.Matching.{none, Matcher, firstMatch}
-use specs.Contracts.{NUMBERS, packBy, packIn, foundIn, matcher, Blank, ListPlaced, RowReady, RowPlaces, Shaped, Agree, RowFinds, ListReady, ListIndexed, ListsReady, Finds, IndexIs}
+use specs.Rows.{placesRow, requiredRow, rows, Roomy}
+use specs.GuessContracts.{guesser, guesserBy, GuessesReady, GuessesNoted}
+use specs.Contracts.{NUMBERS, packBy, packIn, foundIn, matcher, Blank, ListPlaced, RowReady, RowPlaces, Agree, RowFinds, ListReady, ListIndexed, ListsReady, Finds, ListsFound, IndexIs}
 use Rattle.rule_index.proofs
-use proofs.NumberLaws.{set-here, set-shaped, agree-same, agree-then, agree-row}
+use proofs.CellLaws.{set-here, set-room}
+use proofs.NumberLaws.{agree-same, agree-then, agree-row}
 use proofs.RowLaws.{never-past, clear-found}
+use proofs.GuessLaws.{guesser-kept}
 
 -- ---- a list matches nothing behind a word
 
@@ -73,7 +79,7 @@ module _ {s : List ℕ} {table : List (List ℕ)} {list place free : ℕ} (w : L
   pub indexing-few : free ≤ NUMBERS
   indexing-few = w .few
 
-  pub indexing-row : list < 162
+  pub indexing-row : list < rows
   indexing-row = omega (arith, w .row)
 
   pub indexing-room : (count : ℕ) → count ≡ ruleCount s place → count ≤ NUMBERS - free → ruleCount s place ≤ NUMBERS - free
@@ -84,10 +90,11 @@ module _ {s : List ℕ} {table : List (List ℕ)} {list place free : ℕ} (w : L
 
   pub indexing-placed : (row : List ℕ) → RowPlaces s row (listAt s place) → ListIndexed s table (set table list row) list place free free
   indexing-placed row v = record {
-    finds = rw (set-here (w .shape) list indexing-row row) (record { found = λ u a. v .found u });
-    shape = set-shaped (w .shape) list indexing-row row (v .long);
+    finds = rw (set-here (w .room) list indexing-row row) (record { found = λ u a. v .found u });
+    room = set-room (w .room) list indexing-row row (v .long);
     others = λ k h n. getD-set-other table list k row [] n;
-    agree = agree-row (w .shape) list (w .row) row;
+    kept = λ k h. getD-set-other table list k row [] (λ n. omega (arith, w .row));
+    agree = agree-row (w .room) list (w .row) row;
     more = omega arith;
     few = w .few;
   }
@@ -97,11 +104,12 @@ pub ruleset indexing-laws = (indexing-few, indexing-row, indexing-room, indexing
 -- ---- the loop over the lists
 
 -- the rows before the k-th find the rules of their lists, and the others are blank
-pub record Listing (s places : List ℕ) (lists : ℕ) (table : List (List ℕ)) (k free : ℕ) : Type 0 where
+pub record Listing (s places : List ℕ) (lists : ℕ) (t table : List (List ℕ)) (k free : ℕ) : Type 0 where
   pub is : packOf s ≡ accepted (packIn s)
   pub counted : lists ≡ listCount (length (packIn s .names))
   pub held : (j : ℕ) → j < lists → getD places j 0 ≡ getD (placesOf s) j 0
-  pub shape : Shaped table
+  pub roomy : Roomy table
+  pub kept : (j : ℕ) → requiredRow ≤ j → getD table j [] ≡ getD t j []
   pub blank : (j : ℕ) → k ≤ j → j < 98 → Blank (getD table j [])
   pub found : (j : ℕ) → j < k → RowFinds s table free (getD table j []) (getD (packIn s .lists) j [])
   pub within : k ≤ lists
@@ -109,13 +117,14 @@ pub record Listing (s places : List ℕ) (lists : ℕ) (table : List (List ℕ))
   pub long : length places ≡ 98
   pub room : free ≤ NUMBERS
 
-pub listing-start : {s places : List ℕ} {lists : ℕ} {table : List (List ℕ)} → ListsReady s places lists table → Listing s places lists table 0 0
+pub listing-start : {s places : List ℕ} {lists : ℕ} {table : List (List ℕ)} → ListsReady s places lists table → Listing s places lists table table 0 0
 unfolding listCount
 listing-start {s} w = record {
   is = w .is;
   counted = w .counted;
   held = w .held;
-  shape = w .shape;
+  roomy = w .room;
+  kept = λ j h. refl;
   blank = λ j l h. w .blank j h;
   found = λ j h. let no-way : ⊥ = omega arith in absurd no-way;
   within = zero-le;
@@ -124,7 +133,7 @@ listing-start {s} w = record {
   room = omega arith;
 }
 
-module _ {s places : List ℕ} {lists k free : ℕ} {table : List (List ℕ)} (w : Listing s places lists table k free) where
+module _ {s places : List ℕ} {lists k free : ℕ} {t table : List (List ℕ)} (w : Listing s places lists t table k free) where
   many : length (packIn s .lists) ≡ lists
   many = lists-counted s (packIn s) (1 + stringsLength (packIn s .names)) (w .is) refl ∙ sym (w .counted)
 
@@ -140,8 +149,8 @@ module _ {s places : List ℕ} {lists k free : ℕ} {table : List (List ℕ)} (w
       subst (λ (rs : List Rule). RowFinds s table free (getD table j []) rs) (sym (no-list (packIn s .lists) j (omega (arith, many, ltb-false j lists e))))
       (blank-finds (w .blank j (omega (arith, ltb-false j lists e)) l))
 
-  pub listing-done : lists ≤ k → Finds s table
-  listing-done h = finds s table free (λ j l. row-by h j l _ refl) (λ j word place l. past-by j word place l _ refl) (omega (arith, many))
+  pub listing-done : lists ≤ k → ListsFound s t table
+  listing-done h = record { found = finds s table free (λ j l. row-by h j l _ refl) (λ j word place l. past-by j word place l _ refl) (omega (arith, many)); kept = w .kept }
 
   module _ (h : k < lists) where
     pub listing-place : k < length places
@@ -151,7 +160,7 @@ module _ {s places : List ℕ} {lists k free : ℕ} {table : List (List ℕ)} (w
     listing-next = record {
       placed = record { is = w .is; list = k; known = rw (← w .counted) h; held = w .held k h };
       row = omega arith;
-      shape = w .shape;
+      room = w .roomy;
       blank = w .blank k (omega arith) (omega arith);
       few = w .room;
     }
@@ -170,12 +179,13 @@ module _ {s places : List ℕ} {lists k free : ℕ} {table : List (List ℕ)} (w
           let same : j ≡ k = omega arith in
           rw same row-told
 
-      pub listing-turn : Listing s places lists u (k + 1) free′
+      pub listing-turn : Listing s places lists t u (k + 1) free′
       listing-turn = record {
         is = w .is;
         counted = w .counted;
         held = w .held;
-        shape = v .shape;
+        roomy = v .room;
+        kept = λ j l. v .kept j l ∙ w .kept j l;
         blank = λ j l m. subst Blank (sym (v .others j m (λ n. omega arith))) (w .blank j (omega arith) m);
         found = λ j l. found-by j l _ refl;
         within = omega arith;
@@ -200,7 +210,7 @@ module _ {s t t′ : List ℕ} {r : Surveyed} (w : SurveyIs s t r t′) where
 
   -- a refused pack has no list
   pub index-refused : {table : List (List ℕ)} → ((k : ℕ) → k < 98 → Blank (getD table k [])) → (place : ℕ) → r ≡ surveyed.Refused place → IndexIs s (surveyed.Refused place) table
-  unfolding firstMatch
+  unfolding firstMatch guesserBy
   index-refused {table} blank place q =
       let none-there : packIn s .lists ≡ [] = refused-by place _ refl (sym (surveyed-one _ _ (w .result)) ∙ q) in
       let empty : (k : ℕ) → getD (packIn s .lists) k [] ≡ [] = λ k. ap (λ (l : List (List Rule)). getD l k []) none-there in
@@ -208,11 +218,17 @@ module _ {s t t′ : List ℕ} {r : Surveyed} (w : SurveyIs s t r t′) where
         result = ap surveyedNumbers (sym q) ∙ w .result;
         found = finds s table 0 (λ k h. subst (λ (l : List Rule). RowFinds s table 0 (getD table k []) l) (sym (empty k)) (blank-finds (blank k h)))
             (λ k word place h. ap (λ (l : List Rule). firstMatch l word place) (empty k)) (omega (arith, ap length none-there));
+        guessed = refl;
       }
 
   module _ (n g : ℕ) (q : r ≡ surveyed.Accepted n g) where
-    pub index-accepted : {table : List (List ℕ)} → Finds s table → IndexIs s (surveyed.Accepted n g) table
-    index-accepted f = record { result = ap surveyedNumbers (sym q) ∙ w .result; found = f }
+    pub index-accepted : {blank noted table : List (List ℕ)} → GuessesNoted s g blank noted → ListsFound s noted table → IndexIs s (surveyed.Accepted n g) table
+    unfolding guesserBy
+    index-accepted {noted = noted} {table = table} v f = record {
+      result = ap surveyedNumbers (sym q) ∙ w .result;
+      found = f .found;
+      guessed = ap (λ (a : ℕ → List ℕ → LanguageSet). a n) (guesser-kept s noted table g (f .kept) ∙ v .guessed);
+    }
 
     there : SurveyedPack s n g
     there = surveyed-pack s n g r (surveyed-one _ _ (w .result)) q
@@ -233,38 +249,42 @@ module _ {s t t′ : List ℕ} {r : Surveyed} (w : SurveyIs s t r t′) where
     unfolding listCount
     lists-many = ap listCount (there .languages ∙ ap (λ (p : Pack). length (p .names)) (sym same))
 
-    pub index-ready : {table : List (List ℕ)} → length t ≡ 98 → Shaped table → ((k : ℕ) → k < 98 → Blank (getD table k [])) → ListsReady s t′ (3 * n + 2) table
-    index-ready long shape blank =
+    pub index-ready : {blank table : List (List ℕ)} → GuessesNoted s g blank table → length t ≡ 98 → ((k : ℕ) → k < 98 → Blank (getD blank k []))
+        → ListsReady s t′ (3 * n + 2) table
+    index-ready v long blank =
         let room : length (placesOf s) ≡ 3 * n + 2 = places-counted s (packIn s) g (there .is ∙ ap accepted (sym same)) (there .guesses ∙ ap (λ (p : Pack). 1 + stringsLength (p .names)) (sym same)) ∙ sym lists-many in
         record {
           is = there .is ∙ ap accepted (sym same);
           counted = lists-many;
           long = ap length (w .buffer) ∙ length-sets t 0 (placesOf s) ∙ long;
           held = λ k h. ap (λ (x : List ℕ). getD x k 0) (w .buffer ∙ sets-eq (placesOf s) t 0 (omega (arith, long, few))) ∙ List·getD-append (placesOf s) _ 0 k (omega arith);
-          shape = shape;
-          blank = blank;
+          room = v .room;
+          blank = λ k h. subst Blank (sym (v .kept k (omega arith))) (blank k h);
         }
+
+    pub index-guesses : {table : List (List ℕ)} → Roomy table → GuessesReady s g table
+    index-guesses room = record { pack = there .pack; is = there .is; held = there .guesses; room = room }
 
 -- ---- a new table
 
 pub zeros-long : length (replicate {A = ℕ} 98 0) ≡ 98
 zeros-long = length-replicate {A = ℕ} 98 0
 
-pub zeros-shaped : (n m : ℕ) → n ≡ 162 → m ≡ 128 → Shaped (replicate n (replicate m 0))
-zeros-shaped n m en em = record {
-  many = length-replicate n (replicate m 0) ∙ en;
-  wide = λ k h. ap length (getD-replicate n k (replicate m 0) [] (omega arith)) ∙ length-replicate m 0 ∙ em;
-}
+pub zeros-roomy : (n m : ℕ) → n ≡ rows → m ≡ 128 → Roomy (replicate n (replicate m 0))
+zeros-roomy n m en em = record { wide = λ k h. ap length (getD-replicate n k _ [] (omega arith)) ∙ length-replicate m 0 ∙ em }
 
-pub zeros-blank : (n m : ℕ) → n ≡ 162 → m ≡ 128 → (k : ℕ) → k < 98 → Blank (getD (replicate n (replicate m 0)) k [])
+pub zeros-blank : (n m : ℕ) → n ≡ rows → m ≡ 128 → (k : ℕ) → k < 98 → Blank (getD (replicate n (replicate m 0)) k [])
 zeros-blank n m en em k h =
     subst Blank (sym (getD-replicate n k _ [] (omega arith)))
     (record { long = length-replicate m 0 ∙ em; clear = λ kind l. getD-replicate m (kind + 64) 0 0 (omega arith) })
 
-pub ruleset survey-laws = (index-refused, index-accepted, thrice-fits, lists-fit, index-ready, zeros-long, zeros-shaped, zeros-blank, needs)
+pub ruleset survey-laws = (index-refused, index-accepted, thrice-fits, lists-fit, index-guesses, index-ready, zeros-long, zeros-roomy, zeros-blank, needs)
 
 -- the promise of `index` allows one answer, and one table as far as it is looked at
-pub index-one : (s : List ℕ) (r r′ : Surveyed) (t t′ : List (List ℕ)) → IndexIs s r t → IndexIs s r′ t′ → _≡_ {A = Surveyed × (ℕ → Matcher)} (r, matcher s t) (r′, matcher s t′)
+pub index-one : (s : List ℕ) (r r′ : Surveyed) (t t′ : List (List ℕ)) → IndexIs s r t → IndexIs s r′ t′
+    → _≡_ {A = Surveyed × (ℕ → Matcher) × (List ℕ → LanguageSet)} (r, matcher s t, guesserBy (guesser s t) r) (r′, matcher s t′, guesserBy (guesser s t′) r′)
 index-one s r r′ t t′ a b =
+    let verdict : r ≡ r′ = surveyed-one _ _ (one (a .result) (b .result)) in
     let same : matcher s t ≡ matcher s t′ = λ i k. (a .found k ∙ sym (b .found k)) i in
-    ap₂ (λ (x : Surveyed) (m : ℕ → Matcher). (x, m)) (surveyed-one _ _ (one (a .result) (b .result))) same
+    let guesses : guesserBy (guesser s t) r ≡ guesserBy (guesser s t′) r′ = a .guessed ∙ ap (guesserBy (guessedAt s)) verdict ∙ sym (b .guessed) in
+    λ i. (verdict i, same i, guesses i)

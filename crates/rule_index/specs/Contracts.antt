@@ -1,7 +1,7 @@
 -- The table by which the rules of a pack's lists are looked up: a row for each of 98 lists, which has for each of 64 kinds of byte the number of
 -- the first rule to try, and behind those the number behind the last one; and of each number its rule's place and the first two bytes of its pattern.
 -- What is over 4,096 is no number but a place of the pack, put behind the numbers.
-use Prim.Native.Nat.{ℕ, zero, suc, _+_, _-_, _*_, _/_, _%_, _≤_, _<_, max}
+use Prim.Native.Nat.{ℕ, zero, suc, _+_, _-_, _*_, _%_, _≤_, _<_, max}
 use mathlib.Core.Path.{_≡_}
 use mathlib.Core.Bool.{Bool, true}
 use mathlib.Core.List.{List, [], _∷_, _++_}
@@ -15,6 +15,9 @@ use Rattle.pack.specs.PlaceContracts.{surveyedOf, placesOf, listAt}
 use Rattle.strings.specs.Contracts.{behind}
 use Rattle.pack.specs.Numbers.{surveyedNumbers}
 use Rattle.pack.specs.declared.sections.Surveyed.{Surveyed}
+use Rattle.pack.specs.Contracts.{guessedAt}
+use Rattle.rule_index.specs.Rows.{placesRow, leadsRow, requiredRow, Roomy, notedAt, putAt}
+use Rattle.rule_index.specs.GuessContracts.{guesser, guesserBy}
 use Rattle.rule_index.specs.Matching.{Match, none, by, Matcher, firstMatch}
 use Rattle.rule_index.specs.declared.numbers.Front.{Front}
 use Rattle.rule_index.specs.declared.matching.Matched.{Matched}
@@ -37,19 +40,9 @@ unfoldable pub rulesBetween : ℕ → List ℕ → ℕ → ℕ → List Rule
 rulesBetween zero s at stop = []
 rulesBetween (suc f) s at stop = pick (ltb at stop) (behind (readRule (drop at s)) (λ r q. r ∷ rulesBetween f s (placeIn s q) stop)) []
 
--- how many rules have a number, the first row of their places, and of the first two bytes of their patterns
+-- how many rules have a number
 abbrev pub NUMBERS : ℕ
 NUMBERS = 4096
-
-abbrev pub PLACES : ℕ
-PLACES = 98
-
-abbrev pub LEADS : ℕ
-LEADS = 130
-
--- what the rows from one on hold for a number
-unfoldable pub storedFor : ℕ → List (List ℕ) → ℕ → ℕ
-storedFor base table e = getD (getD table (base + e / 128) []) (e % 128) 0
 
 -- the first two bytes of a text as one number
 abbrev pub leadOf : List ℕ → ℕ
@@ -65,7 +58,7 @@ ruleIn (got r q) = r ∷ []
 
 -- the rule of a number, where it is tried before a text
 unfoldable pub ruleOf : List ℕ → List (List ℕ) → List ℕ → ℕ → List Rule
-ruleOf s table t e = pick (mayLead (storedFor LEADS table e) t) (ruleIn (readRule (drop (storedFor PLACES table e) s))) []
+ruleOf s table t e = pick (mayLead (notedAt table leadsRow e) t) (ruleIn (readRule (drop (notedAt table placesRow e) s))) []
 
 -- those of n numbers from e on
 unfoldable pub numbered : List ℕ → List (List ℕ) → List ℕ → ℕ → ℕ → List Rule
@@ -165,22 +158,14 @@ pub record RowPlaces (s row : List ℕ) (rules : List Rule) : Type 0 where
 
 -- ---- the table
 
--- x stored for a number, in the rows from one on
-unfoldable pub storing : ℕ → List (List ℕ) → ℕ → ℕ → List (List ℕ)
-storing base table e x = set table (base + e / 128) (set (getD table (base + e / 128) []) (e % 128) x)
-
+-- a rule stored for a number: its place, and the first two bytes of its pattern
 abbrev pub numberedIn : List (List ℕ) → ℕ → ℕ → ℕ → List (List ℕ)
-numberedIn table e place lead = storing LEADS (storing PLACES table e place) e lead
-
--- its rows
-pub record Shaped (table : List (List ℕ)) : Type 0 where
-  pub many : length table ≡ 162
-  pub wide : (k : ℕ) → k < 162 → length (getD table k []) ≡ 128
+numberedIn table e place lead = putAt (putAt table placesRow e place) leadsRow e lead
 
 -- two tables have the same rules for the numbers below n
 pub record Agree (n : ℕ) (t u : List (List ℕ)) : Type 0 where
-  pub places : (e : ℕ) → e < n → storedFor PLACES u e ≡ storedFor PLACES t e
-  pub leads : (e : ℕ) → e < n → storedFor LEADS u e ≡ storedFor LEADS t e
+  pub places : (e : ℕ) → e < n → notedAt u placesRow e ≡ notedAt t placesRow e
+  pub leads : (e : ℕ) → e < n → notedAt u leadsRow e ≡ notedAt t leadsRow e
 
 -- by a row the rules of a list are found, whatever is stored for the numbers from n on
 pub record RowFinds (s : List ℕ) (table : List (List ℕ)) (n : ℕ) (row : List ℕ) (rules : List Rule) : Type 0 where
@@ -190,15 +175,16 @@ pub record RowFinds (s : List ℕ) (table : List (List ℕ)) (n : ℕ) (row : Li
 pub record ListReady (s : List ℕ) (table : List (List ℕ)) (list place free : ℕ) : Type 0 where
   pub placed : ListPlaced s place
   pub row : list < 98
-  pub shape : Shaped table
+  pub room : Roomy table
   pub blank : Blank (getD table list [])
   pub few : free ≤ NUMBERS
 
--- the list is found by its row; the other rows of lists and the numbers that were not free are as they were
+-- the list is found by its row; the other rows of lists, the numbers that were not free and what is noted of guessing rules are as they were
 pub record ListIndexed (s : List ℕ) (t u : List (List ℕ)) (list place free free′ : ℕ) : Type 0 where
   pub finds : RowFinds s u free′ (getD u list []) (listAt s place)
-  pub shape : Shaped u
-  pub others : (k : ℕ) → k < 98 → (k ≡ list → ⊥) → getD u k [] ≡ getD t k []
+  pub room : Roomy u
+  pub others : (k : ℕ) → k < placesRow → (k ≡ list → ⊥) → getD u k [] ≡ getD t k []
+  pub kept : (k : ℕ) → requiredRow ≤ k → getD u k [] ≡ getD t k []
   pub agree : Agree free t u
   pub more : free ≤ free′
   pub few : free′ ≤ NUMBERS
@@ -209,14 +195,20 @@ pub record ListsReady (s places : List ℕ) (lists : ℕ) (table : List (List �
   pub counted : lists ≡ listCount (length (packIn s .names))
   pub long : length places ≡ 98
   pub held : (k : ℕ) → k < lists → getD places k 0 ≡ getD (placesOf s) k 0
-  pub shape : Shaped table
+  pub room : Roomy table
   pub blank : (k : ℕ) → k < 98 → Blank (getD table k [])
 
 -- by a table the rules of a pack's lists are found, and no others
 abbrev pub Finds : List ℕ → List (List ℕ) → Type 0
 Finds s table = (k : ℕ) → matcher s table k ≡ firstMatch (getD (packIn s .lists) k [])
 
--- the promise of `index`: the verdict of a survey, and what is found by the table
+-- the same, and the rows of what is noted of guessing rules are as they were
+pub record ListsFound (s : List ℕ) (table table′ : List (List ℕ)) : Type 0 where
+  pub found : Finds s table′
+  pub kept : (k : ℕ) → requiredRow ≤ k → getD table′ k [] ≡ getD table k []
+
+-- the promise of `index`: the verdict of a survey, what is found by the table, and what is guessed by it
 pub record IndexIs (s : List ℕ) (r : Surveyed) (table : List (List ℕ)) : Type 0 where
   pub result : surveyedNumbers r ≡ surveyedNumbers (surveyedOf (packOf s))
   pub found : Finds s table
+  pub guessed : guesserBy (guesser s table) r ≡ guesserBy (guessedAt s) r

@@ -2,24 +2,21 @@
 ghost use mathlib.Core.Path.{_≡_};
 ghost use Prim.Native.Nat.{_+_, _-_, _%_, _≤_, _<_};
 ghost use lib.ListN.{length, getD};
-ghost use Rattle.rule_index.specs.Contracts.{notedIn, RowReady, RowPlaces, ListReady, ListIndexed, ListsReady, Finds, IndexIs};
+ghost use Rattle.rule_index.specs.Contracts.{notedIn, RowReady, RowPlaces, ListReady, ListIndexed, ListsReady, ListsFound, IndexIs};
 ghost use Rattle.pack.specs.PlaceContracts.{ruleCount, listAt};
-use crate::numbers::NUMBERS;
+use crate::guessing::note_guesses;
 use crate::numbers::lead_of;
 use crate::numbers::number_rule;
+use crate::rows::COLUMNS;
+use crate::rows::LISTS;
+use crate::rows::NUMBERS;
+use crate::rows::ROWS;
+use crate::rows::Table;
 use pack::RuleAt;
 use pack::Surveyed;
 
-// A pack has 3 lists for each of at most 32 languages, and 2 more.
-pub(crate) const LISTS: usize = 98;
-
 // Bytes are told apart by their lower six bits.
 pub(crate) const KINDS: usize = 64;
-
-// A row for each list: for each kind of byte the number of the first rule to try, and behind those the number behind the last one (0
-// where there is none). Of a list for which no numbers are left they are places in the pack, told apart by being over NUMBERS. Behind
-// these rows stand those of the numbered rules.
-pub type Table = [[usize; 128]; 162];
 
 // A rule from one number or place to the next noted in a row: the first of its kind, or the last so far.
 fn note(row: &mut [usize], kind: usize, at: usize, end: usize)
@@ -134,7 +131,7 @@ fn index_list(pack: &[u8], table: &mut Table, list: usize, place: usize, free: u
 // The lists at their places, each noted in its row.
 fn index_lists(pack: &[u8], places: &[usize], lists: usize, table: &mut Table)
     requires { ⌜ ListsReady (now pack) (now places) lists (now table) ⌝ }
-    ensures { λ r. ⌜ Finds (now (pack .entry)) (now (table .exit)) ⌝ }
+    ensures { λ r. ⌜ ListsFound (now (pack .entry)) (now (table .entry)) (now (table .exit)) ⌝ }
 {
     let mut k: usize = 0;
     let mut free: usize = 0;
@@ -148,10 +145,11 @@ fn index_lists(pack: &[u8], places: &[usize], lists: usize, table: &mut Table)
 pub fn index(pack: &[u8], table: &mut Table) -> Surveyed
     ensures { λ r. ⌜ IndexIs (now (pack .entry)) r (now (table .exit)) ⌝ }
 {
-    *table = [[0usize; 128]; 162];
+    *table = [[0usize; COLUMNS]; ROWS];
     let mut places = [0usize; LISTS];
     match pack::survey(pack, &mut places) {
         Surveyed::Accepted { languages, guesses } => {
+            note_guesses(pack, guesses, table);
             index_lists(pack, &places, 3 * languages + 2, table);
             Surveyed::Accepted { languages, guesses }
         }

@@ -4,15 +4,15 @@ ghost use Prim.Native.Nat.{_≤_, _<_, _-_, max};
 ghost use lib.ListN.{length, drop};
 ghost use Rattle.rule_index.specs.Contracts.{foundIn, MatchIs, FrontIs, OneMatch, NumberMatch, FirstNumbered, FirstBetween, FirstMatch};
 use crate::indexing::KINDS;
-use crate::indexing::LISTS;
-use crate::indexing::Table;
 use crate::numbers::Front;
-use crate::numbers::LEADS;
-use crate::numbers::NUMBERS;
-use crate::numbers::PLACES;
 use crate::numbers::front_of;
 use crate::numbers::may_lead;
-use crate::numbers::number_at;
+use crate::rows::LEADS;
+use crate::rows::LISTS;
+use crate::rows::NUMBERS;
+use crate::rows::PLACES;
+use crate::rows::Table;
+use crate::rows::noted_at;
 use pack::RuleAt;
 
 // The rule that matches: how far its pattern reaches, and where its expression stands in the pack.
@@ -128,8 +128,8 @@ fn try_number(
     requires { ⌜ (number < 4096) × (place < length (now word)) × FrontIs (drop place (now word)) front ⌝ }
     ensures { λ r. ⌜ NumberMatch (now (pack .entry)) (now (table .entry)) number (now (word .entry)) place r ⌝ }
 {
-    if may_lead(number_at(table, LEADS, number), front) {
-        match_one(pack, number_at(table, PLACES, number), word, place)
+    if may_lead(noted_at(table, LEADS, number), front) {
+        match_one(pack, noted_at(table, PLACES, number), word, place)
     } else {
         Matched::Nothing
     }

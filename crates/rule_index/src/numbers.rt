@@ -1,22 +1,14 @@
 // The numbered rules of a table: of each its place in the pack and the first two bytes of its pattern, by which it is mostly passed over.
 ghost use mathlib.Core.Path.{_≡_};
-ghost use Prim.Native.Nat.{_≤_, _<_};
+ghost use Prim.Native.Nat.{_<_};
 ghost use mathlib.Core.Bool.{true};
 ghost use lib.Dec.{eqb};
 ghost use Rattle.base.specs.Pick.{pick};
-ghost use Rattle.rule_index.specs.Contracts.{storedFor, numberedIn, leadOf, FrontIs};
-use crate::indexing::Table;
-
-// So many rules of a pack get a number.
-pub(crate) const NUMBERS: usize = 4096;
-
-// The numbers that a row of the table holds.
-const WIDTH: usize = 128;
-
-// The first rows of the places and of the first two bytes.
-pub(crate) const PLACES: usize = 98;
-
-pub(crate) const LEADS: usize = 130;
+ghost use Rattle.rule_index.specs.Contracts.{numberedIn, leadOf, FrontIs};
+use crate::rows::LEADS;
+use crate::rows::PLACES;
+use crate::rows::Table;
+use crate::rows::put_at;
 
 // The front of a word's rest: its first byte, and its first two as one number.
 pub(crate) struct Front {
@@ -24,23 +16,13 @@ pub(crate) struct Front {
     pub(crate) two: usize,
 }
 
-// What the rows from `base` on hold for a number.
-pub(crate) fn number_at(table: &Table, base: usize, number: usize) -> usize
-    requires { ⌜ (base ≤ 130) × (number < 4096) ⌝ }
-    ensures { λ r. ⌜ r ≡ storedFor base (now (table .entry)) number ⌝ }
-{
-    table[base + number / WIDTH][number % WIDTH]
-}
-
 // The place of a rule and the first two bytes of its pattern stored for its number.
 pub(crate) fn number_rule(table: &mut Table, number: usize, place: usize, lead: usize)
     requires { ⌜ number < 4096 ⌝ }
     ensures { λ r. ⌜ now (table .exit) ≡ numberedIn (now (table .entry)) number place lead ⌝ }
 {
-    let row = number / WIDTH;
-    let column = number % WIDTH;
-    table[PLACES + row][column] = place;
-    table[LEADS + row][column] = lead;
+    put_at(table, PLACES, number, place);
+    put_at(table, LEADS, number, lead);
 }
 
 // The first two bytes of a text as one number.

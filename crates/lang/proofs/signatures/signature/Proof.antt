@@ -13,5 +13,5 @@ abbrev μ-loop : tie.MeasureT-loop
 
 pub signature-spec : {M : Type 1} → statement M
 signature-spec =
-    tie.close (tie.spec Inv-loop μ-loop (λ c. search signing-laws) (λ c. search signing-laws) (λ c. search signing-laws) (λ c. search signing-laws)
-    (λ c. search signing-laws) (λ c. search signing-laws) (λ c. search signing-laws) (λ c. search signing-laws))
+    tie.close (tie.spec Inv-loop μ-loop (λ c. search signing-laws) (λ c. search signing-laws) (λ c κs. search signing-laws) (λ c. search signing-laws)
+    (λ c. search signing-laws) (λ c. search signing-laws) (λ c. search signing-laws))

@@ -1,9 +1,9 @@
 use borrow.Author.Needs.{needs}
+use Rattle.base.proofs.PickLaws.{cases}
 use Rattle.pack.specs.Guessing.{narrowedBy}
-use Rattle.pack.proofs
+use Rattle.rule_index.proofs
 use proofs.guessing.narrow.Statement.{statement}
 use proofs.guessing.narrow.Tie as tie
-use Rattle.base.proofs.PickLaws.{cases}
 
 pub narrow-spec : {M : Type 1} → statement M
 unfolding narrowedBy

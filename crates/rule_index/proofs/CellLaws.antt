@@ -1,0 +1,87 @@
+-- What is stored as a number of the table is read again, and nothing else changes. Assumes nothing.
+use borrow.Author.Needs.{needs}
+use mathlib.Core.Path.{_≡_, sym, ap, subst, _∙_}
+use mathlib.Core.List.{List, [], _∷_}
+use Prim.Native.Nat.{ℕ, zero, suc, _+_, _/_, _%_, _≤_, _<_}
+use native.Mathlib.Decide.{ℕ-discrete}
+use native.Mathlib.Omega.{arith}
+use lib.ListN.{length, getD, set, length-set}
+use lib.Seq.{getD-set-same, getD-set-other}
+use Rattle.rule_index.specs.Rows.{placesRow, guessRow, rows, Roomy, notedAt, putAt}
+
+-- ---- a number of the table
+
+-- a row that is there lies in the table
+pub row-within : (table : List (List ℕ)) (k : ℕ) → length (getD table k []) ≡ 128 → k < length table
+row-within [] k h = let no-way : ⊥ = omega arith in absurd no-way
+row-within (x ∷ table) zero h = omega arith
+row-within (x ∷ table) (suc k) h = omega (arith, row-within table k h)
+
+-- one that is stored, and any other
+cell-same : (table : List (List ℕ)) (a b x : ℕ) → length (getD table a []) ≡ 128 → b < 128 → getD (getD (set table a (set (getD table a []) b x)) a []) b 0 ≡ x
+cell-same table a b x long h = rw (getD-set-same table a _ [] (row-within table a long)) (getD-set-same (getD table a []) b x 0 (omega arith))
+
+cell-other : (table : List (List ℕ)) (a b x c d : ℕ) → length (getD table a []) ≡ 128 → (a ≡ c → b ≡ d → ⊥)
+    → getD (getD (set table a (set (getD table a []) b x)) c []) d 0 ≡ getD (getD table c []) d 0
+cell-other table a b x c d long n = elim (ℕ-discrete a c) [
+  | yes e ↦ subst (λ (k : ℕ). getD (getD (set table a (set (getD table a []) b x)) k []) d 0 ≡ getD (getD table k []) d 0) e
+      (rw (getD-set-same table a _ [] (row-within table a long)) (getD-set-other (getD table a []) b d x 0 (λ q. n e (sym q))))
+  | no e ↦ ap (λ (l : List ℕ). getD l d 0) (getD-set-other table a c _ [] (λ q. e (sym q)))
+]
+
+module _ (table : List (List ℕ)) (row i x : ℕ) (room : Roomy table) (low : row ≤ guessRow) (h : i < 4096) where
+  long : length (getD table (row + i / 128) []) ≡ 128
+  long = room .wide (row + i / 128) (omega arith)
+
+  pub put-same : notedAt (putAt table row i x) row i ≡ x
+  unfolding notedAt putAt
+  put-same = cell-same table (row + i / 128) (i % 128) x long (omega arith)
+
+  pub put-other : (at j : ℕ) → (row + i / 128 ≡ at + j / 128 → i % 128 ≡ j % 128 → ⊥) → notedAt (putAt table row i x) at j ≡ notedAt table at j
+  unfolding notedAt putAt
+  put-other at j n = cell-other table (row + i / 128) (i % 128) x (at + j / 128) (j % 128) long n
+
+  put-wide : (k : ℕ) → k < rows → length (getD (putAt table row i x) k []) ≡ 128
+  unfolding putAt
+  put-wide k l = elim (ℕ-discrete (row + i / 128) k) [
+    | yes e ↦ subst (λ (n : ℕ). length (getD (set table (row + i / 128) (set (getD table (row + i / 128) []) (i % 128) x)) n []) ≡ 128) e
+        (rw (getD-set-same table (row + i / 128) _ [] (row-within table (row + i / 128) long)) (length-set (getD table (row + i / 128) []) (i % 128) x ∙ long))
+    | no e ↦ ap length (getD-set-other table (row + i / 128) k _ [] (λ q. e (sym q))) ∙ room .wide k l
+  ]
+
+  pub put-room : Roomy (putAt table row i x)
+  put-room = record { wide = put-wide }
+
+  pub put-before : (k : ℕ) → k < row → getD (putAt table row i x) k [] ≡ getD table k []
+  unfolding putAt
+  put-before k l = getD-set-other table (row + i / 128) k _ [] (λ q. omega arith)
+
+  pub put-behind : (k : ℕ) → row + 32 ≤ k → getD (putAt table row i x) k [] ≡ getD table k []
+  unfolding putAt
+  put-behind k l = getD-set-other table (row + i / 128) k _ [] (λ q. omega arith)
+
+-- two stored, one after the other
+pub put-both : (table t t′ : List (List ℕ)) (a b i x y : ℕ) → t ≡ putAt table a i x → t′ ≡ putAt t b i y → t′ ≡ putAt (putAt table a i x) b i y
+put-both table t t′ a b i x y e f = f ∙ ap (λ (u : List (List ℕ)). putAt u b i y) e
+
+pub ruleset put-laws = (put-both, needs)
+
+-- ---- a row replaced
+
+module _ {t : List (List ℕ)} (w : Roomy t) (k : ℕ) (h : k < rows) (row : List ℕ) where
+  pub set-here : getD (set t k row) k [] ≡ row
+  set-here = getD-set-same t k row [] (row-within t k (w .wide k h))
+
+  set-wide : length row ≡ 128 → (j : ℕ) → j < rows → length (getD (set t k row) j []) ≡ 128
+  set-wide l j m = elim (ℕ-discrete j k) [
+    | yes e ↦ rw (e, set-here) l
+    | no e ↦ rw (getD-set-other t k j row [] e) (w .wide j m)
+  ]
+
+  pub set-room : length row ≡ 128 → Roomy (set t k row)
+  set-room l = record { wide = set-wide l }
+
+  -- the rows of lists hold no numbers
+  pub set-noted : k < placesRow → (base i : ℕ) → placesRow ≤ base → notedAt (set t k row) base i ≡ notedAt t base i
+  unfolding notedAt
+  set-noted l base i m = ap (λ (r : List ℕ). getD r (i % 128) 0) (getD-set-other t k (base + i / 128) row [] (λ q. omega arith))

@@ -1,0 +1,33 @@
+-- The rows of the table: one for each of 98 lists, and behind those the numbers that are noted of rules and of guessing rules.
+use Prim.Native.Nat.{ℕ, _+_, _/_, _%_, _<_}
+use mathlib.Core.Path.{_≡_}
+use mathlib.Core.List.{List, []}
+use lib.ListN.{length, getD, set}
+
+-- the first row of the rules' places, of the first two bytes of their patterns, of what guessing rules require, and of their places
+abbrev pub placesRow : ℕ
+placesRow = 98
+
+abbrev pub leadsRow : ℕ
+leadsRow = placesRow + 32
+
+abbrev pub requiredRow : ℕ
+requiredRow = leadsRow + 32
+
+abbrev pub guessRow : ℕ
+guessRow = requiredRow + 32
+
+-- the rows of the whole table
+abbrev pub rows : ℕ
+rows = guessRow + 32
+
+-- each row has 128 numbers
+pub record Roomy (table : List (List ℕ)) : Type 0 where
+  pub wide : (k : ℕ) → k < rows → length (getD table k []) ≡ 128
+
+-- the i-th number from a row on, read and stored
+unfoldable pub notedAt : List (List ℕ) → ℕ → ℕ → ℕ
+notedAt table row i = getD (getD table (row + i / 128) []) (i % 128) 0
+
+unfoldable pub putAt : List (List ℕ) → ℕ → ℕ → ℕ → List (List ℕ)
+putAt table row i x = set table (row + i / 128) (set (getD table (row + i / 128) []) (i % 128) x)

@@ -1,0 +1,146 @@
+// Guessing the languages of a name by what the table has of the guessing rules: the bits that each requires, and where it stands.
+ghost use mathlib.Core.Path.{_≡_};
+ghost use Prim.Native.Nat.{_≤_, _<_, min};
+ghost use lib.ListN.{drop};
+ghost use Rattle.lang.specs.Contracts.{signatureOf};
+ghost use Rattle.languages.specs.Numbers.{setNumbers};
+ghost use Rattle.pack.specs.Packs.{guess, readGuess};
+ghost use Rattle.pack.specs.PlaceContracts.{ruleCount};
+ghost use Rattle.pack.specs.Guessing.{narrowedBy, leftOver};
+ghost use Rattle.rule_index.specs.Rows.{requiredRow, guessRow, putAt};
+ghost use Rattle.rule_index.specs.GuessContracts.{narrowedIn, narrowedNoted, narrowedByFirst, guesser, GuessesReady, GuessesNoted};
+use crate::rows::GUESSES;
+use crate::rows::NUMBERS;
+use crate::rows::REQUIRED;
+use crate::rows::Table;
+use crate::rows::noted_at;
+use crate::rows::put_at;
+use languages::LanguageSet;
+use pack::GuessAt;
+
+// The i-th guessing rule noted: what it requires, and its place.
+fn note_guess(table: &mut Table, i: usize, required: u64, place: usize)
+    requires { ⌜ i < 4096 ⌝ }
+    ensures { λ r. ⌜ now (table .exit) ≡ putAt (putAt (now (table .entry)) requiredRow i required) guessRow i place ⌝ }
+{
+    put_at(table, REQUIRED, i, required as usize);
+    put_at(table, GUESSES, i, place);
+}
+
+// The guessing rules of the section at a place noted in a table.
+pub(crate) fn note_guesses(pack: &[u8], guesses: usize, table: &mut Table)
+    requires { ⌜ GuessesReady (now pack) guesses (now table) ⌝ }
+    ensures { λ r. ⌜ GuessesNoted (now (pack .entry)) guesses (now (table .entry)) (now (table .exit)) ⌝ }
+{
+    let count = pack::rule_count(pack, guesses) as usize;
+    let mut i: usize = 0;
+    let mut at = guesses + 2;
+    while i < count {
+        match pack::guess_at(pack, at) {
+            GuessAt::At {
+                accept: _,
+                mask: _,
+                start,
+                end,
+            } => {
+                note_guess(table, i, lang::required_bits(&pack[start..end]), at);
+                at = end;
+                i += 1;
+            }
+            GuessAt::Cut => {
+                return;
+            }
+        }
+    }
+}
+
+// The languages of `left` narrowed by a guessing rule, where its pattern matches.
+fn narrow(left: u32, accept: u32, mask: u32, pattern: &[u8], name: &[u8]) -> u32
+    ensures { λ r. ⌜ r ≡ narrowedBy (now (name .entry)) (guess accept mask (now (pattern .entry))) left ⌝ }
+{
+    if lang::matches(pattern, name) {
+        if accept == 0 {
+            languages::subtract(left, mask)
+        } else {
+            left & mask
+        }
+    } else {
+        left
+    }
+}
+
+// The same by the guessing rule at a place; they stay as they are where bytes run out.
+fn narrow_at(pack: &[u8], at: usize, left: u32, name: &[u8]) -> u32
+    ensures { λ r. ⌜ r ≡ narrowedIn (now (name .entry)) (readGuess (drop at (now (pack .entry)))) left ⌝ }
+{
+    match pack::guess_at(pack, at) {
+        GuessAt::At {
+            accept,
+            mask,
+            start,
+            end,
+        } => narrow(left, accept, mask, &pack[start..end], name),
+        GuessAt::Cut => left,
+    }
+}
+
+// The same by the i-th guessing rule, for a name of this signature: it is not read where the name lacks what it requires.
+fn narrow_noted(pack: &[u8], table: &Table, i: usize, left: u32, name: &[u8], signature: u64) -> u32
+    requires { ⌜ i < 4096 ⌝ }
+    requires { ⌜ signature ≡ signatureOf (now name) ⌝ }
+    ensures { λ r. ⌜ r ≡ narrowedNoted (now (pack .entry)) (now (table .entry)) (now (name .entry)) i left ⌝ }
+{
+    if lang::has_bits(signature, noted_at(table, REQUIRED, i) as u64) {
+        narrow_at(pack, noted_at(table, GUESSES, i), left, name)
+    } else {
+        left
+    }
+}
+
+// The same by the first `count` guessing rules.
+fn narrow_all(pack: &[u8], table: &Table, count: usize, all: u32, name: &[u8]) -> u32
+    requires { ⌜ count ≤ 4096 ⌝ }
+    ensures { λ r. ⌜ r ≡ narrowedByFirst (now (pack .entry)) (now (table .entry)) (now (name .entry)) count all ⌝ }
+{
+    let signature = lang::signature(name);
+    let mut left = all;
+    let mut i: usize = 0;
+    while i < count {
+        left = narrow_noted(pack, table, i, left, name, signature);
+        i += 1;
+    }
+    left
+}
+
+// How many guessing rules of the section at a place are noted.
+fn noted_count(pack: &[u8], guesses: usize) -> usize
+    ensures { λ r. ⌜ r ≡ min 4096 (ruleCount (now (pack .entry)) guesses) ⌝ }
+{
+    let count = pack::rule_count(pack, guesses) as usize;
+    if count < NUMBERS { count } else { NUMBERS }
+}
+
+// The set of what is left; "nothing left means Any".
+fn left_over(left: u32) -> LanguageSet
+    ensures { λ r. ⌜ r ≡ leftOver left ⌝ }
+{
+    if left == 0 {
+        LanguageSet::Any
+    } else {
+        LanguageSet::SomeLanguages(left)
+    }
+}
+
+// The languages that a lower-cased name is guessed to have, by the table and the guessing section at the place `guesses` of `pack`.
+pub fn guess_languages(
+    pack: &[u8],
+    table: &Table,
+    guesses: usize,
+    languages: usize,
+    name: &[u8],
+) -> LanguageSet
+    ensures { λ r. ⌜ setNumbers r ≡ setNumbers (guesser (now (pack .entry)) (now (table .entry)) guesses languages (now (name .entry))) ⌝ }
+{
+    let all = pack::listed_mask(languages);
+    left_over(narrow_all(pack, table, noted_count(pack, guesses), all, name))
+}

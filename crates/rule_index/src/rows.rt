@@ -1,0 +1,46 @@
+// The rows of the table, and the numbers that those behind the lists' hold.
+ghost use mathlib.Core.Path.{_≡_};
+ghost use Prim.Native.Nat.{_≤_, _<_};
+ghost use Rattle.rule_index.specs.Rows.{guessRow, notedAt, putAt};
+
+// A pack has 3 lists for each of at most 32 languages, and 2 more.
+pub(crate) const LISTS: usize = 98;
+
+// The numbers of a row.
+pub const COLUMNS: usize = 128;
+
+// So many numbers are held of a kind: a pack has no more guessing rules, and no more rules of its lists are numbered.
+pub(crate) const NUMBERS: usize = 4096;
+
+// The first rows of the rules' places, of the first two bytes of their patterns, of what guessing rules require, and of their places.
+pub(crate) const PLACES: usize = LISTS;
+
+pub(crate) const LEADS: usize = PLACES + NUMBERS / COLUMNS;
+
+pub(crate) const REQUIRED: usize = LEADS + NUMBERS / COLUMNS;
+
+pub(crate) const GUESSES: usize = REQUIRED + NUMBERS / COLUMNS;
+
+// The rows of the whole table.
+pub const ROWS: usize = GUESSES + NUMBERS / COLUMNS;
+
+// A row for each list: for each kind of byte the number of the first rule to try, and behind those the number behind the last one (0
+// where there is none). Of a list for which no numbers are left they are places in the pack, told apart by being over NUMBERS. Behind
+// these rows stand those of the numbered rules and of the guessing rules.
+pub type Table = [[usize; COLUMNS]; ROWS];
+
+// A number stored as the i-th from a row on.
+pub(crate) fn put_at(table: &mut Table, row: usize, i: usize, value: usize)
+    requires { ⌜ (row ≤ guessRow) × (i < 4096) ⌝ }
+    ensures { λ r. ⌜ now (table .exit) ≡ putAt (now (table .entry)) row i value ⌝ }
+{
+    table[row + i / COLUMNS][i % COLUMNS] = value;
+}
+
+// The i-th number from a row on.
+pub(crate) fn noted_at(table: &Table, row: usize, i: usize) -> usize
+    requires { ⌜ (row ≤ guessRow) × (i < 4096) ⌝ }
+    ensures { λ r. ⌜ r ≡ notedAt (now (table .entry)) row i ⌝ }
+{
+    table[row + i / COLUMNS][i % COLUMNS]
+}
