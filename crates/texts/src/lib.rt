@@ -82,8 +82,8 @@ pub fn without_dollar(s: &[u8]) -> &[u8]
     }
 }
 
-// Whether the character k is among those of l.
-pub fn has_char(l: &[u8], k: u32) -> bool
+// Whether the character k is among those of l, read character by character.
+fn reads_char(l: &[u8], k: u32) -> bool
     ensures { λ r. ⌜ r ≡ has k (codesOf (now (l .entry))) ⌝ }
 {
     let mut p: usize = 0;
@@ -102,5 +102,16 @@ pub fn has_char(l: &[u8], k: u32) -> bool
                 return false;
             }
         }
+    }
+}
+
+// Whether the character k is among those of l. One of a single byte is told by its bytes: no other character has that byte.
+pub fn has_char(l: &[u8], k: u32) -> bool
+    ensures { λ r. ⌜ r ≡ has k (codesOf (now (l .entry))) ⌝ }
+{
+    if k < 0x80 {
+        find_byte(l, k as u8) < l.len()
+    } else {
+        reads_char(l, k)
     }
 }
