@@ -190,19 +190,36 @@ unfolding firstIs has placeOf
 opening-first [] q = clash (cc)
 opening-first (x ∷ t) q = ap (λ (n : ℕ). ltb n (suc (length t))) (pick-true _ _ _ q) ∙ lt-ltb 0 (suc (length t)) (omega arith)
 
+-- where the test comes first, and then that nothing is outside the forms
+module _ (w o x : Bool) where
+  pub test-first : w ≡ x → w ≡ true → not o ≡ pick o false x
+  test-first e v = not-pick o ∙ ap (pick o false) (sym v ∙ e)
+
+  pub test-fails : w ≡ x → w ≡ false → false ≡ pick o false x
+  test-fails e v = pick-all (λ (b : Bool). false ≡ b) o false x refl (sym v ∙ e)
+
+pub only-fits : (i x : List ℕ) (s e : Bool) (w o : Bool) → w ≡ boxFits i s e x → o ≡ has opening i → w ≡ true → not o ≡ pick (has opening i) false (boxFits i s e x)
+only-fits i x s e w o f h v = rw (← h) (test-first w o _ f v)
+
+pub only-fails : (i x : List ℕ) (s e : Bool) (w : Bool) → w ≡ boxFits i s e x → w ≡ false → false ≡ pick (has opening i) false (boxFits i s e x)
+only-fails i x s e w f v = test-fails w _ _ f v
+
 module _ (s e : Bool) (t : List ℕ) (f : Bool) (g : f ≡ firstIs opening t) where
-  module _ (u : Bool) (b : u ≡ boxed t) (q : f ≡ true) where
+  module _ (q : f ≡ true) (l : Bool) (k : l ≡ lastIs closing t) where
     opened : true ≡ has opening t
     opened = sym (opening-first t (sym g ∙ q))
 
-    pub fits-by-box : (i x : List ℕ) (r : Bool) → u ≡ true → i ≡ boxInner t → r ≡ boxFits i s e x → r ≡ fits (formIn s e t) x
-    unfolding boxFits
-    fits-by-box i x r v j f =
-        f ∙ ap (λ (y : List ℕ). boxFits y s e x) j ∙ sym (ap (λ (y : Form). fits y x) (in-box s e t true opened u b refl v) ∙ fits-box s e _ _ x)
+    box-by : (x : List ℕ) (o : Bool) → o ≡ has opening (boxInner t) → l ≡ true → pick o false (boxFits (boxInner t) s e x) ≡ fits (formIn s e t) x
+    unfolding fits pick boxFits
+    box-by x true h v = sym (ap (λ (y : Form). fits y x) (in-none s e t true opened false (boxed-by t f g l k (boxInner t) true refl h q v) refl refl))
+    box-by x false h v = sym (ap (λ (y : Form). fits y x) (in-box s e t true opened true (boxed-by t f g l k (boxInner t) false refl h q v) refl refl) ∙ fits-box s e _ _ x)
 
-    pub fits-by-none : (x : List ℕ) → u ≡ false → false ≡ fits (formIn s e t) x
+    pub fits-by-box : (i x : List ℕ) (r : Bool) → l ≡ true → i ≡ boxInner t → r ≡ pick (has opening i) false (boxFits i s e x) → r ≡ fits (formIn s e t) x
+    fits-by-box i x r v j h = h ∙ ap (λ (y : List ℕ). pick (has opening y) false (boxFits y s e x)) j ∙ box-by x _ refl v
+
+    pub fits-by-none : (x : List ℕ) → l ≡ false → false ≡ fits (formIn s e t) x
     unfolding fits
-    fits-by-none x v = sym (ap (λ (y : Form). fits y x) (in-none s e t true opened u b refl v))
+    fits-by-none x v = sym (ap (λ (y : Form). fits y x) (in-none s e t true opened false (boxed-open t f g l k q v) refl refl))
 
   module _ (q : f ≡ false) (x : List ℕ) where
     literal-by : (h : Bool) → h ≡ has opening t → pick h false (literalFits t s e x) ≡ fits (formIn s e t) x
@@ -212,10 +229,10 @@ module _ (s e : Bool) (t : List ℕ) (f : Bool) (g : f ≡ firstIs opening t) wh
 
     module _ (w : Bool) (l : w ≡ literalFits t s e x) where
       pub fits-by-literal : (h : Bool) → h ≡ has opening t → w ≡ true → not h ≡ fits (formIn s e t) x
-      fits-by-literal h o v = not-pick h ∙ ap (pick h false) (sym v ∙ l) ∙ literal-by h o
+      fits-by-literal h o v = test-first w h _ l v ∙ literal-by h o
 
       pub fits-by-other : w ≡ false → false ≡ fits (formIn s e t) x
-      fits-by-other v = pick-all (λ (b : Bool). false ≡ b) _ _ _ refl (sym v ∙ l) ∙ literal-by (has opening t) refl
+      fits-by-other v = test-fails w _ _ l v ∙ literal-by (has opening t) refl
 
 -- ---- anchors put on and taken off again
 
@@ -304,4 +321,4 @@ char-absent hit l a e = sym (ap (charFits hit l) e)
 
 pub ruleset part-laws = (inner-none, inner-some, has-by, boxed-not, boxed-open, boxed-by, else-code, else-absent, needs)
 
-pub ruleset form-laws = (kind-by-literal, kind-by-box, kind-by-none, fits-by-literal, fits-by-other, fits-by-box, fits-by-none, left-empty, right-empty, left-kind, right-kind, left-fit, right-fit, box-fit, char-member, char-other, char-absent, needs)
+pub ruleset form-laws = (kind-by-literal, kind-by-box, kind-by-none, only-fits, only-fails, fits-by-literal, fits-by-other, fits-by-box, fits-by-none, left-empty, right-empty, left-kind, right-kind, left-fit, right-fit, box-fit, char-member, char-other, char-absent, needs)

@@ -1,11 +1,13 @@
 // Whether a context fits the text before or after a place.
 ghost use mathlib.Core.Path.{_≡_};
+ghost use mathlib.Core.Bool.{false};
+ghost use Rattle.base.specs.Pick.{pick};
+ghost use Rattle.texts.specs.Parts.{has, opening};
 ghost use Rattle.regex_optim.specs.Contexts.{formIn, leftForm, rightForm, fits};
 ghost use Rattle.regex_optim.specs.Contracts.{boxChar, literalFits, boxFits};
 use crate::Letter;
 use crate::boxes::box_inner;
 use crate::boxes::has_opening;
-use crate::boxes::is_boxed;
 use crate::characters::char_fits;
 use crate::characters::first_char;
 use crate::characters::last_char;
@@ -50,14 +52,25 @@ fn literal_fits(t: &[u8], s: bool, e: bool, x: &[u8]) -> bool
     }
 }
 
-// Whether the rest t of a context with these anchors fits x. A literal is compared first, which mostly ends at once, and only then
-// looked through for a `[` that puts it outside the forms.
+// Whether the box with this inside fits x and is one: it has no other `[`, which is looked for last.
+fn only_box_fits(inner: &[u8], s: bool, e: bool, x: &[u8]) -> bool
+    ensures { λ r. ⌜ r ≡ pick (has opening (now (inner .entry))) false (boxFits (now (inner .entry)) s e (now (x .entry))) ⌝ }
+{
+    if box_fits(inner, s, e, x) {
+        !has_opening(inner)
+    } else {
+        false
+    }
+}
+
+// Whether the rest t of a context with these anchors fits x. A box or a literal is compared first, which mostly ends at once, and only
+// then looked through for a `[` that puts it outside the forms.
 fn fits_in(t: &[u8], s: bool, e: bool, x: &[u8]) -> bool
     ensures { λ r. ⌜ r ≡ fits (formIn s e (now (t .entry))) (now (x .entry)) ⌝ }
 {
     if texts::first_is(t, b'[') {
-        if is_boxed(t) {
-            box_fits(box_inner(t), s, e, x)
+        if texts::last_is(t, b']') {
+            only_box_fits(box_inner(t), s, e, x)
         } else {
             false
         }
