@@ -65,7 +65,7 @@ unfolding pick
 under-by e xs ys a true ih = ih
 under-by e xs ys a false ih = ap (_∷_ (join e a)) ih
 
-pub under-append : (e : Entry) (xs ys : List Alternative) → under e (xs ++ ys) ≡ under e xs ++ under e ys
+under-append : (e : Entry) (xs ys : List Alternative) → under e (xs ++ ys) ≡ under e xs ++ under e ys
 unfolding under
 under-append e [] ys = refl
 under-append e (a ∷ xs) ys = under-by e xs ys a (isEmpty (narrowed (e .langs) (a .langs))) (under-append e xs ys)

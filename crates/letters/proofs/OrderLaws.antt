@@ -3,14 +3,14 @@
 use mathlib.Core.Path.{_≡_, refl, sym, ap, ap₂, _∙_}
 use mathlib.Core.Bool.{Bool, true, false}
 use mathlib.Core.List.{List, [], _∷_}
-use Prim.Native.Nat.{ℕ, suc, _+_, _≤_, _<_, zero-le}
+use Prim.Native.Nat.{ℕ, suc, _+_, _≤_, _<_, min, zero-le}
 use native.Mathlib.Numerals.{add-one, add-one-le}
-use native.Mathlib.Nat.{le-of-lt}
-use lib.Dec.{eqb}
+use native.Mathlib.Omega.{arith}
+use lib.Dec.{eqb, ltb}
 use lib.ListN.{length, drop, getD, drop-of-length-le}
 use lib.Seq.{drop-cons}
 use borrow.Author.Needs.{needs}
-use borrow.Author.Tests.{eqb-true, lt-ltb, le-ltb, eq-eqb, ne-eqb}
+use borrow.Author.Tests.{eqb-true, ltb-false, lt-ltb, le-ltb, eq-eqb, ne-eqb}
 use Rattle.base.specs.Pick.{pick, and}
 use Rattle.letters.specs.Order.{orderOf, sameText}
 use Rattle.letters.specs.declared.order.Order.{Order}
@@ -36,32 +36,56 @@ module _ {A : Type 0} {f : List ℕ → List ℕ → A} {a b : List ℕ} where
     rest = rw add-one (sym e ∙ rw (drop-cons a i 0, drop-cons b i 0) at (l .rest));
   }
 
-module _ {a b : List ℕ} {i : ℕ} (c : Left Order orderOf a b i) where
-  pub order-less : i < length a → i < length b → getD a i 0 < getD b i 0 → Less ≡ orderOf a b
-  unfolding orderOf pick
-  order-less ha hb h = sym (rw (drop-cons a i 0, drop-cons b i 0) at (sym (c .rest)) ∙ simp (lt-ltb _ _ h))
+module _ (a b : List ℕ) (n : ℕ) (e : n ≡ min (length a) (length b)) (i : ℕ) (h : i < n) where
+  pub order-a : i < length a
+  order-a = omega arith
 
-  pub order-greater : i < length a → i < length b → getD b i 0 < getD a i 0 → Greater ≡ orderOf a b
-  unfolding orderOf pick
-  order-greater ha hb h = sym (rw (drop-cons a i 0, drop-cons b i 0) at (sym (c .rest)) ∙ simp (le-ltb _ _ (le-of-lt h), lt-ltb _ _ h))
+  pub order-b : i < length b
+  order-b = omega arith
 
-  pub order-long : i < length a → length b ≤ i → Greater ≡ orderOf a b
-  unfolding orderOf
-  order-long ha hb = rw (drop-cons a i 0, drop-of-length-le b hb) at (c .rest)
+-- two numbers that differ, by the test for less
+unlike-by : (x y : ℕ) (o : Order) (t : Bool) → ltb x y ≡ t → (x ≡ y → ⊥) → pick t Less Greater ≡ pick t Less (pick (ltb y x) Greater o)
+unfolding pick
+unlike-by x y o true p n = refl
+unlike-by x y o false p n = let more : y < x = omega (arith, ltb-false x y p) in simp (lt-ltb y x more)
 
-  pub order-short : length a ≤ i → i < length b → Less ≡ orderOf a b
-  unfolding orderOf
-  order-short ha hb = rw (drop-of-length-le a ha, drop-cons b i 0) at (c .rest)
+module _ {a b : List ℕ} {i : ℕ} (c : Left Order orderOf a b i) (n : ℕ) (e : n ≡ min (length a) (length b)) where
+  module _ (h : i < n) where
+    pub order-unlike : (getD a i 0 ≡ getD b i 0 → ⊥) → (r : Order) → r ≡ pick (ltb (getD a i 0) (getD b i 0)) Less Greater → r ≡ orderOf a b
+    unfolding orderOf
+    order-unlike u r q =
+        let ha = order-a a b n e i h in
+        let hb = order-b a b n e i h in
+        q ∙ unlike-by (getD a i 0) (getD b i 0) (orderOf (drop (suc i) a) (drop (suc i) b)) _ refl u ∙ rw (drop-cons a i 0, drop-cons b i 0) at (c .rest)
 
-  pub order-end : length a ≤ i → length b ≤ i → Equal ≡ orderOf a b
-  unfolding orderOf
-  order-end ha hb = rw (drop-of-length-le a ha, drop-of-length-le b hb) at (c .rest)
+    pub order-next : getD a i 0 ≡ getD b i 0 → Left Order orderOf a b (i + 1)
+    unfolding orderOf pick
+    order-next s = left-next c (order-a a b n e i h) (order-b a b n e i h)
+        (simp (le-ltb (getD a i 0) (getD b i 0) (omega arith), le-ltb (getD b i 0) (getD a i 0) (omega arith)))
 
-  pub order-next : i < length a → i < length b → getD b i 0 ≤ getD a i 0 → getD a i 0 ≤ getD b i 0 → Left Order orderOf a b (i + 1)
-  unfolding orderOf pick
-  order-next ha hb h k = left-next c ha hb (simp (le-ltb _ _ h, le-ltb _ _ k))
+  module _ (h : n ≤ i) where
+    pub order-long : length b < length a → Greater ≡ orderOf a b
+    unfolding orderOf
+    order-long l =
+        let ha : i < length a = omega (arith, c .in-b) in
+        let hb : length b ≤ i = omega arith in
+        rw (drop-cons a i 0, drop-of-length-le b hb) at (c .rest)
 
-pub ruleset order-laws = (left-start, order-less, order-greater, order-long, order-short, order-end, order-next, needs)
+    pub order-short : length a < length b → Less ≡ orderOf a b
+    unfolding orderOf
+    order-short l =
+        let ha : length a ≤ i = omega arith in
+        let hb : i < length b = omega (arith, c .in-a) in
+        rw (drop-of-length-le a ha, drop-cons b i 0) at (c .rest)
+
+    pub order-end : length a ≤ length b → length b ≤ length a → Equal ≡ orderOf a b
+    unfolding orderOf
+    order-end l m =
+        let ha : length a ≤ i = omega arith in
+        let hb : length b ≤ i = omega arith in
+        rw (drop-of-length-le a ha, drop-of-length-le b hb) at (c .rest)
+
+pub ruleset order-laws = (left-start, order-a, order-b, order-unlike, order-next, order-long, order-short, order-end, needs)
 
 -- ---- the same text
 

@@ -101,7 +101,7 @@ unfolding isLess
 first-less x e =
     let some : 0 < length x = name-some x e in
     let start : Left Order orderOf [] x 0 = left-start in
-    sym (ap isLess (order-short start zero-le some))
+    sym (ap isLess (order-short start 0 (omega arith) zero-le some))
 
 shift-by : (x : List ℕ) (a b t : Bool) → languageName x ≡ t → and (and t a) (and (isLess (orderOf [] x)) b) ≡ and (and t a) b
 unfolding and

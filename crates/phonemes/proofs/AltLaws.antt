@@ -1,8 +1,8 @@
 -- A law for each way out of the code that reads the alternative from a place on. Assumes nothing.
-use mathlib.Core.Path.{_≡_, refl, sym, ap, ap₂, _∙_}
+use mathlib.Core.Path.{_≡_, sym, ap, ap₂, _∙_}
 use mathlib.Core.Bool.{Bool, true, false}
-use mathlib.Core.List.{List, [], _∷_, _++_}
-use Prim.Native.Nat.{ℕ, suc, _+_, _-_, _*_, _^_, _≤_, _<_}
+use mathlib.Core.List.{List, [], _++_}
+use Prim.Native.Nat.{ℕ, _+_, _-_, _*_, _^_, _≤_, _<_}
 use native.Mathlib.Omega.{arith}
 use lib.ListN.{length, take, drop}
 use mir.Syntax.{w64}
@@ -17,7 +17,7 @@ use specs.declared
 use declared.answers.Alternative.{Alternative}
 use declared.answers.Alternative.the-variants.{Nothing}
 use Rattle.phonemes.proofs
-use proofs.CutLaws.{cut-order, cut-fits, cut-one, cut-long, cut-laws}
+use proofs.CutLaws.{cut-fits, cut-one, cut-long, cut-laws}
 use proofs.ExprLaws.{extra-yes, extra-no}
 use Rattle.base.proofs.PickLaws.{pick-true, pick-false}
 

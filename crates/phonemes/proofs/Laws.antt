@@ -10,21 +10,20 @@ use native.Mathlib.Decide.{decLt}
 use native.Mathlib.Omega.{arith}
 use lib.Bits.{or-lt}
 use lib.Dec.{eqb}
-use lib.ListN.{length, getD, take, drop, length-take, length-drop, length-append, List·getD-append}
+use lib.ListN.{length, take, drop, length-take, length-drop, length-append}
 use lib.Pow.{pow-pos}
-use lib.Seq.{take-nil, take-length, take-take, drop-drop, getD-append-add}
+use lib.Seq.{take-nil, take-length, take-take, drop-drop}
 use borrow.Author.Tests.{ltb-false, eq-eqb, ne-eqb}
 use Rattle.languages.specs.Names.{languageBit}
-use Rattle.strings.specs.Reading.{stringsOf}
 use Rattle.languages.specs.declared.names.Listed.{Listed}
 use Rattle.languages.specs.declared.names.Listed.the-variants.{Bit, Unlisted}
 use Rattle.languages.specs.declared.sets.LanguageSet.{LanguageSet}
-use Rattle.languages.proofs.Laws.{any-below, mask-below, bit-below, bit-held}
+use Rattle.languages.proofs.Laws.{any-below, mask-below, bit-below}
 use Rattle.texts.specs.Parts.{tail, front, firstIs, lastIs, placeOf}
 use Rattle.texts.proofs.Laws.{front-is, place-most, first-some-by, last-some-by, prefix-within}
 use Rattle.rule.specs.Matching.{ruleMatches}
 use Rattle.phonemes.specs
-use specs.Expressions.{round, bar, opening, onFirst, cutAt, inside, extra, piecesIn, withBits, namesMask, pieceMask, textOf, maskSet, setOf, checkedOf}
+use specs.Expressions.{round, bar, opening, onFirst, cutAt, inside, extra, piecesIn, withBits, namesMask, pieceMask, textOf, maskSet, setOf}
 use specs.Contracts.{cutEnd, hasExtra, partsFrom, piecesFrom, pieceFrom, firstFrom, alternativeFrom}
 use specs.declared
 use declared.answers.Alternative.{Alternative}
