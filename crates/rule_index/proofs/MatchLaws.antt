@@ -196,21 +196,21 @@ pub ruleset number-laws = (number-over, number-tried, needs)
 
 -- ---- the loop over the numbers: none before `number` matched
 
-pub record Seeking (s : List ℕ) (table : List (List ℕ)) (word : List ℕ) (place : ℕ) (m : Match) (number stop : ℕ) : Type 0 where
+pub record NumbersLeft (s : List ℕ) (table : List (List ℕ)) (word : List ℕ) (place : ℕ) (m : Match) (number stop : ℕ) : Type 0 where
   pub is : m ≡ firstMatch (numbered s table (drop place word) number (stop - number)) word place
 
-pub seeking-start : (s : List ℕ) (table : List (List ℕ)) (word : List ℕ) (place start stop : ℕ)
-    → Seeking s table word place (firstMatch (numbered s table (drop place word) start (stop - start)) word place) start stop
-seeking-start s table word place start stop = record { is = refl }
+pub left-numbers-start : (s : List ℕ) (table : List (List ℕ)) (word : List ℕ) (place start stop : ℕ)
+    → NumbersLeft s table word place (firstMatch (numbered s table (drop place word) start (stop - start)) word place) start stop
+left-numbers-start s table word place start stop = record { is = refl }
 
 -- the front of the word's rest
 pub front-here : (word : List ℕ) (place : ℕ) (front : Front) → FrontIs (take (length word - place) (drop place word)) front → FrontIs (drop place word) front
 front-here word place front w = rw (take-all (length word - place) (drop place word) (omega (arith, length-drop place word))) at w
 
-module _ {s : List ℕ} {table : List (List ℕ)} {word : List ℕ} {place : ℕ} {m : Match} {number stop : ℕ} (w : Seeking s table word place m number stop) where
-  pub seeking-done : stop ≤ number → MatchIs s word place m Nothing
+module _ {s : List ℕ} {table : List (List ℕ)} {word : List ℕ} {place : ℕ} {m : Match} {number stop : ℕ} (w : NumbersLeft s table word place m number stop) where
+  pub left-numbers-done : stop ≤ number → MatchIs s word place m Nothing
   unfolding numbered
-  seeking-done h =
+  left-numbers-done h =
       let none-more : stop - number ≡ 0 = omega arith in
       rw (w .is) (nothing-left s word place _ (ap (numbered s table _ number) none-more))
 
@@ -223,13 +223,13 @@ module _ {s : List ℕ} {table : List (List ℕ)} {word : List ℕ} {place : ℕ
         ∙ first-append (ruleOf s table (drop place word) number) _ word place
         ∙ rw add-one refl
 
-    pub seeking-found : (step start end : ℕ) → r ≡ By step start end → MatchIs s word place m (By step start end)
-    seeking-found step start end e = rw one-more (found-first s word place _ _ step start end (rw e at v))
+    pub left-numbers-found : (step start end : ℕ) → r ≡ By step start end → MatchIs s word place m (By step start end)
+    left-numbers-found step start end e = rw one-more (found-first s word place _ _ step start end (rw e at v))
 
-    pub seeking-next : r ≡ Nothing → Seeking s table word place m (number + 1) stop
-    seeking-next e = record { is = one-more ∙ missed-first s word place _ _ (rw e at v) }
+    pub left-numbers-next : r ≡ Nothing → NumbersLeft s table word place m (number + 1) stop
+    left-numbers-next e = record { is = one-more ∙ missed-first s word place _ _ (rw e at v) }
 
-pub ruleset seeking-laws = (seeking-start, seeking-done, front-here, seeking-found, seeking-next, needs)
+pub ruleset left-numbers-laws = (left-numbers-start, left-numbers-done, front-here, left-numbers-found, left-numbers-next, needs)
 
 -- ---- the look-up
 

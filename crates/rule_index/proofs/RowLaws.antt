@@ -10,8 +10,6 @@ use native.Mathlib.Omega.{arith}
 use lib.Dec.{eqb, ltb}
 use lib.ListN.{length, getD, take, drop, set, length-set, length-take, length-drop, drop-of-length-le}
 use lib.Seq.{getD-set-same, getD-set-other, getD-take, getD-drop}
-use mir.Syntax.{w64}
-use mir.Val.{Fits}
 use borrow.Author.Tests.{eqb-true, eqb-false, ne-eqb, lt-ltb, le-ltb}
 use Rattle.base.specs.Pick.{pick, and}
 use Rattle.base.proofs.Arms.{clash}
@@ -31,7 +29,7 @@ use Rattle.pack.proofs.Laws.{RulesAt, one-rule, ListIs, good-rule, held-by, hel
 use Rattle.rule_index.specs
 use specs.Matching.{Match, none, by, Matcher, firstMatch}
 use specs.Rows.{placesRow, leadsRow, requiredRow, rows, Roomy, notedAt}
-use specs.Contracts.{NUMBERS, packIn, rulesBetween, leadOf, mayLead, ruleIn, ruleOf, numbered, foundIn, notedIn, ListPlaced, RowReady, RowPlaces, numberedIn, Agree, RowFinds, ListReady, ListIndexed}
+use specs.Contracts.{NUMBERS, packIn, rulesBetween, leadOf, mayLead, ruleIn, ruleOf, numbered, foundIn, notedIn, ListPlaced, RowReady, RowPlaces, numberedIn, Agree, ListReady, ListIndexed}
 use Rattle.rule_index.proofs
 use proofs.CellLaws.{set-here, set-room}
 use proofs.NumberLaws.{numbered-room, numbered-place, numbered-lead, numbered-before, numbered-behind, numbered-agree, agree-same, agree-then, agree-row}

@@ -1,13 +1,13 @@
 -- The table: the loop over the lists, and what a survey's answer gives for it. Assumes nothing.
 use borrow.Author.Needs.{needs}
-use mathlib.Core.Path.{_≡_, refl, sym, ap, ap₂, subst, _∙_}
+use mathlib.Core.Path.{_≡_, refl, sym, ap, subst, _∙_}
 use mathlib.Core.Bool.{Bool, true, false}
 use mathlib.Core.List.{List, [], _∷_}
 use Prim.Native.Nat.{ℕ, zero, suc, _+_, _-_, _*_, _%_, _≤_, _<_, zero-le}
 use native.Mathlib.Omega.{arith}
 use lib.Dec.{ltb}
 use lib.ListN.{length, getD, set, replicate, length-replicate, getD-replicate, List·getD-append}
-use lib.Seq.{sets-eq, length-sets, getD-set-same, getD-set-other}
+use lib.Seq.{sets-eq, length-sets, getD-set-other}
 use mir.Syntax.{w64}
 use mir.Val.{Fits}
 use borrow.Author.Tests.{ltb-true, ltb-false}
@@ -26,9 +26,9 @@ use Rattle.pack.proofs.NumberLaws.{surveyed-one}
 use Rattle.pack.proofs.Laws.{RulesAt, no-rule, one-rule, good-rule, languages-few, lists-counted, places-counted, list-held, list-told, SurveyedPack, surveyed-pack}
 use Rattle.rule_index.specs
 use specs.Matching.{none, Matcher, firstMatch}
-use specs.Rows.{placesRow, requiredRow, rows, Roomy}
+use specs.Rows.{requiredRow, rows, Roomy}
 use specs.GuessContracts.{guesser, guesserBy, GuessesReady, GuessesNoted}
-use specs.Contracts.{NUMBERS, packBy, packIn, foundIn, matcher, Blank, ListPlaced, RowReady, RowPlaces, Agree, RowFinds, ListReady, ListIndexed, ListsReady, Finds, ListsFound, IndexIs}
+use specs.Contracts.{NUMBERS, packBy, packIn, foundIn, matcher, Blank, RowReady, RowPlaces, Agree, RowFinds, ListReady, ListIndexed, ListsReady, Finds, ListsFound, IndexIs}
 use Rattle.rule_index.proofs
 use proofs.CellLaws.{set-here, set-room}
 use proofs.NumberLaws.{agree-same, agree-then, agree-row}
