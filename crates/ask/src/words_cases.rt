@@ -52,7 +52,7 @@ fn spelled(kept: &[u8], table: &Table, by: Plan, word: &[u8], made: &mut [u8]) -
 // `word MAIN COMMON LAST LIMIT KIND BITS WORD`: a word spelled from the lists of these numbers.
 pub fn word(given: &[u8], tells: &[usize; 9], made: &mut [u8], kept: &[u8]) -> Said {
     let mut table = [[0usize; rule_index::COLUMNS]; rule_index::ROWS];
-    match rule_index::index(kept, &mut table) {
+    match rule_index::index(kept, &mut table, true) {
         Surveyed::Accepted { languages, guesses } => {
             let by = Plan {
                 main: tells[1],

@@ -16,7 +16,7 @@ pub(crate) fn check(kept: &[u8]) -> Said {
 // `guess NAME`: the languages that a pack guesses for a name, or 5 with the place.
 pub(crate) fn guess(kept: &[u8], name: &[u8]) -> Said {
     let mut table = [[0usize; rule_index::COLUMNS]; rule_index::ROWS];
-    match rule_index::index(kept, &mut table) {
+    match rule_index::index(kept, &mut table, false) {
         Surveyed::Accepted { languages, guesses } => {
             let set = rule_index::guess_languages(kept, &table, guesses, languages, name);
             languages_cases::set(set, said::GUESSED)

@@ -65,11 +65,11 @@ pub struct Call {
     pub set: LanguageSet,
 }
 
-// The pack's numbers, and the table that its rules are found by.
-pub(crate) fn open(pack: &[u8], table: &mut Table) -> Opened
+// The pack's numbers, and the table that its rules are found by; numbered where many names are asked for.
+pub(crate) fn open(pack: &[u8], table: &mut Table, numbered: bool) -> Opened
     ensures { λ r. ⌜ OpenedIs (now (pack .entry)) (now (table .exit)) r ⌝ }
 {
-    match rule_index::index(pack, table) {
+    match rule_index::index(pack, table, numbered) {
         Surveyed::Accepted { languages, guesses } => Opened::Usable {
             languages,
             guesses,

@@ -277,7 +277,7 @@ pub fn spell_lines(
     ensures { λ r. ⌜ LinesIs (callOf settings start (now (pack .entry))) (now (block .entry)) (now (out .entry)) r (now (out .exit)) ⌝ }
 {
     let mut table = [[0usize; rule_index::COLUMNS]; rule_index::ROWS];
-    let opened = open(pack, &mut table);
+    let opened = open(pack, &mut table, true);
     let mut store = [[0u8; 32768]; 4];
     let mut slots = [[0u64; 256]; 4];
     let request = Request {

@@ -263,7 +263,7 @@ pub fn spell(settings: Settings, start: Start, pack: &[u8], name: &[u8], out: &m
     ensures { λ r. ⌜ SpellIs (callOf settings start (now (pack .entry)) (now (name .entry))) (now (out .entry)) r (now (out .exit)) ⌝ }
 {
     let mut table = [[0usize; rule_index::COLUMNS]; rule_index::ROWS];
-    let opened = open(pack, &mut table);
+    let opened = open(pack, &mut table, false);
     let mut store = [[0u8; 32768]; 4];
     let mut slots = [[0u64; 256]; 4];
     let request = Request {

@@ -117,9 +117,9 @@ pub record Listing (s places : List ℕ) (lists : ℕ) (t table : List (List ℕ
   pub long : length places ≡ 98
   pub room : free ≤ NUMBERS
 
-pub listing-start : {s places : List ℕ} {lists : ℕ} {table : List (List ℕ)} → ListsReady s places lists table → Listing s places lists table table 0 0
+pub listing-start : {s places : List ℕ} {lists first : ℕ} {table : List (List ℕ)} → ListsReady s places lists table → first ≤ NUMBERS → Listing s places lists table table 0 first
 unfolding listCount
-listing-start {s} w = record {
+listing-start {s} w l = record {
   is = w .is;
   counted = w .counted;
   held = w .held;
@@ -130,7 +130,7 @@ listing-start {s} w = record {
   within = zero-le;
   few = omega (arith, languages-few s (packIn s) (1 + stringsLength (packIn s .names)) (w .is) refl);
   long = w .long;
-  room = omega arith;
+  room = l;
 }
 
 module _ {s places : List ℕ} {lists k free : ℕ} {t table : List (List ℕ)} (w : Listing s places lists t table k free) where

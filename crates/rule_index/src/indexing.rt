@@ -128,21 +128,30 @@ fn index_list(pack: &[u8], table: &mut Table, list: usize, place: usize, free: u
     }
 }
 
-// The lists at their places, each noted in its row.
-fn index_lists(pack: &[u8], places: &[usize], lists: usize, table: &mut Table)
+// The lists at their places, each noted in its row, with numbers from `first` on.
+fn index_lists(pack: &[u8], places: &[usize], lists: usize, table: &mut Table, first: usize)
     requires { ⌜ ListsReady (now pack) (now places) lists (now table) ⌝ }
+    requires { ⌜ first ≤ 4096 ⌝ }
     ensures { λ r. ⌜ ListsFound (now (pack .entry)) (now (table .entry)) (now (table .exit)) ⌝ }
 {
     let mut k: usize = 0;
-    let mut free: usize = 0;
+    let mut free = first;
     while k < lists {
         free = index_list(pack, table, k, places[k], free);
         k += 1;
     }
 }
 
+// The first number that is free: none is where no rule is to be numbered.
+fn first_free(numbered: bool) -> usize
+    ensures { λ r. ⌜ r ≤ 4096 ⌝ }
+{
+    if numbered { 0 } else { NUMBERS }
+}
+
 // The verdict on a pack, and the table by which its rules are found, whatever the table held before. A refused pack has none.
-pub fn index(pack: &[u8], table: &mut Table) -> Surveyed
+// Numbering the rules takes longer than noting their places, and pays from the second name on.
+pub fn index(pack: &[u8], table: &mut Table, numbered: bool) -> Surveyed
     ensures { λ r. ⌜ IndexIs (now (pack .entry)) r (now (table .exit)) ⌝ }
 {
     *table = [[0usize; COLUMNS]; ROWS];
@@ -150,7 +159,13 @@ pub fn index(pack: &[u8], table: &mut Table) -> Surveyed
     match pack::survey(pack, &mut places) {
         Surveyed::Accepted { languages, guesses } => {
             note_guesses(pack, guesses, table);
-            index_lists(pack, &places, 3 * languages + 2, table);
+            index_lists(
+                pack,
+                &places,
+                3 * languages + 2,
+                table,
+                first_free(numbered),
+            );
             Surveyed::Accepted { languages, guesses }
         }
         Surveyed::Refused(place) => Surveyed::Refused(place),

@@ -4,10 +4,10 @@ use Rattle.rule_index.proofs.indexing.index_lists.Statement.{statement}
 use Rattle.rule_index.proofs.indexing.index_lists.Tie as tie
 
 abbrev Inv-loop : tie.InvT-loop
-Inv-loop pack places lists table₀ k₀ free₀ table k free = Listing pack places lists table₀ table k free
+Inv-loop pack places lists table₀ first k₀ free₀ table k free = Listing pack places lists table₀ table k free
 
 abbrev μ-loop : tie.MeasureT-loop
-μ-loop pack places lists table₀ k₀ free₀ table k free = lists - k
+μ-loop pack places lists table₀ first k₀ free₀ table k free = lists - k
 
 pub index-lists-spec : {M : Type 1} → statement M
 index-lists-spec =
