@@ -2,8 +2,6 @@
 //!
 //!     bench DIR SURNAMES                            prints the tables
 //!     bench DIR SURNAMES port|original KIND LIMIT   one bulk round of a side, in a function whose instructions can be counted
-//!     bench one port PACK NAME KIND LIMIT CAP       one name by one pack, within CAP seconds of processor time: prints the seconds,
-//!     bench one original FOLDER NAME KIND LIMIT CAP those of the check or the load, the code, and length and mark of the answer
 //!
 //! DIR holds what bench/run has made: the folders `all`, `half` and `quarter` for the original, the packs of the same rules, and `bundle`;
 //! and in `slow` the packs that are made to be slow. Compiled with `--cfg before`, an earlier library is measured beside the port's.
@@ -75,15 +73,6 @@ struct Setting {
     limit: u32,
 }
 
-impl Setting {
-    fn of(kind: &str, limit: &str) -> Setting {
-        Setting {
-            kind: KINDS.iter().position(|known| *known == kind).unwrap() as u32,
-            limit: limit.parse().unwrap(),
-        }
-    }
-}
-
 impl Display for Setting {
     fn fmt(&self, out: &mut std::fmt::Formatter) -> std::fmt::Result {
         write!(out, "{}, limit {}", KINDS[self.kind as usize], self.limit)
@@ -146,16 +135,6 @@ impl Port {
         }
     }
 
-    /// A name spelled once, with room for any answer.
-    fn one(pack: Vec<u8>, setting: Setting, name: &str) -> Told {
-        let mut port = Port::new(NOW, pack);
-        let (check, _) = seconds(|| port.check());
-        port.out = vec![0; 64 << 20];
-        let (time, code) = seconds(|| port.spell(setting, name));
-        let written = if code == 0 { port.tail[0] as usize } else { 0 };
-        Told::of(time, check, code, &port.out[..written])
-    }
-
     /// The lines of a block of names.
     #[rustfmt::skip]
     fn lines(&mut self, setting: Setting, block: &[u8]) -> &[u8] {
@@ -178,61 +157,6 @@ impl Port {
         }
         kept
     }
-}
-
-/// Of a name spelled once: seconds, those of the check or the load before it, the code, and length and mark of the answer.
-struct Told {
-    time: f64,
-    before: f64,
-    code: u32,
-    length: usize,
-    mark: u64,
-}
-
-impl Told {
-    fn of(time: f64, before: f64, code: u32, answer: &[u8]) -> Told {
-        let mark = answer.iter().fold(0xcbf29ce484222325, |mark: u64, byte| {
-            (mark ^ *byte as u64).wrapping_mul(0x100000001b3)
-        });
-        Told {
-            time,
-            before,
-            code,
-            length: answer.len(),
-            mark,
-        }
-    }
-}
-
-/// What `one` prints, by a side in this process.
-fn one(words: &[String]) {
-    let [side, rules, name, kind, limit, cap] = words else {
-        panic!("{words:?}");
-    };
-    stop_after(cap.parse().unwrap());
-    let setting = Setting::of(kind, limit);
-    let told = match side.as_str() {
-        "port" => Port::one(std::fs::read(rules).unwrap(), setting, name),
-        _ => {
-            let (load, config) = seconds(|| ConfigFiles::new(&PathBuf::from(rules)).unwrap());
-            let morse = original(&config, setting);
-            let (time, key) = seconds(|| morse.encode(name));
-            Told::of(time, load, 0, key.as_bytes())
-        }
-    };
-    println!(
-        "{:.6} {:.6} {} {} {:016x}",
-        told.time, told.before, told.code, told.length, told.mark
-    );
-}
-
-/// The system ends this process when it has used so many seconds of processor time.
-fn stop_after(cap: u64) {
-    extern "C" {
-        fn setrlimit(resource: i32, limit: *const [u64; 2]) -> i32;
-    }
-    const RLIMIT_CPU: i32 = 0;
-    assert_eq!(unsafe { setrlimit(RLIMIT_CPU, &[cap, cap]) }, 0);
 }
 
 fn original(config: &ConfigFiles, setting: Setting) -> BeiderMorse<'_> {
@@ -303,13 +227,6 @@ fn used() -> f64 {
         0
     );
     time[0] as f64 + time[1] as f64 * 1e-9
-}
-
-/// What something takes, and what it gives.
-fn seconds<T>(what: impl FnOnce() -> T) -> (f64, T) {
-    let start = used();
-    let given = what();
-    (used() - start, given)
 }
 
 /// Seconds of the quickest of rounds in which the sides take turns; after SECONDS no further round begins.
@@ -545,9 +462,6 @@ fn slow_packs(dir: &Path) {
 
 fn main() {
     let words: Vec<String> = std::env::args().skip(1).collect();
-    if words[0] == "one" {
-        return one(&words[1..]);
-    }
     let (dir, surnames) = (
         PathBuf::from(&words[0]),
         std::fs::read_to_string(&words[1]).unwrap(),
@@ -558,7 +472,10 @@ fn main() {
         names: surnames.lines().map(str::to_string).collect(),
     };
     if let [_, _, side, kind, limit] = &words[..] {
-        let setting = Setting::of(kind, limit);
+        let setting = Setting {
+            kind: KINDS.iter().position(|known| known == kind).unwrap() as u32,
+            limit: limit.parse().unwrap(),
+        };
         let names = bench.port.answered(&[setting], &bench.names);
         match side.as_str() {
             "port" => port_round(&mut bench.port, setting, &block_of(&names)),
