@@ -6,13 +6,16 @@ use mathlib.Core.List.{List, [], _∷_}
 use Prim.Native.Nat.{ℕ, zero, suc, _+_, _-_, _/_, _%_, _≤_, _<_, zero-le, min}
 use native.Mathlib.Numerals.{add-one}
 use native.Mathlib.Omega.{arith}
+use lib.Bits.{bitAnd}
+use lib.Dec.{eqb}
 use lib.ListN.{length, getD, take, drop}
 use Rattle.base.specs.Pick.{pick}
 use Rattle.base.proofs.Arms.{clash}
-use Rattle.base.proofs.PickLaws.{pick-true, pick-false}
+use Rattle.base.proofs.PickLaws.{pick-true, pick-false, pick-all}
 use Rattle.lang.specs.Patterns.{matchesOf}
 use Rattle.lang.specs.Contracts.{signatureOf, requiredOf, hasBits}
 use Rattle.lang.proofs.Shortcuts.{lacking-not}
+use Rattle.languages.specs.Sets.{without}
 use Rattle.languages.specs.declared.sets.LanguageSet.{LanguageSet}
 use Rattle.strings.specs.Reading.{Read, got, readMany}
 use Rattle.strings.proofs.Readers.{then-inv}
@@ -52,6 +55,22 @@ guesser-kept s t t′ place kept = λ i n name.
     (λ j h. ap (λ (l : List ℕ). getD l (j % 128) 0) (kept (guessRow + j / 128) (omega arith))) i)
 
 -- ---- one rule
+
+module _ (name : List ℕ) (b m : ℕ) (p : List ℕ) (left x : ℕ) (e : x ≡ pick (eqb b 0) (without left m) (bitAnd left m)) where
+  pub narrow-idle : x ≡ left → left ≡ narrowedBy name (guess b m p) left
+  unfolding narrowedBy
+  narrow-idle q = sym (pick-all (λ (n : ℕ). n ≡ left) _ _ _ (sym e ∙ q) refl)
+
+  module _ (t : Bool) (f : t ≡ matchesOf p name) where
+    pub narrow-hit : t ≡ true → x ≡ narrowedBy name (guess b m p) left
+    unfolding narrowedBy
+    narrow-hit q = e ∙ sym (pick-true _ _ _ (sym f ∙ q))
+
+    pub narrow-missed : t ≡ false → left ≡ narrowedBy name (guess b m p) left
+    unfolding narrowedBy
+    narrow-missed q = sym (pick-false _ _ _ (sym f ∙ q))
+
+pub ruleset narrow-laws = (narrow-idle, narrow-hit, narrow-missed, needs)
 
 module _ (s name : List ℕ) (at left : ℕ) (x : GuessAt) (g : x ≡ guessStandsAt s at) where
   pub narrow-at-cut : x ≡ guesses.Cut → left ≡ narrowedIn name (readGuess (drop at s)) left

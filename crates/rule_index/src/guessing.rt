@@ -1,7 +1,11 @@
 // Guessing the languages of a name by what the table has of the guessing rules: the bits that each requires, and where it stands.
 ghost use mathlib.Core.Path.{_≡_};
 ghost use Prim.Native.Nat.{_≤_, _<_, min};
+ghost use lib.Bits.{bitAnd};
+ghost use lib.Dec.{eqb};
 ghost use lib.ListN.{drop};
+ghost use Rattle.base.specs.Pick.{pick};
+ghost use Rattle.languages.specs.Sets.{without};
 ghost use Rattle.lang.specs.Contracts.{signatureOf};
 ghost use Rattle.languages.specs.Numbers.{setNumbers};
 ghost use Rattle.pack.specs.Packs.{guess, readGuess};
@@ -54,16 +58,27 @@ pub(crate) fn note_guesses(pack: &[u8], guesses: usize, table: &mut Table)
     }
 }
 
-// The languages of `left` narrowed by a guessing rule, where its pattern matches.
+// The languages of `left` that a guessing rule leaves where its pattern matches.
+fn left_by(left: u32, accept: u32, mask: u32) -> u32
+    ensures { λ r. ⌜ r ≡ pick (eqb accept 0) (without left mask) (bitAnd left mask) ⌝ }
+{
+    if accept == 0 {
+        languages::subtract(left, mask)
+    } else {
+        left & mask
+    }
+}
+
+// The languages of `left` narrowed by a guessing rule, where its pattern matches; not tried where it would leave all of them.
 fn narrow(left: u32, accept: u32, mask: u32, pattern: &[u8], name: &[u8]) -> u32
     ensures { λ r. ⌜ r ≡ narrowedBy (now (name .entry)) (guess accept mask (now (pattern .entry))) left ⌝ }
 {
+    let less = left_by(left, accept, mask);
+    if less == left {
+        return left;
+    }
     if lang::matches(pattern, name) {
-        if accept == 0 {
-            languages::subtract(left, mask)
-        } else {
-            left & mask
-        }
+        less
     } else {
         left
     }
