@@ -186,7 +186,7 @@ pub fn first_ill(s: &[u8]) -> Found
 {
     let mut p: usize = 0;
     loop {
-        match decode(s, p) {
+        match decode_long(s, p) {
             Step::Char { code: _, len } => {
                 p += len;
             }
