@@ -1,45 +1,40 @@
 -- What the shortcuts pass over does not match: a place whose first byte is another, and a pattern with a byte that is not in the name's
 -- signature. Assumes nothing.
-use mathlib.Core.Path.{_≡_, refl, sym, ap, ap₂, subst, _∙_}
+use mathlib.Core.Path.{_≡_, refl, sym, ap, subst, _∙_}
 use mathlib.Core.Bool.{Bool, true, false, false≢true}
 use mathlib.Core.List.{List, [], _∷_, _++_}
 use mathlib.Core.Logic.{⊎-elim}
-use Prim.Native.Nat.{ℕ, zero, suc, _+_, _-_, _*_, _%_, _^_, _≤_, _<_}
-use native.Mathlib.Nat.{one-mul, zero-add}
+use Prim.Native.Nat.{ℕ, zero, suc, _+_, _-_, _≤_, _<_}
+use native.Mathlib.Nat.{zero-add}
 use native.Mathlib.Decide.{decLt}
 use native.Mathlib.Numerals.{add-one, one-add}
 use native.Mathlib.Omega.{arith}
-use lib.Bits.{bitAnd, bitOr, and-comm, and-zero-r, or-zero-l, or-zero-r}
-use lib.Dec.{eqb, ltb, lit<}
+use lib.Bits.{bitOr, and-zero-r, or-zero-l, or-zero-r}
+use lib.Dec.{eqb, ltb}
 use lib.ListN.{length, getD, take, drop, length-drop, drop-of-length-le}
-use lib.Pow.{shl-exact}
-use lib.Seq.{drop-nil, drop-cons, drop-drop, getD-take, getD-drop}
+use lib.Seq.{drop-nil, drop-cons, drop-drop}
 use borrow.Author.Needs.{needs}
 use borrow.Author.Tests.{eq-eqb, ne-eqb, leb-true, ltb-false, eqb-true, eqb-false}
-use Rattle.base.proofs.Bits.{bit, bits-ext, and-bit, or-bit, or-assoc, and-or, and-over-or}
+use Rattle.base.proofs.Bits.{or-assoc}
 use Rattle.base.specs.Pick.{pick}
 use Rattle.letters.specs.Utf8.{decodeAt, encode}
 use Rattle.letters.specs.Reading.{codesOf}
 use Rattle.letters.specs.declared.utf8.Step.{Step}
 use Rattle.letters.specs.declared.utf8.Step.the-variants.{Char, Ill, End}
-use Rattle.letters.proofs.Utf8Laws.{decode-one, char-at, char-drop, char-length, ill-in, encode-one, encode-two, encode-three, encode-four}
-use Rattle.letters.proofs.CodesLaws.{codes-char, codes-ill, codes-end}
+use Rattle.letters.proofs.Utf8Laws.{decode-one, char-at, char-drop, encode-one, encode-two, encode-three, encode-four}
+use Rattle.letters.proofs.CodesLaws.{codes-char}
+use Rattle.texts.specs.Signatures.{bitOf, signatureOf, hasBits}
+use Rattle.texts.proofs.SignatureLaws.{Has, In, Covers, more, has-yes, both, char-byte, signature-covers}
 use Rattle.texts.specs.Parts.{firstIs, lastIs, placeOf, has, caret, dollar, opening, closing}
 use Rattle.lang.specs
 use specs.Patterns.{Piece, boxLength, charPiece, pieceAt, lengthAt, charLength, patternPieces, middle, takes, fitsAt, fitsAnywhere, matchesIn, matchesOf}
-use specs.Contracts.{beginsWithOther, bitOf, signatureOf, bitsIn, requiredOf, hasBits}
+use specs.Contracts.{beginsWithOther, bitsIn, requiredOf}
 use Rattle.lang.proofs.PieceLaws.{next-fits, pieces-cons, piece-char, piece-bytes, next-less}
 use Rattle.base.proofs.Stores.{rest-is}
 use Rattle.texts.proofs.Chars.{has-cons}
 use Rattle.base.proofs.PickLaws.{pick-true, pick-false, pick-inv, and-inv, and-first, pick-past}
 
 -- ---- a place
-
--- the first byte of a character is that of its encoding
-head : (s : List ℕ) (p k n : ℕ) → decodeAt s p ≡ Char k n → getD s p 0 ≡ getD (encode k) 0 0
-head s p k n e =
-    let w = char-at s p k n e in
-    sym (ap (λ (l : List ℕ). getD l 0 0) (w .bytes) ∙ getD-take n (drop p s) 0 0 (w .some) ∙ getD-drop p s 0 0 ∙ ap (λ (i : ℕ). getD s i 0) (omega arith))
 
 first-not : (t : List ℕ) (b : ℕ) → 0 < length t → (getD t 0 0 ≡ b → ⊥) → firstIs b t ≡ false
 unfolding firstIs
@@ -48,7 +43,7 @@ first-not (x ∷ l) b h n = ne-eqb x b n
 
 takes-not : (t : List ℕ) (b : ℕ) (r : Step) → decodeAt t 0 ≡ r → (getD t 0 0 ≡ b → ⊥) → b ≤ 0x7F → takes (charPiece r) b ≡ false
 unfolding takes charPiece
-takes-not t b (Char k n) e h l = ne-eqb k b (λ q. h (head t 0 k n e ∙ ap (λ (x : ℕ). getD (encode x) 0 0) q ∙ ap (λ (x : List ℕ). getD x 0 0) (encode-one b (omega arith))))
+takes-not t b (Char k n) e h l = ne-eqb k b (λ q. h (sym (char-byte t 0 k n 0 e (char-at t 0 k n e .some)) ∙ ap (λ (x : ℕ). getD (encode x) 0 0) q ∙ ap (λ (x : List ℕ). getD x 0 0) (encode-one b (omega arith))))
 takes-not t b Ill e h l = refl
 takes-not t b End e h l = refl
 
@@ -72,80 +67,6 @@ place-passed t name end from r i e q =
     let v = pick-past (eqb (getD t 0 0) opening) _ (u .1) in
     let w = pick-past (eqb (getD t 0 0) b) _ (v .1) in
     passed-by t name end from b i refl (omega (arith, ltb-false (length t) 1 (u .0))) (eqb-false _ _ (v .0)) (eqb-false _ _ (w .0)) (leb-true b 0x7F (w .1))
-
--- ---- the signature
-
--- bits has each bit of n
-abbrev Has : ℕ → ℕ → Type 0
-Has bits n = bitAnd bits n ≡ n
-
-pub bit-of : (b : ℕ) → (1 * 2 ^ (b % 64)) % 2 ^ 64 ≡ bitOf b
-bit-of b = shl-exact 1 (b % 64) 64 (lit< tt) (omega arith) ∙ one-mul (2 ^ (b % 64))
-
-pub record Signing (name : List ℕ) (i bits : ℕ) : Type 0 where
-  pub is : bitOr bits (signatureOf (drop i name)) ≡ signatureOf name
-
-pub signing-start : (name : List ℕ) → Signing name 0 0
-signing-start name = record { is = or-zero-l (signatureOf name) }
-
-pub signing-next : {name : List ℕ} {i bits b : ℕ} → Signing name i bits → i < length name → b ≡ bitOf (getD name i 0) → Signing name (i + 1) (bitOr bits b)
-unfolding signatureOf
-signing-next {name} {i} {bits} w h e =
-    let here : drop i name ≡ getD name i 0 ∷ drop (i + 1) name = rw add-one (drop-cons name i 0 h) in
-    record {
-      is = ap (λ (x : ℕ). bitOr (bitOr bits x) (signatureOf (drop (i + 1) name))) e ∙ or-assoc bits _ _
-          ∙ ap (λ (l : List ℕ). bitOr bits (signatureOf l)) (sym here) ∙ w .is;
-    }
-
-pub signing-end : {name : List ℕ} {i bits : ℕ} → Signing name i bits → length name ≤ i → bits ≡ signatureOf name
-unfolding signatureOf
-signing-end {name} {i} {bits} w h = sym (or-zero-r bits) ∙ ap (λ (l : List ℕ). bitOr bits (signatureOf l)) (sym (drop-of-length-le name h)) ∙ w .is
-
-pub ruleset signing-laws = (bit-of, signing-start, signing-next, signing-end, needs)
-
--- ---- the bytes of a name have their bits
-
-own : (a m : ℕ) → Has (bitOr a m) a
-own a m = and-comm (bitOr a m) a ∙ and-or a m
-
-others : (a m n : ℕ) → Has m n → Has (bitOr a m) n
-others a m n h = bits-ext _ _ (λ k. simp (and-bit, or-bit) (omega (arith, sym (and-bit m n k) ∙ ap (λ (x : ℕ). bit x k) h)))
-
-both : (bits a b : ℕ) → Has bits a → Has bits b → Has bits (bitOr a b)
-both bits a b h g = and-over-or bits a b ∙ ap₂ bitOr h g
-
--- each of l has its bit
-In : ℕ → List ℕ → Type 0
-In bits l = (i : ℕ) → i < length l → Has bits (bitOf (getD l i 0))
-
-signature-in : (l : List ℕ) → In (signatureOf l) l
-unfolding In signatureOf
-signature-in [] i h = absurd (omega arith)
-signature-in (x ∷ l) zero h = own (bitOf x) (signatureOf l)
-signature-in (x ∷ l) (suc i) h = others (bitOf x) (signatureOf l) (bitOf (getD l i 0)) (signature-in l i (omega arith))
-
--- so have those of each of its characters
-data Covers (bits : ℕ) : List ℕ → Type 0 where
-  none : Covers bits []
-  more : {c : ℕ} {cs : List ℕ} → In bits (encode c) → Covers bits cs → Covers bits (c ∷ cs)
-
-char-in : (bits : ℕ) (s : List ℕ) → In bits s → (p k n : ℕ) → decodeAt s p ≡ Char k n → In bits (encode k)
-unfolding In
-char-in bits s a p k n e i h =
-    let w = char-at s p k n e in
-    let size : length (encode k) ≡ n = char-length s p k n e in
-    let byte : getD (encode k) i 0 ≡ getD s (p + i) 0 = ap (λ (l : List ℕ). getD l i 0) (w .bytes) ∙ getD-take n (drop p s) i 0 (omega arith) ∙ getD-drop p s i 0 in
-    subst (λ (b : ℕ). Has bits (bitOf b)) (sym byte) (a (p + i) (omega arith))
-
-module _ (bits : ℕ) (s : List ℕ) (a : In bits s) where
-  covers-by : (p : ℕ) (r : Step) → decodeAt s p ≡ r → ((q : ℕ) → length s - q < length s - p → Covers bits (codesOf (drop q s))) → Covers bits (codesOf (drop p s))
-  covers-by p (Char k n) e on = rw (codes-char s p k n e) (more (char-in bits s a p k n e) (on (p + n) (let w = char-at s p k n e in omega arith)))
-  covers-by p Ill e on = rw (codes-ill s p e) (on (p + 1) (omega (arith, ill-in s p e)))
-  covers-by p End e on = rw (codes-end s p e) none
-
-  covers-from : (f p : ℕ) → length s - p < f → Covers bits (codesOf (drop p s))
-  covers-from zero p h = absurd (omega arith)
-  covers-from (suc f) p h = covers-by p (decodeAt s p) refl (λ q l. covers-from f q (omega arith))
 
 -- ---- what fits has all its bytes outside the boxes in the name
 
@@ -223,7 +144,7 @@ module _ (bits x : ℕ) (l : List ℕ) (c : ℕ) (a : In bits (encode c)) where
   unfolding takes charPiece charLength firstIs
   char-has (Char k n) e o t h =
       let same : k ≡ c = eqb-true k c t in
-      let other : k ≡ opening → ⊥ = λ q. eqb-false x opening o (head (x ∷ l) 0 k n e ∙ ap (λ (y : ℕ). getD (encode y) 0 0) q ∙ ap (λ (y : List ℕ). getD y 0 0) (encode-one opening (omega arith))) in
+      let other : k ≡ opening → ⊥ = λ q. eqb-false x opening o (sym (char-byte (x ∷ l) 0 k n 0 e (char-at (x ∷ l) 0 k n e .some)) ∙ ap (λ (y : ℕ). getD (encode y) 0 0) q ∙ ap (λ (y : List ℕ). getD y 0 0) (encode-one opening (omega arith))) in
       rw (char-drop (x ∷ l) 0 k n e, zero-add) (text-has bits (encode k) (drop n (x ∷ l)) (rw same a) (encode-free k other) h)
   char-has Ill e o t h = absurd (false≢true t)
   char-has End e o t h = absurd (false≢true t)
@@ -258,14 +179,11 @@ has-by bits false t end cs a e = anywhere-has bits t end cs a e
 
 -- a pattern that requires a bit which the name's signature has not does not match it
 pub lacking-not : (p name : List ℕ) → hasBits (signatureOf name) (requiredOf p) ≡ false → matchesOf p name ≡ false
-unfolding hasBits requiredOf matchesOf
+unfolding requiredOf matchesOf
 lacking-not p name h = by (matchesIn _ _ _ _) refl
   where
-    all : Covers (signatureOf name) (codesOf name)
-    all = covers-from (signatureOf name) name (signature-in name) (suc (length name)) 0 (omega arith)
-
     by : (t : Bool) → matchesIn (firstIs caret p) (patternPieces (middle p)) (lastIs dollar p) (codesOf name) ≡ t → matchesIn (firstIs caret p) (patternPieces (middle p)) (lastIs dollar p) (codesOf name) ≡ false
-    by true e = absurd (false≢true (sym h ∙ eq-eqb _ _ (has-by (signatureOf name) _ (middle p) _ (codesOf name) all e)))
+    by true e = absurd (false≢true (sym h ∙ has-yes _ _ (has-by (signatureOf name) _ (middle p) _ (codesOf name) (signature-covers name) e)))
     by false e = e
 
 -- ---- the loop over a pattern

@@ -1,26 +1,19 @@
 -- Tests by which a place of a name, or a whole pattern, is passed over without trying its pieces. `proofs/Shortcuts` shows that
 -- nothing is lost: what they pass over does not match.
-use Prim.Native.Nat.{ℕ, _%_, _^_}
+use Prim.Native.Nat.{ℕ}
 use mathlib.Core.Bool.{Bool, true, false, not}
 use mathlib.Core.List.{List, [], _∷_}
-use lib.Bits.{bitAnd, bitOr}
+use lib.Bits.{bitOr}
 use lib.Dec.{eqb, leb, ltb}
 use lib.ListN.{length, getD}
 use Rattle.base.specs.Pick.{pick}
 use Rattle.lang.specs.Patterns.{middle}
 use Rattle.texts.specs.Parts.{opening, closing}
+use Rattle.texts.specs.Signatures.{bitOf}
 
 -- t begins with a character that is not b, and b is a character by itself (below U+0080)
 unfoldable pub beginsWithOther : List ℕ → ℕ → Bool
 beginsWithOther t b = pick (ltb (length t) 1) false (pick (eqb (getD t 0 0) opening) false (pick (eqb (getD t 0 0) b) false (leb b 0x7F)))
-
--- of each byte one of 64 bits
-abbrev pub bitOf : ℕ → ℕ
-bitOf b = 2 ^ (b % 64)
-
-unfoldable pub signatureOf : List ℕ → ℕ
-signatureOf [] = 0
-signatureOf (x ∷ l) = bitOr (bitOf x) (signatureOf l)
 
 -- the bits of the bytes outside the boxes; within a box none is looked at, up to its `]`
 unfoldable pub bitsIn : Bool → List ℕ → ℕ
@@ -31,6 +24,3 @@ bitsIn inside (x ∷ l) =
 -- what a pattern requires of the signature of a name that it matches
 unfoldable pub requiredOf : List ℕ → ℕ
 requiredOf p = bitsIn false (middle p)
-
-unfoldable pub hasBits : ℕ → ℕ → Bool
-hasBits signature required = eqb (bitAnd signature required) required

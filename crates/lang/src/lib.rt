@@ -6,6 +6,4 @@ mod signatures;
 
 pub use forms::check_pattern;
 pub use matching::matches;
-pub use signatures::has_bits;
 pub use signatures::required_bits;
-pub use signatures::signature;

@@ -1,12 +1,15 @@
--- What the private functions of the code give, by the anchors; `proofs/Laws` shows how the forms are made of these.
-use Prim.Native.Nat.{ℕ}
+-- What the private functions of the code give, by the anchors (`proofs/Laws` shows how the forms are made of these), and which bytes may stand
+-- beside a place where a context fits (`proofs/BesideLaws` shows that no others do).
+use Prim.Native.Nat.{ℕ, _-_, _^_}
 use mathlib.Core.Bool.{Bool, false, not}
 use mathlib.Core.List.{List}
 use lib.Dec.{eqb}
+use lib.ListN.{length}
 use Rattle.base.specs.Pick.{pick}
 use Rattle.letters.specs.Order.{sameText}
-use Rattle.texts.specs.Parts.{firstIs, prefixOf, suffixOf, caret, withoutCaret}
-use Rattle.regex_optim.specs.Contexts.{firstChar, wholeChar, lastChar, charFits}
+use Rattle.texts.specs.Parts.{firstByte, lastByte, firstIs, prefixOf, suffixOf, caret, opening, withoutCaret, withoutDollar}
+use Rattle.texts.specs.Signatures.{bitOf, signatureOf}
+use Rattle.regex_optim.specs.Contexts.{boxInner, firstChar, wholeChar, lastChar, charFits}
 use Rattle.regex_optim.specs.declared.Letter.{Letter}
 use Rattle.regex_optim.specs.declared.Letter.the-variants.{Absent}
 use Rattle.regex_optim.specs.declared.OptimizedRegex.{OptimizedRegex}
@@ -28,3 +31,23 @@ unfoldable pub literalKind : ℕ → Bool → Bool → OptimizedRegex
 literalKind n s e =
     pick s (pick e (pick (eqb n 0) IsEmpty Equals) (pick (eqb n 0) AllStringsMatcher StartsWith))
     (pick e (pick (eqb n 0) AllStringsMatcher EndsWith) Outside)
+
+-- ---- the bytes beside a place, as bits of their kinds
+
+abbrev pub allBits : ℕ
+allBits = 2 ^ 64 - 1
+
+-- a box takes no character with other bytes than its own; a negated one may take any
+unfoldable pub boxBits : List ℕ → ℕ
+boxBits inner = pick (firstIs caret inner) allBits (signatureOf inner)
+
+-- of the rest of a context, which as a literal has the byte b beside the place
+unfoldable pub restBits : List ℕ → ℕ → ℕ
+restBits t b = pick (firstIs opening t) (boxBits (boxInner t)) (bitOf b)
+
+-- an empty context fits beside every byte; one of an anchor alone only beside none, which counts as 0
+unfoldable pub leftBits : List ℕ → ℕ
+leftBits c = pick (eqb (length c) 0) allBits (restBits (withoutCaret c) (lastByte (withoutCaret c)))
+
+unfoldable pub rightBits : List ℕ → ℕ
+rightBits c = pick (eqb (length c) 0) allBits (restBits (withoutDollar c) (firstByte (withoutDollar c)))

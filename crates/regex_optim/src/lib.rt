@@ -1,9 +1,13 @@
-// Contexts: the eight forms of regex_optim.rs, and whether a context fits the text before or after a place.
+// Contexts: the eight forms of regex_optim.rs, whether a context fits the text before or after a place, and which bytes may stand there.
+mod beside;
 mod boxes;
 mod characters;
 mod fitting;
 mod forms;
 
+pub use beside::ALL_BITS;
+pub use beside::left_bits;
+pub use beside::right_bits;
 pub use fitting::left_fits;
 pub use fitting::right_fits;
 pub use forms::left_form;

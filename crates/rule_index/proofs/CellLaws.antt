@@ -1,13 +1,13 @@
 -- What is stored as a number of the table is read again, and nothing else changes. Assumes nothing.
 use borrow.Author.Needs.{needs}
-use mathlib.Core.Path.{_≡_, sym, ap, subst, _∙_}
+use mathlib.Core.Path.{_≡_, refl, sym, ap, subst, _∙_}
 use mathlib.Core.List.{List, [], _∷_}
-use Prim.Native.Nat.{ℕ, zero, suc, _+_, _/_, _%_, _≤_, _<_}
+use Prim.Native.Nat.{ℕ, zero, suc, _+_, _*_, _/_, _%_, _≤_, _<_}
 use native.Mathlib.Decide.{ℕ-discrete}
 use native.Mathlib.Omega.{arith}
 use lib.ListN.{length, getD, set, length-set}
 use lib.Seq.{getD-set-same, getD-set-other}
-use Rattle.rule_index.specs.Rows.{placesRow, guessRow, rows, Roomy, notedAt, putAt}
+use Rattle.rule_index.specs.Rows.{placesRow, guessRow, rows, Roomy, notedAt, putAt, putAll}
 
 -- ---- a number of the table
 
@@ -60,11 +60,49 @@ module _ (table : List (List ℕ)) (row i x : ℕ) (room : Roomy table) (low : r
   unfolding putAt
   put-behind k l = getD-set-other table (row + i / 128) k _ [] (λ q. omega arith)
 
--- two stored, one after the other
-pub put-both : (table t t′ : List (List ℕ)) (a b i x y : ℕ) → t ≡ putAt table a i x → t′ ≡ putAt t b i y → t′ ≡ putAt (putAt table a i x) b i y
-put-both table t t′ a b i x y e f = f ∙ ap (λ (u : List (List ℕ)). putAt u b i y) e
+-- one more stored
+pub put-on : (table t t′ : List (List ℕ)) (row i x : ℕ) → t ≡ table → t′ ≡ putAt t row i x → t′ ≡ putAt table row i x
+put-on table t t′ row i x e f = f ∙ ap (λ (u : List (List ℕ)). putAt u row i x) e
 
-pub ruleset put-laws = (put-both, needs)
+pub put-four : (t t₁ t₂ t₃ t₄ : List (List ℕ)) (row i a b c d : ℕ) → t₁ ≡ putAt t row i a → t₂ ≡ putAt t₁ (row + 32) i b → t₃ ≡ putAt t₂ (row + 32 + 32) i c → t₄ ≡ putAt t₃ (row + 32 + 32 + 32) i d
+    → t₄ ≡ putAll t row i (a ∷ b ∷ c ∷ d ∷ [])
+unfolding putAll
+put-four t t₁ t₂ t₃ t₄ row i a b c d e f g h = put-on _ _ _ _ _ _ (put-on _ _ _ _ _ _ (put-on _ _ _ _ _ _ e f) g) h
+
+pub ruleset put-laws = (put-on, put-four, needs)
+
+-- ---- numbers in rows one behind the other
+
+module _ (i : ℕ) (h : i < 4096) where
+  pub all-room : (l : List ℕ) (row : ℕ) (t : List (List ℕ)) → row + 32 * length l ≤ guessRow + 32 → Roomy t → Roomy (putAll t row i l)
+  unfolding putAll
+  all-room [] row t m w = w
+  all-room (x ∷ l) row t m w = all-room l (row + 32) (putAt t row i x) (omega arith) (put-room t row i x w (omega arith) h)
+
+  -- what is noted elsewhere stays
+  pub all-other : (l : List ℕ) (row : ℕ) (t : List (List ℕ)) → row + 32 * length l ≤ guessRow + 32 → Roomy t → (at j : ℕ)
+      → ((k : ℕ) → k < length l → row + 32 * k + i / 128 ≡ at + j / 128 → i % 128 ≡ j % 128 → ⊥) → notedAt (putAll t row i l) at j ≡ notedAt t at j
+  unfolding putAll
+  all-other [] row t m w at j n = refl
+  all-other (x ∷ l) row t m w at j n =
+      all-other l (row + 32) (putAt t row i x) (omega arith) (put-room t row i x w (omega arith) h) at j (λ k lt p q. n (suc k) (omega arith) (omega arith) q)
+      ∙ put-other t row i x w (omega arith) h at j (λ p q. n 0 (omega arith) (omega arith) q)
+
+  pub all-here : (l : List ℕ) (row : ℕ) (t : List (List ℕ)) → row + 32 * length l ≤ guessRow + 32 → Roomy t → (k : ℕ) → k < length l → notedAt (putAll t row i l) (row + 32 * k) i ≡ getD l k 0
+  unfolding putAll
+  all-here [] row t m w k lt = absurd (omega arith)
+  all-here (x ∷ l) row t m w zero lt =
+      let here : row + 32 * 0 ≡ row = omega arith in
+      all-other l (row + 32) (putAt t row i x) (omega arith) (put-room t row i x w (omega arith) h) (row + 32 * 0) i (λ k lt p q. omega arith)
+      ∙ ap (λ (at : ℕ). notedAt (putAt t row i x) at i) here ∙ put-same t row i x w (omega arith) h
+  all-here (x ∷ l) row t m w (suc k) lt =
+      let there : row + 32 * suc k ≡ row + 32 + 32 * k = omega arith in
+      ap (λ (at : ℕ). notedAt (putAll (putAt t row i x) (row + 32) i l) at i) there ∙ all-here l (row + 32) (putAt t row i x) (omega arith) (put-room t row i x w (omega arith) h) k (omega arith)
+
+  pub all-away : (l : List ℕ) (row : ℕ) (t : List (List ℕ)) (k : ℕ) → ((j : ℕ) → j < length l → row + 32 * j + i / 128 ≡ k → ⊥) → getD (putAll t row i l) k [] ≡ getD t k []
+  unfolding putAll putAt
+  all-away [] row t k n = refl
+  all-away (x ∷ l) row t k n = all-away l (row + 32) _ k (λ j lt p. n (suc j) (omega arith) (omega arith)) ∙ getD-set-other t (row + i / 128) k _ [] (λ q. n 0 (omega arith) (omega arith))
 
 -- ---- a row replaced
 

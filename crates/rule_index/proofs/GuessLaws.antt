@@ -13,7 +13,8 @@ use Rattle.base.specs.Pick.{pick}
 use Rattle.base.proofs.Arms.{clash}
 use Rattle.base.proofs.PickLaws.{pick-true, pick-false, pick-all}
 use Rattle.lang.specs.Patterns.{matchesOf}
-use Rattle.lang.specs.Contracts.{signatureOf, requiredOf, hasBits}
+use Rattle.lang.specs.Contracts.{requiredOf}
+use Rattle.texts.specs.Signatures.{signatureOf, hasBits}
 use Rattle.lang.proofs.Shortcuts.{lacking-not}
 use Rattle.languages.specs.Sets.{without}
 use Rattle.languages.specs.declared.sets.LanguageSet.{LanguageSet}

@@ -4,23 +4,26 @@ use mathlib.Core.Path.{_≡_, refl, sym, ap, ap₂, subst, _∙_}
 use mathlib.Core.Bool.{Bool, true, false}
 use mathlib.Core.List.{List, [], _∷_}
 use Prim.Native.Nat.{ℕ, zero, suc, _+_, _-_, _%_, _≤_, _<_, max}
+use native.Mathlib.Nat.{sub-zero}
 use native.Mathlib.Omega.{arith}
 use native.Mathlib.Numerals.{add-one}
 use lib.Dec.{eqb}
 use lib.ListN.{length, getD, take, drop, length-take, length-drop}
-use lib.Seq.{take-all}
 use mir.Syntax.{w8}
 use mir.Val.{Fits}
 use borrow.Author.Tests.{lt-ltb, le-ltb}
 use Rattle.base.specs.Pick.{pick}
-use Rattle.base.proofs.PickLaws.{pick-true, pick-false, pick-all, and-yes, and-first, and-second}
+use Rattle.base.proofs.PickLaws.{pick-true, pick-false, pick-all, and-yes, and-first, and-second, and-rest, and-none}
 use Rattle.rule.specs.Matching.{ruleMatches}
 use Rattle.phonemes.proofs.Laws.{match-end}
 use Rattle.strings.specs.Reading.{cut, got}
 use Rattle.pack.specs.Packs.{readRule}
 use Rattle.rule_lines.specs.Rules.{Rule}
 use Rattle.pack.specs.PlaceContracts.{ruleStandsAt}
-use Rattle.strings.specs.Contracts.{behind}
+use Rattle.strings.specs.Contracts.{behind, ByteIs}
+use Rattle.texts.specs.Parts.{firstByte, lastByte}
+use Rattle.texts.specs.Signatures.{bitOf, hasBits}
+use Rattle.base.proofs.Stores.{rest-is}
 use Rattle.pack.specs.declared.rules.RuleAt.{RuleAt}
 use Rattle.pack.specs.declared.rules.RuleAt.the-variants as rules
 use Rattle.strings.proofs.Readers.{place-drop}
@@ -28,8 +31,8 @@ use Rattle.pack.proofs.RuleLaws.{RuleIs, rule-is, rule-cut, pattern-order, patt
 use Rattle.pack.proofs.Laws.{short-expression}
 use Rattle.rule_index.specs
 use specs.Matching.{Match, none, by, firstMatch}
-use specs.Rows.{placesRow, leadsRow, notedAt}
-use specs.Contracts.{NUMBERS, rulesBetween, ruleIn, ruleOf, mayLead, FrontIs, numbered, foundIn, matcher, RuleIn, MatchIs, seen, seenIn}
+use specs.Rows.{placesRow, leadsRow, beforeRow, behindRow, notedAt}
+use specs.Contracts.{NUMBERS, rulesBetween, leadOf, ruleIn, ruleOf, triedBy, triedAt, FrontIs, numbered, foundIn, matcher, RuleIn, MatchIs, seen, seenIn}
 use Rattle.rule_index.proofs.RowLaws.{orElse, first-append}
 use specs.declared
 use declared.numbers.Front.{Front}
@@ -177,50 +180,82 @@ module _ (s : List ℕ) (bytes : (i : ℕ) → Fits w8 (getD s i 0)) (word : Lis
 
 pub ruleset one-laws = (one-cut, one-missed, one-found, pattern-order, pattern-fits, left-order, left-fits, right-order, right-fits, needs)
 
-module _ (s : List ℕ) (table : List (List ℕ)) (number : ℕ) (word : List ℕ) (place : ℕ) {front : Front} (w : FrontIs (drop place word) front)
-    (z : Bool) (y : ℕ) (ey : y ≡ notedAt table leadsRow number) (ez : z ≡ pick (eqb y (front .one)) true (eqb y (front .two))) where
-  led : mayLead (notedAt table leadsRow number) (drop place word) ≡ z
-  unfolding mayLead
-  led = sym (rw (w .one, w .two, ey) at ez)
+module _ (s : List ℕ) (table : List (List ℕ)) (number : ℕ) (word : List ℕ) (place : ℕ) {front : Front} (w : FrontIs word place front)
+    (z : Bool) (ez : z ≡ triedBy table number (front .one) (front .two) (front .before) (front .behind)) where
+  tried : triedAt table number word place ≡ z
+  tried = sym (rw (w .one, w .two, w .before, w .behind) at ez)
 
-  pub number-over : z ≡ false → MatchIs s word place (firstMatch (ruleOf s table (drop place word) number) word place) Nothing
+  pub number-over : z ≡ false → MatchIs s word place (firstMatch (ruleOf s table word place number) word place) Nothing
   unfolding ruleOf
-  number-over e = nothing-left s word place _ (pick-false _ _ _ (led ∙ e))
+  number-over e = nothing-left s word place _ (pick-false _ _ _ (tried ∙ e))
 
   pub number-tried : (at : ℕ) (r : Matched) → z ≡ true → at ≡ notedAt table placesRow number
-      → MatchIs s word place (firstMatch (ruleIn (readRule (drop at s))) word place) r → MatchIs s word place (firstMatch (ruleOf s table (drop place word) number) word place) r
+      → MatchIs s word place (firstMatch (ruleIn (readRule (drop at s))) word place) r → MatchIs s word place (firstMatch (ruleOf s table word place number) word place) r
   unfolding ruleOf
-  number-tried at r e f v = rw (pick-true _ (ruleIn (readRule (drop (notedAt table placesRow number) s))) [] (led ∙ e), ← f) v
+  number-tried at r e f v = rw (pick-true _ (ruleIn (readRule (drop (notedAt table placesRow number) s))) [] (tried ∙ e), ← f) v
 
 pub ruleset number-laws = (number-over, number-tried, needs)
+
+-- ---- the marks of a number's rule
+
+module _ (table : List (List ℕ)) (e one two before behind x : ℕ) (ex : x ≡ notedAt table leadsRow e) (a : Bool) (ea : a ≡ pick (eqb x one) true (eqb x two)) where
+  led : a ≡ pick (eqb (notedAt table leadsRow e) one) true (eqb (notedAt table leadsRow e) two)
+  led = rw ex at ea
+
+  pub tried-no : a ≡ false → false ≡ triedBy table e one two before behind
+  unfolding triedBy
+  tried-no q = and-none _ _ false (sym led ∙ q) refl
+
+  module _ (q : a ≡ true) (y : ℕ) (ey : y ≡ notedAt table beforeRow e) (b : Bool) (eb : b ≡ hasBits y before) where
+    pub tried-lacking : b ≡ false → false ≡ triedBy table e one two before behind
+    unfolding triedBy
+    tried-lacking v = and-rest _ _ false (sym led ∙ q) (and-none _ _ false (sym (rw ey at eb) ∙ v) refl)
+
+    pub tried-as : b ≡ true → (z : ℕ) (r : Bool) → z ≡ notedAt table behindRow e → r ≡ hasBits z behind → r ≡ triedBy table e one two before behind
+    unfolding triedBy
+    tried-as v z r ez er = and-rest _ _ r (sym led ∙ q) (and-rest _ _ r (sym (rw ey at eb) ∙ v) (rw ez at er))
+
+pub ruleset tried-laws = (tried-no, tried-lacking, tried-as, needs)
+
+-- ---- what a word has at a place
+
+pub front-is : (word : List ℕ) (place one two l before f behind : ℕ) → ByteIs (take (length word - place) (drop place word)) 0 one → two ≡ leadOf (take (length word - place) (drop place word))
+    → l ≡ lastByte (take (place - 0) word) → before ≡ bitOf l → f ≡ firstByte (take (length word - (place + 1)) (drop (place + 1) word)) → behind ≡ bitOf f
+    → FrontIs word place (record { one = one; two = two; before = before; behind = behind })
+front-is word place one two l before f behind o t el eb ef eh =
+    let rest = rest-is word place in
+    record {
+      one = o .is ∙ ap (λ (x : List ℕ). firstByte x) rest;
+      two = t ∙ ap (λ (x : List ℕ). leadOf x) rest;
+      before = eb ∙ ap (λ (b : ℕ). bitOf b) (el ∙ ap (λ (n : ℕ). lastByte (take n word)) (sub-zero place));
+      behind = eh ∙ ap (λ (b : ℕ). bitOf b) (ef ∙ ap (λ (x : List ℕ). firstByte x) (rest-is word (place + 1)));
+    }
+
+pub ruleset front-laws = (front-is, needs)
 
 -- ---- the loop over the numbers: none before `number` matched
 
 pub record NumbersLeft (s : List ℕ) (table : List (List ℕ)) (word : List ℕ) (place : ℕ) (m : Match) (number stop : ℕ) : Type 0 where
-  pub is : m ≡ firstMatch (numbered s table (drop place word) number (stop - number)) word place
+  pub is : m ≡ firstMatch (numbered s table word place number (stop - number)) word place
 
 pub left-numbers-start : (s : List ℕ) (table : List (List ℕ)) (word : List ℕ) (place start stop : ℕ)
-    → NumbersLeft s table word place (firstMatch (numbered s table (drop place word) start (stop - start)) word place) start stop
+    → NumbersLeft s table word place (firstMatch (numbered s table word place start (stop - start)) word place) start stop
 left-numbers-start s table word place start stop = record { is = refl }
-
--- the front of the word's rest
-pub front-here : (word : List ℕ) (place : ℕ) (front : Front) → FrontIs (take (length word - place) (drop place word)) front → FrontIs (drop place word) front
-front-here word place front w = rw (take-all (length word - place) (drop place word) (omega (arith, length-drop place word))) at w
 
 module _ {s : List ℕ} {table : List (List ℕ)} {word : List ℕ} {place : ℕ} {m : Match} {number stop : ℕ} (w : NumbersLeft s table word place m number stop) where
   pub left-numbers-done : stop ≤ number → MatchIs s word place m Nothing
   unfolding numbered
   left-numbers-done h =
       let none-more : stop - number ≡ 0 = omega arith in
-      rw (w .is) (nothing-left s word place _ (ap (numbered s table _ number) none-more))
+      rw (w .is) (nothing-left s word place _ (ap (numbered s table word place number) none-more))
 
-  module _ (h : number < stop) (r : Matched) (v : MatchIs s word place (firstMatch (ruleOf s table (drop place word) number) word place) r) where
-    one-more : m ≡ orElse (firstMatch (ruleOf s table (drop place word) number) word place) (firstMatch (numbered s table (drop place word) (number + 1) (stop - (number + 1))) word place)
+  module _ (h : number < stop) (r : Matched) (v : MatchIs s word place (firstMatch (ruleOf s table word place number) word place) r) where
+    one-more : m ≡ orElse (firstMatch (ruleOf s table word place number) word place) (firstMatch (numbered s table word place (number + 1) (stop - (number + 1))) word place)
     unfolding numbered
     one-more =
         let left : stop - number ≡ suc (stop - (number + 1)) = omega arith in
-        w .is ∙ ap (λ (n : ℕ). firstMatch (numbered s table (drop place word) number n) word place) left
-        ∙ first-append (ruleOf s table (drop place word) number) _ word place
+        w .is ∙ ap (λ (n : ℕ). firstMatch (numbered s table word place number n) word place) left
+        ∙ first-append (ruleOf s table word place number) _ word place
         ∙ rw add-one refl
 
     pub left-numbers-found : (step start end : ℕ) → r ≡ By step start end → MatchIs s word place m (By step start end)
@@ -229,7 +264,7 @@ module _ {s : List ℕ} {table : List (List ℕ)} {word : List ℕ} {place : ℕ
     pub left-numbers-next : r ≡ Nothing → NumbersLeft s table word place m (number + 1) stop
     left-numbers-next e = record { is = one-more ∙ missed-first s word place _ _ (rw e at v) }
 
-pub ruleset left-numbers-laws = (left-numbers-start, left-numbers-done, front-here, left-numbers-found, left-numbers-next, needs)
+pub ruleset left-numbers-laws = (left-numbers-start, left-numbers-done, left-numbers-found, left-numbers-next, needs)
 
 -- ---- the look-up
 
@@ -239,7 +274,7 @@ module _ (s : List ℕ) (table : List (List ℕ)) (start stop : ℕ) (word : Lis
   unfolding foundIn
   found-placed h from to f t w = rw (pick-true _ _ _ (lt-ltb NUMBERS stop h), ← f, ← t) w
 
-  pub found-numbered : stop ≤ NUMBERS → MatchIs s word place (firstMatch (numbered s table (drop place word) start (stop - start)) word place) r
+  pub found-numbered : stop ≤ NUMBERS → MatchIs s word place (firstMatch (numbered s table word place start (stop - start)) word place) r
       → MatchIs s word place (foundIn s table start stop word place) r
   unfolding foundIn
   found-numbered h w = rw (pick-false _ _ _ (le-ltb NUMBERS stop h)) w

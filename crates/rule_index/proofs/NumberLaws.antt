@@ -1,63 +1,41 @@
 -- Rules stored for their numbers, and tables that have the same rules for the first of them. Assumes nothing.
 use mathlib.Core.Path.{_≡_, refl, _∙_}
-use mathlib.Core.List.{List, []}
-use Prim.Native.Nat.{ℕ, _≤_, _<_}
+use mathlib.Core.List.{List, [], _∷_}
+use Prim.Native.Nat.{ℕ, _+_, _*_, _≤_, _<_}
 use native.Mathlib.Omega.{arith}
 use lib.ListN.{getD, set}
 use Rattle.rule_index.specs
-use specs.Rows.{placesRow, leadsRow, requiredRow, rows, Roomy, notedAt, putAt}
+use specs.Rows.{placesRow, requiredRow, Roomy, notedAt}
 use specs.Contracts.{NUMBERS, numberedIn, Agree}
-use Rattle.rule_index.proofs.CellLaws.{put-same, put-other, put-room, put-before, put-behind, set-noted}
+use specs.declared.numbers.Marks.{Marks}
+use Rattle.rule_index.proofs.CellLaws.{all-room, all-other, all-here, all-away, set-noted}
 
--- ---- a rule's two numbers
+-- ---- a rule's four numbers
 
-module _ {t : List (List ℕ)} (w : Roomy t) (e : ℕ) (h : e < NUMBERS) (place lead : ℕ) where
-  first : List (List ℕ)
-  first = putAt t placesRow e place
+module _ {t : List (List ℕ)} (w : Roomy t) (e : ℕ) (h : e < NUMBERS) (place : ℕ) (marks : Marks) where
+  pub numbered-room : Roomy (numberedIn t e place marks)
+  numbered-room = all-room e h _ placesRow t (omega arith) w
 
-  once : Roomy first
-  unfolding first
-  once = put-room t placesRow e place w (omega arith) h
-
-  pub numbered-room : Roomy (numberedIn t e place lead)
-  unfolding first
-  numbered-room = put-room first leadsRow e lead once (omega arith) h
-
-  pub numbered-place : notedAt (numberedIn t e place lead) placesRow e ≡ place
-  unfolding first
-  numbered-place = put-other first leadsRow e lead once (omega arith) h placesRow e (λ p q. omega arith) ∙ put-same t placesRow e place w (omega arith) h
-
-  pub numbered-lead : notedAt (numberedIn t e place lead) leadsRow e ≡ lead
-  unfolding first
-  numbered-lead = put-same first leadsRow e lead once (omega arith) h
+  pub numbered-here : (j : ℕ) → j < 4 → notedAt (numberedIn t e place marks) (placesRow + 32 * j) e ≡ getD (place ∷ marks .lead ∷ marks .before ∷ marks .behind ∷ []) j 0
+  numbered-here j l = all-here e h _ placesRow t (omega arith) w j l
 
   -- the rows of lists, and those of guessing rules
-  pub numbered-before : (k : ℕ) → k < placesRow → getD (numberedIn t e place lead) k [] ≡ getD t k []
-  unfolding first
-  numbered-before k l = put-before first leadsRow e lead once (omega arith) h k (omega arith) ∙ put-before t placesRow e place w (omega arith) h k l
+  pub numbered-before : (k : ℕ) → k < placesRow → getD (numberedIn t e place marks) k [] ≡ getD t k []
+  numbered-before k l = all-away e h _ placesRow t k (λ j m p. omega arith)
 
-  pub numbered-behind : (k : ℕ) → requiredRow ≤ k → getD (numberedIn t e place lead) k [] ≡ getD t k []
-  unfolding first
-  numbered-behind k l = put-behind first leadsRow e lead once (omega arith) h k l ∙ put-behind t placesRow e place w (omega arith) h k (omega arith)
+  pub numbered-behind : (k : ℕ) → requiredRow ≤ k → getD (numberedIn t e place marks) k [] ≡ getD t k []
+  numbered-behind k l = all-away e h _ placesRow t k (λ j m p. omega arith)
 
-  pub numbered-agree : Agree e t (numberedIn t e place lead)
-  unfolding first
-  numbered-agree = record {
-    places = λ f l.
-        put-other first leadsRow e lead once (omega arith) h placesRow f (λ p q. omega arith)
-        ∙ put-other t placesRow e place w (omega arith) h placesRow f (λ p q. omega arith);
-    leads = λ f l.
-        put-other first leadsRow e lead once (omega arith) h leadsRow f (λ p q. omega arith)
-        ∙ put-other t placesRow e place w (omega arith) h leadsRow f (λ p q. omega arith);
-  }
+  pub numbered-agree : Agree e t (numberedIn t e place marks)
+  numbered-agree = record { same = λ f j l m. all-other e h _ placesRow t (omega arith) w (placesRow + 32 * j) f (λ k n p q. omega arith) }
 
 -- ---- tables that have the same rules
 
 pub agree-same : {n : ℕ} {t : List (List ℕ)} → Agree n t t
-agree-same = record { places = λ e h. refl; leads = λ e h. refl }
+agree-same = record { same = λ e j h m. refl }
 
 pub agree-then : {n m : ℕ} {t u v : List (List ℕ)} → n ≤ m → Agree n t u → Agree m u v → Agree n t v
-agree-then l a b = record { places = λ e h. b .places e (omega arith) ∙ a .places e h; leads = λ e h. b .leads e (omega arith) ∙ a .leads e h }
+agree-then l a b = record { same = λ e j h m. b .same e j (omega arith) m ∙ a .same e j h m }
 
 pub agree-row : {n : ℕ} {t : List (List ℕ)} (w : Roomy t) (k : ℕ) → k < placesRow → (row : List ℕ) → Agree n t (set t k row)
-agree-row w k h row = record { places = λ e l. set-noted w k (omega arith) row h placesRow e (omega arith); leads = λ e l. set-noted w k (omega arith) row h leadsRow e (omega arith) }
+agree-row w k h row = record { same = λ e j l m. set-noted w k (omega arith) row h (placesRow + 32 * j) e (omega arith) }

@@ -1,7 +1,7 @@
 -- A row of the table: noting a rule, and the loops over a list. A rule whose pattern begins with a byte of another kind than the word's never
--- matches, so the rules from the first to the last of a kind are enough; nor does one whose first two bytes are others. Assumes nothing.
+-- matches, so the rules from the first to the last of a kind are enough; nor does one whose marks tell so. Assumes nothing.
 use borrow.Author.Needs.{needs}
-use mathlib.Core.Path.{_≡_, refl, sym, ap, subst, _∙_}
+use mathlib.Core.Path.{_≡_, refl, sym, ap, ap₂, subst, _∙_}
 use mathlib.Core.Bool.{Bool, true, false}
 use mathlib.Core.List.{List, [], _∷_, _++_, append-assoc, append-nil}
 use Prim.Native.Nat.{ℕ, zero, suc, _+_, _-_, _*_, _%_, _≤_, _<_}
@@ -10,11 +10,16 @@ use native.Mathlib.Omega.{arith}
 use lib.Dec.{eqb, ltb}
 use lib.ListN.{length, getD, take, drop, set, length-set, length-take, length-drop, drop-of-length-le}
 use lib.Seq.{getD-set-same, getD-set-other, getD-take, getD-drop}
-use borrow.Author.Tests.{eqb-true, eqb-false, ne-eqb, lt-ltb, le-ltb}
-use Rattle.base.specs.Pick.{pick, and}
-use Rattle.base.proofs.Arms.{clash}
-use Rattle.base.proofs.PickLaws.{pick-true, pick-false, pick-all, and-first}
-use Rattle.texts.specs.Parts.{prefixOf}
+use borrow.Author.Tests.{eqb-true, eqb-false, eq-eqb, ne-eqb, lt-ltb, le-ltb}
+use Rattle.base.specs.Pick.{pick}
+use Rattle.base.proofs.PickLaws.{pick-true, pick-false, pick-all, pick-past, and-first, and-yes, and-inv}
+use Rattle.texts.specs.Parts.{firstByte, prefixOf}
+use Rattle.texts.specs.Signatures.{bitOf}
+use Rattle.texts.proofs.Laws.{prefix-byte}
+use Rattle.texts.proofs.SignatureLaws.{Has, has-yes, all-has}
+use Rattle.regex_optim.specs.Contexts.{rightForm, fits}
+use Rattle.regex_optim.specs.Contracts.{allBits, leftBits, rightBits}
+use Rattle.regex_optim.proofs.BesideLaws.{left-has, right-has}
 use Rattle.rule.specs.Matching.{ruleMatches}
 use Rattle.strings.specs.Reading.{got}
 use Rattle.pack.specs.Packs.{readRule, stringsLength}
@@ -24,43 +29,24 @@ use Rattle.strings.specs.Contracts.{behind}
 use Rattle.pack.specs.declared.rules.RuleAt.{RuleAt}
 use Rattle.pack.specs.declared.rules.RuleAt.the-variants as rules
 use Rattle.strings.proofs.Readers.{place-drop}
-use Rattle.pack.proofs.RuleLaws.{RuleIs, rule-is, pattern-order, pattern-fits}
+use Rattle.pack.proofs.RuleLaws.{RuleIs, rule-is, pattern-order, pattern-fits, left-order, left-fits, right-order, right-fits}
 use Rattle.pack.proofs.Laws.{RulesAt, one-rule, ListIs, good-rule, held-by, held-whole, list-held, list-told}
 use Rattle.rule_index.specs
+use specs.declared.numbers.Marks.{Marks}
 use specs.Matching.{Match, none, by, Matcher, firstMatch}
-use specs.Rows.{placesRow, leadsRow, requiredRow, rows, Roomy, notedAt}
-use specs.Contracts.{NUMBERS, packIn, rulesBetween, leadOf, mayLead, ruleIn, ruleOf, numbered, foundIn, notedIn, ListPlaced, RowReady, RowPlaces, numberedIn, Agree, ListReady, ListIndexed}
+use specs.Rows.{placesRow, leadsRow, beforeRow, behindRow, requiredRow, rows, Roomy, notedAt}
+use specs.Contracts.{NUMBERS, packIn, rulesBetween, leadOf, behindBits, triedBy, triedAt, ruleIn, ruleOf, numbered, foundIn, notedIn, ListPlaced, RowReady, RowPlaces, MarksAre, numberedIn, Agree, ListReady, ListIndexed}
 use Rattle.rule_index.proofs
 use proofs.CellLaws.{set-here, set-room}
-use proofs.NumberLaws.{numbered-room, numbered-place, numbered-lead, numbered-before, numbered-behind, numbered-agree, agree-same, agree-then, agree-row}
+use proofs.NumberLaws.{numbered-room, numbered-here, numbered-before, numbered-behind, numbered-agree, agree-same, agree-then, agree-row}
 
--- ---- a rule whose pattern begins with a byte of another kind does not match, nor one with other first two bytes
+-- ---- a rule whose pattern begins with a byte of another kind does not match
 
 other-first : (p s : List ℕ) → 0 < length p → (getD p 0 0 % 64 ≡ getD s 0 0 % 64 → ⊥) → prefixOf p s ≡ false
 unfolding prefixOf
 other-first [] s h k = let no-way : ⊥ = omega arith in absurd no-way
 other-first (x ∷ p) [] h k = refl
 other-first (x ∷ p) (y ∷ s) h k = and-first _ _ (ne-eqb y x (λ e. k (ap (λ (n : ℕ). n % 64) (sym e))))
-
-and-none : (a b : Bool) → b ≡ false → and a b ≡ false
-unfolding and
-and-none true b e = e
-and-none false b e = refl
-
--- neither as its first byte alone nor as its first two
-module _ (x y a b : ℕ) (p s : List ℕ) where
-  lead-by : (t : Bool) → eqb a x ≡ t → (x + 256 * y ≡ a + 256 * b → ⊥) → prefixOf (x ∷ y ∷ p) (a ∷ b ∷ s) ≡ false
-  unfolding prefixOf
-  lead-by true e k = let same = eqb-true a x e in and-none _ _ (and-first _ _ (ne-eqb b y (λ q. k (omega arith))))
-  lead-by false e k = and-first _ _ e
-
-other-lead : (p s : List ℕ) → 0 < length p → (leadOf p ≡ getD s 0 0 → ⊥) → (leadOf p ≡ leadOf s → ⊥) → prefixOf p s ≡ false
-unfolding prefixOf
-other-lead [] s h j k = let no-way : ⊥ = omega arith in absurd no-way
-other-lead (x ∷ p) [] h j k = refl
-other-lead (x ∷ []) (a ∷ s) h j k = and-first _ _ (ne-eqb a x (λ q. j (omega arith)))
-other-lead (x ∷ y ∷ p) (a ∷ []) h j k = and-none _ _ refl
-other-lead (x ∷ y ∷ p) (a ∷ b ∷ s) h j k = lead-by x y a b p s _ refl k
 
 module _ (r : Rule) (word : List ℕ) (place : ℕ) where
   never-by : (t : Bool) → ltb (length word) place ≡ t → prefixOf (r .pattern) (drop place word) ≡ false → ruleMatches (r .pattern) (r .left) (r .right) word place ≡ false
@@ -74,9 +60,6 @@ module _ (r : Rule) (word : List ℕ) (place : ℕ) where
         let here : getD (drop place word) 0 0 ≡ getD word place 0 = getD-drop place word 0 0 ∙ ap (λ (n : ℕ). getD word n 0) (add-zero place) in
         never-by _ refl (other-first (r .pattern) (drop place word) some (λ q. k (q ∙ ap (λ (n : ℕ). n % 64) here)))
 
-    never-lead : (leadOf (r .pattern) ≡ getD (drop place word) 0 0 → ⊥) → (leadOf (r .pattern) ≡ leadOf (drop place word) → ⊥) → ruleMatches (r .pattern) (r .left) (r .right) word place ≡ false
-    never-lead j k = never-by _ refl (other-lead (r .pattern) (drop place word) some j k)
-
     past-first : (p : List ℕ) → 0 < length p → prefixOf p [] ≡ false
     unfolding prefixOf
     past-first [] h = let no-way : ⊥ = omega arith in absurd no-way
@@ -85,6 +68,27 @@ module _ (r : Rule) (word : List ℕ) (place : ℕ) where
     -- nor behind the word
     pub never-past : length word ≤ place → ruleMatches (r .pattern) (r .left) (r .right) word place ≡ false
     never-past h = never-by _ refl (ap (prefixOf (r .pattern)) (drop-of-length-le word h) ∙ past-first (r .pattern) some)
+
+-- ---- a rule that matches has its marks there
+
+lead-fits : (p s : List ℕ) → 0 < length p → prefixOf p s ≡ true → pick (eqb (leadOf p) (firstByte s)) true (eqb (leadOf p) (leadOf s)) ≡ true
+lead-fits [] s h e = absurd (omega arith)
+lead-fits (x ∷ []) s h e =
+    let same : leadOf (x ∷ []) ≡ firstByte s = omega (arith, prefix-byte (x ∷ []) s e 0 (omega arith)) in
+    pick-true _ _ _ (eq-eqb _ _ same)
+lead-fits (x ∷ y ∷ p) s h e =
+    let same : leadOf (x ∷ y ∷ p) ≡ leadOf s = omega (arith, prefix-byte (x ∷ y ∷ p) s e 0 (omega arith), prefix-byte (x ∷ y ∷ p) s e 1 (omega arith)) in
+    pick-all (λ (b : Bool). b ≡ true) _ _ _ refl (eq-eqb _ _ same)
+
+behind-has : (p right word : List ℕ) (place : ℕ) (t : Bool) → eqb (length p) 1 ≡ t → fits (rightForm right) (drop (place + length p) word) ≡ true
+    → Has (behindBits p right) (bitOf (firstByte (drop (place + 1) word)))
+unfolding behindBits
+behind-has p right word place true e f = rw (pick-true _ (rightBits right) allBits e) (right-has right _ (rw (eqb-true (length p) 1 e) at f))
+behind-has p right word place false e f = rw (pick-false _ (rightBits right) allBits e) (all-has (firstByte (drop (place + 1) word)))
+
+unless : (m t : Bool) → (m ≡ true → t ≡ true) → t ≡ false → m ≡ false
+unless true t f e = sym (f refl) ∙ e
+unless false t f e = refl
 
 -- ---- lists that match alike where the word's byte is of kind b
 
@@ -241,6 +245,8 @@ pub record NumberedAt (s : List ℕ) (table : List (List ℕ)) (at : ℕ) (r : R
   pub rest : List ℕ
   pub reads : readRule (drop (notedAt table placesRow at) s) ≡ got r rest
   pub lead : notedAt table leadsRow at ≡ leadOf (r .pattern)
+  pub before : notedAt table beforeRow at ≡ leftBits (r .left)
+  pub behind : notedAt table behindRow at ≡ behindBits (r .pattern) (r .right)
   pub some : 0 < length (r .pattern)
   pub forward : next ≡ suc at
   pub few : at < NUMBERS
@@ -251,9 +257,9 @@ module _ (s : List ℕ) (table : List (List ℕ)) where
   no-places zero at to h = refl
   no-places (suc f) at to h = pick-false _ _ _ (le-ltb at to h)
 
-  no-numbers : (t : List ℕ) (at n : ℕ) → n ≡ 0 → numbered s table t at n ≡ []
+  no-numbers : (word : List ℕ) (place at n : ℕ) → n ≡ 0 → numbered s table word place at n ≡ []
   unfolding numbered
-  no-numbers t at n h = ap (numbered s table t at) h
+  no-numbers word place at n h = ap (numbered s table word place at) h
 
   -- nothing stands between a place or number and one that is not behind it
   nothing-found : (at to : ℕ) → to ≤ at → (word : List ℕ) (place : ℕ) → foundIn s table at to word place ≡ none
@@ -261,7 +267,7 @@ module _ (s : List ℕ) (table : List (List ℕ)) where
   nothing-found at to h word place =
       pick-all (λ (m : Match). m ≡ none) _ _ _
       (ap (λ (l : List Rule). firstMatch l word place) (no-places (to - NUMBERS) (at - NUMBERS) (to - NUMBERS) (omega arith)))
-      (ap (λ (l : List Rule). firstMatch l word place) (no-numbers _ at (to - at) (omega arith)))
+      (ap (λ (l : List Rule). firstMatch l word place) (no-numbers word place at (to - at) (omega arith)))
 
   pub clear-found : (p : ℕ) (word : List ℕ) (place : ℕ) → foundIn s table p 0 word place ≡ none
   clear-found p = nothing-found p 0 (omega arith)
@@ -284,7 +290,7 @@ module _ (s : List ℕ) (table : List (List ℕ)) where
   over-found at to h word place = pick-true _ _ _ (lt-ltb NUMBERS to h)
 
   under-found : (at to : ℕ) → to ≤ NUMBERS → (word : List ℕ) (place : ℕ)
-      → foundIn s table at to word place ≡ firstMatch (numbered s table (drop place word) at (to - at)) word place
+      → foundIn s table at to word place ≡ firstMatch (numbered s table word place at (to - at)) word place
   unfolding foundIn
   under-found at to h word place = pick-false _ _ _ (le-ltb NUMBERS to h)
 
@@ -299,19 +305,21 @@ module _ (s : List ℕ) (table : List (List ℕ)) where
   placed-found : FindsFirst (PlacedAt s) (foundIn s table)
   placed-found = record { is = placed-is }
 
-  may-not : (x : ℕ) (t : List ℕ) (z : Bool) → eqb x (getD t 0 0) ≡ z → mayLead x t ≡ false → (x ≡ getD t 0 0 → ⊥) × (x ≡ leadOf t → ⊥)
-  unfolding mayLead
-  may-not x t true e f = let no : true ≡ false = sym (pick-true _ _ _ e) ∙ f in clash (cc)
-  may-not x t false e f = (eqb-false x (getD t 0 0) e, eqb-false x (leadOf t) (sym (pick-false _ _ _ e) ∙ f))
+  -- the rule of a number is tried where it matches
+  tried-by : {at next : ℕ} {r : Rule} → NumberedAt s table at r next → (word : List ℕ) (place : ℕ) → ruleMatches (r .pattern) (r .left) (r .right) word place ≡ true → triedAt table at word place ≡ true
+  unfolding ruleMatches triedBy
+  tried-by {r = r} o word place m =
+      let stands = and-inv (prefixOf (r .pattern) (drop place word)) _ (pick-past (ltb (length word) place) _ m .1) in
+      let fit = and-inv (fits (rightForm (r .right)) (drop (place + length (r .pattern)) word)) _ (stands .1) in
+      rw (o .lead, o .before, o .behind)
+      (and-yes _ _ (lead-fits (r .pattern) (drop place word) (o .some) (stands .0))
+      (and-yes _ _ (has-yes _ _ (left-has (r .left) (take place word) (fit .1))) (has-yes _ _ (behind-has (r .pattern) (r .right) word place _ refl (fit .0)))))
 
-  -- the rule of a number is tried, or does not match
-  number-one : {at next : ℕ} {r : Rule} → NumberedAt s table at r next → (word : List ℕ) (place : ℕ) (x : Match) (z : Bool) → mayLead (notedAt table leadsRow at) (drop place word) ≡ z
-      → pick (ruleMatches (r .pattern) (r .left) (r .right) word place) (by r) x ≡ orElse (firstMatch (ruleOf s table (drop place word) at) word place) x
+  number-one : {at next : ℕ} {r : Rule} → NumberedAt s table at r next → (word : List ℕ) (place : ℕ) (x : Match) (z : Bool) → triedAt table at word place ≡ z
+      → pick (ruleMatches (r .pattern) (r .left) (r .right) word place) (by r) x ≡ orElse (firstMatch (ruleOf s table word place at) word place) x
   unfolding ruleOf ruleIn firstMatch orElse
   number-one {r = r} o word place x true e = rw (pick-true _ _ _ e, o .reads) (first-pick _ r x none x refl)
-  number-one {r = r} o word place x false e =
-      let other = may-not _ _ _ refl e in
-      rw (pick-false _ _ _ e) (pick-false _ _ _ (never-lead r word place (o .some) (λ q. other .0 (o .lead ∙ q)) (λ q. other .1 (o .lead ∙ q))))
+  number-one {r = r} o word place x false e = rw (pick-false _ _ _ e) (pick-false _ _ _ (unless _ _ (tried-by o word place) e))
 
   numbered-order : {to at : ℕ} {rs : List Rule} → Stand (NumberedAt s table) to at rs → at ≤ to
   numbered-order stand-none = omega arith
@@ -322,16 +330,16 @@ module _ (s : List ℕ) (table : List (List ℕ)) where
   numbered-few o (stand-rule p w) = numbered-few p w
 
   numbered-read : (n : ℕ) {to at : ℕ} {rs : List Rule} → Stand (NumberedAt s table) to at rs → to ≡ at + n → (word : List ℕ) (place : ℕ)
-      → firstMatch rs word place ≡ firstMatch (numbered s table (drop place word) at n) word place
+      → firstMatch rs word place ≡ firstMatch (numbered s table word place at n) word place
   unfolding numbered firstMatch
   numbered-read zero stand-none e word place = refl
   numbered-read (suc n) stand-none e word place = let no-way : ⊥ = omega arith in absurd no-way
   numbered-read zero (stand-rule o w) e word place = let no-way : ⊥ = omega (arith, numbered-order w, o .forward) in absurd no-way
   numbered-read (suc n) {at = at} (stand-rule {r = r} o w) e word place =
       ap (pick (ruleMatches (r .pattern) (r .left) (r .right) word place) (by r)) (numbered-read n w (omega (arith, o .forward)) word place)
-      ∙ ap (λ (k : ℕ). pick (ruleMatches (r .pattern) (r .left) (r .right) word place) (by r) (firstMatch (numbered s table (drop place word) k n) word place)) (o .forward)
+      ∙ ap (λ (k : ℕ). pick (ruleMatches (r .pattern) (r .left) (r .right) word place) (by r) (firstMatch (numbered s table word place k n) word place)) (o .forward)
       ∙ number-one o word place _ _ refl
-      ∙ sym (first-append (ruleOf s table (drop place word) at) _ word place)
+      ∙ sym (first-append (ruleOf s table word place at) _ word place)
 
   numbered-by : {to at : ℕ} {rs : List Rule} → to ≤ NUMBERS → at ≤ to → Stand (NumberedAt s table) to at rs → (word : List ℕ) (place : ℕ) → firstMatch rs word place ≡ foundIn s table at to word place
   numbered-by {to} {at} h l v word place = numbered-read (to - at) v (omega arith) word place ∙ sym (under-found at to h word place)
@@ -563,7 +571,7 @@ module _ {s : List ℕ} {t table : List (List ℕ)} {list place first at left nu
       pub numbering-pattern : pattern < length s
       numbering-pattern = midway-pattern (w .midway) h x o pattern b c d e f g end q
 
-      module _ (kind : ℕ) (ek : kind ≡ getD s pattern 0 % 64) (y : ℕ) (ey : y ≡ leadOf (take (b - pattern) (drop pattern s)))
+      module _ (kind : ℕ) (ek : kind ≡ getD s pattern 0 % 64) {y : Marks} (my : MarksAre (take (b - pattern) (drop pattern s)) (take (d - c) (drop c s)) (take (f - e) (drop e s)) y)
           (t₁ : List (List ℕ)) (et : t₁ ≡ numberedIn table number at y) where
         roomy₁ : Roomy t₁
         roomy₁ = rw et (numbered-room (w .roomy) number numbering-free at y)
@@ -588,15 +596,10 @@ module _ {s : List ℕ} {t table : List (List ℕ)} {list place first at left nu
           long-row = note-long (getD t₁ list []) row′ kind number (number + 1) numbering-kind er ∙ roomy₁ .wide list numbering-row
 
           module _ (u : List (List ℕ)) (a : Agree (number + 1) (set t₁ list row′) u) where
-            placed-here : notedAt u placesRow number ≡ at
-            placed-here =
-                a .places number (omega arith) ∙ agree₂ {n = number + 1} .places number (omega arith)
-                ∙ ap (λ (v : List (List ℕ)). notedAt v placesRow number) et ∙ numbered-place (w .roomy) number numbering-free at y
-
-            lead-here : notedAt u leadsRow number ≡ y
-            lead-here =
-                a .leads number (omega arith) ∙ agree₂ {n = number + 1} .leads number (omega arith)
-                ∙ ap (λ (v : List (List ℕ)). notedAt v leadsRow number) et ∙ numbered-lead (w .roomy) number numbering-free at y
+            noted-here : (j : ℕ) → j < 4 → notedAt u (placesRow + 32 * j) number ≡ getD (at ∷ y .lead ∷ y .before ∷ y .behind ∷ []) j 0
+            noted-here j l =
+                a .same number j (omega arith) l ∙ agree₂ {n = number + 1} .same number j (omega arith) l
+                ∙ ap (λ (v : List (List ℕ)). notedAt v (placesRow + 32 * j) number) et ∙ numbered-here (w .roomy) number numbering-free at y j l
 
             turn-notes : RowNotes (NumberedAt s u) (foundIn s u) (w .before ++ rule-here (w .midway) h x o pattern b c d e f g end q .value ∷ []) (number + 1) (getD (set t₁ list row′) list [])
             turn-notes =
@@ -605,8 +608,10 @@ module _ {s : List ℕ} {t table : List (List ℕ)} {list place first at left nu
                 (row-notes (getD t₁ list []) row′ kind number (number + 1) numbering-kind er (numbered-found s u) {before = w .before} {r = v .value}
                 (record {
                   rest = drop end s;
-                  reads = rw placed-here (v .reads);
-                  lead = lead-here ∙ ey ∙ ap (λ (l : List ℕ). leadOf l) (v .pattern);
+                  reads = rw (noted-here 0 (omega arith)) (v .reads);
+                  lead = noted-here 1 (omega arith) ∙ my .lead ∙ ap (λ (l : List ℕ). leadOf l) (v .pattern);
+                  before = noted-here 2 (omega arith) ∙ my .before ∙ ap leftBits (v .left);
+                  behind = noted-here 3 (omega arith) ∙ my .behind ∙ ap₂ behindBits (v .pattern) (v .right);
                   some = some-pattern (w .midway) h x o pattern b c d e f g end q;
                   forward = omega arith;
                   few = numbering-free;
@@ -629,4 +634,4 @@ module _ {s : List ℕ} {t table : List (List ℕ)} {list place first at left nu
             notes = turn-notes;
           }
 
-pub ruleset numbering-laws = (numbering-within, numbering-start, numbering-done, numbering-cut, numbering-free, numbering-row, numbering-pattern, numbering-kind, numbering-turn, pattern-order, pattern-fits, needs)
+pub ruleset numbering-laws = (numbering-within, numbering-start, numbering-done, numbering-cut, numbering-free, numbering-row, numbering-pattern, numbering-kind, numbering-turn, pattern-order, pattern-fits, left-order, left-fits, right-order, right-fits, needs)

@@ -1,5 +1,5 @@
 -- The table by which the rules of a pack's lists are looked up: a row for each of 98 lists, which has for each of 64 kinds of byte the number of
--- the first rule to try, and behind those the number behind the last one; and of each number its rule's place and the first two bytes of its pattern.
+-- the first rule to try, and behind those the number behind the last one; and of each number its rule's place and its marks, by which it is passed over.
 -- What is over 4,096 is no number but a place of the pack, put behind the numbers.
 use Prim.Native.Nat.{ℕ, zero, suc, _+_, _-_, _*_, _%_, _≤_, _<_, max}
 use mathlib.Core.Path.{_≡_}
@@ -16,10 +16,14 @@ use Rattle.strings.specs.Contracts.{behind}
 use Rattle.pack.specs.Numbers.{surveyedNumbers}
 use Rattle.pack.specs.declared.sections.Surveyed.{Surveyed}
 use Rattle.pack.specs.Contracts.{guessedAt}
-use Rattle.rule_index.specs.Rows.{placesRow, leadsRow, requiredRow, Roomy, notedAt, putAt}
+use Rattle.texts.specs.Parts.{firstByte, lastByte}
+use Rattle.texts.specs.Signatures.{bitOf, hasBits}
+use Rattle.regex_optim.specs.Contracts.{allBits, leftBits, rightBits}
+use Rattle.rule_index.specs.Rows.{placesRow, leadsRow, beforeRow, behindRow, requiredRow, Roomy, notedAt, putAll}
 use Rattle.rule_index.specs.GuessContracts.{guesser, guesserBy}
 use Rattle.rule_index.specs.Matching.{Match, none, by, Matcher, firstMatch}
 use Rattle.rule_index.specs.declared.numbers.Front.{Front}
+use Rattle.rule_index.specs.declared.numbers.Marks.{Marks}
 use Rattle.rule_index.specs.declared.matching.Matched.{Matched}
 use Rattle.rule_index.specs.declared.matching.Matched.the-variants.{By, Nothing}
 
@@ -48,28 +52,39 @@ NUMBERS = 4096
 abbrev pub leadOf : List ℕ → ℕ
 leadOf t = getD t 0 0 + 256 * getD t 1 0
 
--- a pattern with the first two bytes x may stand at the front of t: as its first byte alone, or as both
-unfoldable pub mayLead : ℕ → List ℕ → Bool
-mayLead x t = pick (eqb x (getD t 0 0)) true (eqb x (leadOf t))
+-- the bytes that may stand behind the first byte of a pattern: by the right context where it has no other
+unfoldable pub behindBits : List ℕ → List ℕ → ℕ
+behindBits pattern right = pick (eqb (length pattern) 1) (rightBits right) allBits
+
+-- the rule of a number is tried at a place with this byte, this and the next as one number, and bits of the bytes before and behind: its pattern may
+-- begin so, with one byte or with two, and its contexts may fit
+unfoldable pub triedBy : List (List ℕ) → ℕ → ℕ → ℕ → ℕ → ℕ → Bool
+triedBy table e one two before behind =
+    and (pick (eqb (notedAt table leadsRow e) one) true (eqb (notedAt table leadsRow e) two))
+    (and (hasBits (notedAt table beforeRow e) before) (hasBits (notedAt table behindRow e) behind))
+
+abbrev pub triedAt : List (List ℕ) → ℕ → List ℕ → ℕ → Bool
+triedAt table e word place =
+    triedBy table e (firstByte (drop place word)) (leadOf (drop place word)) (bitOf (lastByte (take place word))) (bitOf (firstByte (drop (place + 1) word)))
 
 unfoldable pub ruleIn : Read Rule → List Rule
 ruleIn cut = []
 ruleIn (got r q) = r ∷ []
 
--- the rule of a number, where it is tried before a text
-unfoldable pub ruleOf : List ℕ → List (List ℕ) → List ℕ → ℕ → List Rule
-ruleOf s table t e = pick (mayLead (notedAt table leadsRow e) t) (ruleIn (readRule (drop (notedAt table placesRow e) s))) []
+-- the rule of a number, where it is tried at a place of a word
+unfoldable pub ruleOf : List ℕ → List (List ℕ) → List ℕ → ℕ → ℕ → List Rule
+ruleOf s table word place e = pick (triedAt table e word place) (ruleIn (readRule (drop (notedAt table placesRow e) s))) []
 
 -- those of n numbers from e on
-unfoldable pub numbered : List ℕ → List (List ℕ) → List ℕ → ℕ → ℕ → List Rule
-numbered s table t e zero = []
-numbered s table t e (suc n) = ruleOf s table t e ++ numbered s table t (suc e) n
+unfoldable pub numbered : List ℕ → List (List ℕ) → List ℕ → ℕ → ℕ → ℕ → List Rule
+numbered s table word place e zero = []
+numbered s table word place e (suc n) = ruleOf s table word place e ++ numbered s table word place (suc e) n
 
 -- the rule that is found by two numbers, or two places, of a row
 unfoldable pub foundIn : List ℕ → List (List ℕ) → ℕ → ℕ → Matcher
 foundIn s table start stop word place =
     pick (ltb NUMBERS stop) (firstMatch (rulesBetween (stop - NUMBERS) s (start - NUMBERS) (stop - NUMBERS)) word place)
-    (firstMatch (numbered s table (drop place word) start (stop - start)) word place)
+    (firstMatch (numbered s table word place start (stop - start)) word place)
 
 -- the one that a row has where a byte is met
 abbrev pub foundBy : List ℕ → List (List ℕ) → List ℕ → Matcher
@@ -105,15 +120,17 @@ abbrev pub OneMatch : List ℕ → ℕ → List ℕ → ℕ → Matched → Type
 OneMatch s at word place r = MatchIs s word place (firstMatch (ruleIn (readRule (drop at s))) word place) r
 
 abbrev pub NumberMatch : List ℕ → List (List ℕ) → ℕ → List ℕ → ℕ → Matched → Type 0
-NumberMatch s table e word place r = MatchIs s word place (firstMatch (ruleOf s table (drop place word) e) word place) r
+NumberMatch s table e word place r = MatchIs s word place (firstMatch (ruleOf s table word place e) word place) r
 
--- the front of a text: its first byte, and its first two as one number
-pub record FrontIs (t : List ℕ) (front : Front) : Type 0 where
-  pub one : front .one ≡ getD t 0 0
-  pub two : front .two ≡ leadOf t
+-- what a word has at a place
+pub record FrontIs (word : List ℕ) (place : ℕ) (front : Front) : Type 0 where
+  pub one : front .one ≡ firstByte (drop place word)
+  pub two : front .two ≡ leadOf (drop place word)
+  pub before : front .before ≡ bitOf (lastByte (take place word))
+  pub behind : front .behind ≡ bitOf (firstByte (drop (place + 1) word))
 
 abbrev pub FirstNumbered : List ℕ → List (List ℕ) → ℕ → ℕ → List ℕ → ℕ → Matched → Type 0
-FirstNumbered s table start stop word place r = MatchIs s word place (firstMatch (numbered s table (drop place word) start (stop - start)) word place) r
+FirstNumbered s table start stop word place r = MatchIs s word place (firstMatch (numbered s table word place start (stop - start)) word place) r
 
 -- the promise of `first_match`
 abbrev pub FirstMatch : List ℕ → List (List ℕ) → ℕ → List ℕ → ℕ → Matched → Type 0
@@ -158,14 +175,19 @@ pub record RowPlaces (s row : List ℕ) (rules : List Rule) : Type 0 where
 
 -- ---- the table
 
--- a rule stored for a number: its place, and the first two bytes of its pattern
-abbrev pub numberedIn : List (List ℕ) → ℕ → ℕ → ℕ → List (List ℕ)
-numberedIn table e place lead = putAt (putAt table placesRow e place) leadsRow e lead
+-- the marks of a rule
+pub record MarksAre (pattern left right : List ℕ) (marks : Marks) : Type 0 where
+  pub lead : marks .lead ≡ leadOf pattern
+  pub before : marks .before ≡ leftBits left
+  pub behind : marks .behind ≡ behindBits pattern right
+
+-- a rule stored for a number: its place and its marks
+abbrev pub numberedIn : List (List ℕ) → ℕ → ℕ → Marks → List (List ℕ)
+numberedIn table e place marks = putAll table placesRow e (place ∷ marks .lead ∷ marks .before ∷ marks .behind ∷ [])
 
 -- two tables have the same rules for the numbers below n
 pub record Agree (n : ℕ) (t u : List (List ℕ)) : Type 0 where
-  pub places : (e : ℕ) → e < n → notedAt u placesRow e ≡ notedAt t placesRow e
-  pub leads : (e : ℕ) → e < n → notedAt u leadsRow e ≡ notedAt t leadsRow e
+  pub same : (e j : ℕ) → e < n → j < 4 → notedAt u (placesRow + 32 * j) e ≡ notedAt t (placesRow + 32 * j) e
 
 -- by a row the rules of a list are found, whatever is stored for the numbers from n on
 pub record RowFinds (s : List ℕ) (table : List (List ℕ)) (n : ℕ) (row : List ℕ) (rules : List Rule) : Type 0 where

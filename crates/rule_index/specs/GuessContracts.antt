@@ -4,7 +4,7 @@ use mathlib.Core.Path.{_≡_}
 use mathlib.Core.List.{List, []}
 use lib.ListN.{getD, drop}
 use Rattle.base.specs.Pick.{pick}
-use Rattle.lang.specs.Contracts.{signatureOf, hasBits}
+use Rattle.texts.specs.Signatures.{signatureOf, hasBits}
 use Rattle.languages.specs.declared.sets.LanguageSet.{LanguageSet}
 use Rattle.languages.specs.declared.sets.LanguageSet.the-variants.{Any}
 use Rattle.strings.specs.Reading.{Read, cut, got}

@@ -1,18 +1,25 @@
 -- The rows of the table: one for each of 98 lists, and behind those the numbers that are noted of rules and of guessing rules.
 use Prim.Native.Nat.{ℕ, _+_, _/_, _%_, _<_}
 use mathlib.Core.Path.{_≡_}
-use mathlib.Core.List.{List, []}
+use mathlib.Core.List.{List, [], _∷_}
 use lib.ListN.{length, getD, set}
 
--- the first row of the rules' places, of the first two bytes of their patterns, of what guessing rules require, and of their places
+-- the first row of the rules' places, of the first two bytes of their patterns, of the bytes that may stand before a place and behind its first byte,
+-- of what guessing rules require, and of their places
 abbrev pub placesRow : ℕ
 placesRow = 98
 
 abbrev pub leadsRow : ℕ
 leadsRow = placesRow + 32
 
+abbrev pub beforeRow : ℕ
+beforeRow = leadsRow + 32
+
+abbrev pub behindRow : ℕ
+behindRow = beforeRow + 32
+
 abbrev pub requiredRow : ℕ
-requiredRow = leadsRow + 32
+requiredRow = behindRow + 32
 
 abbrev pub guessRow : ℕ
 guessRow = requiredRow + 32
@@ -31,3 +38,8 @@ notedAt table row i = getD (getD table (row + i / 128) []) (i % 128) 0
 
 unfoldable pub putAt : List (List ℕ) → ℕ → ℕ → ℕ → List (List ℕ)
 putAt table row i x = set table (row + i / 128) (set (getD table (row + i / 128) []) (i % 128) x)
+
+-- numbers stored as the i-th of a row each, which stand one behind the other
+unfoldable pub putAll : List (List ℕ) → ℕ → ℕ → List ℕ → List (List ℕ)
+putAll table row i [] = table
+putAll table row i (x ∷ l) = putAll (putAt table row i x) (row + 32) i l

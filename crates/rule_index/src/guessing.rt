@@ -6,7 +6,7 @@ ghost use lib.Dec.{eqb};
 ghost use lib.ListN.{drop};
 ghost use Rattle.base.specs.Pick.{pick};
 ghost use Rattle.languages.specs.Sets.{without};
-ghost use Rattle.lang.specs.Contracts.{signatureOf};
+ghost use Rattle.texts.specs.Signatures.{signatureOf};
 ghost use Rattle.languages.specs.Numbers.{setNumbers};
 ghost use Rattle.pack.specs.Packs.{guess, readGuess};
 ghost use Rattle.pack.specs.PlaceContracts.{ruleCount};
@@ -105,7 +105,7 @@ fn narrow_noted(pack: &[u8], table: &Table, i: usize, left: u32, name: &[u8], si
     requires { ⌜ signature ≡ signatureOf (now name) ⌝ }
     ensures { λ r. ⌜ r ≡ narrowedNoted (now (pack .entry)) (now (table .entry)) (now (name .entry)) i left ⌝ }
 {
-    if lang::has_bits(signature, noted_at(table, REQUIRED, i) as u64) {
+    if texts::has_bits(signature, noted_at(table, REQUIRED, i) as u64) {
         narrow_at(pack, noted_at(table, GUESSES, i), left, name)
     } else {
         left
@@ -117,7 +117,7 @@ fn narrow_all(pack: &[u8], table: &Table, count: usize, all: u32, name: &[u8]) -
     requires { ⌜ count ≤ 4096 ⌝ }
     ensures { λ r. ⌜ r ≡ narrowedByFirst (now (pack .entry)) (now (table .entry)) (now (name .entry)) count all ⌝ }
 {
-    let signature = lang::signature(name);
+    let signature = texts::signature(name);
     let mut left = all;
     let mut i: usize = 0;
     while i < count {

@@ -5,7 +5,7 @@ ghost use lib.ListN.{length, getD};
 ghost use Rattle.rule_index.specs.Contracts.{notedIn, RowReady, RowPlaces, ListReady, ListIndexed, ListsReady, ListsFound, IndexIs};
 ghost use Rattle.pack.specs.PlaceContracts.{ruleCount, listAt};
 use crate::guessing::note_guesses;
-use crate::numbers::lead_of;
+use crate::numbers::marks_of;
 use crate::numbers::number_rule;
 use crate::rows::COLUMNS;
 use crate::rows::LISTS;
@@ -92,16 +92,20 @@ fn number_list(pack: &[u8], table: &mut Table, list: usize, place: usize, first:
             RuleAt::At {
                 pattern,
                 pattern_end,
-                left: _,
-                left_end: _,
-                right: _,
-                right_end: _,
+                left: before,
+                left_end: before_end,
+                right: behind,
+                right_end: behind_end,
                 expression: _,
                 end,
             } => {
                 let kind = kind_at(pack, pattern);
-                let lead = lead_of(&pack[pattern..pattern_end]);
-                number_rule(table, number, at, lead);
+                let marks = marks_of(
+                    &pack[pattern..pattern_end],
+                    &pack[before..before_end],
+                    &pack[behind..behind_end],
+                );
+                number_rule(table, number, at, marks);
                 note(&mut table[list], kind, number, number + 1);
                 at = end;
                 number += 1;

@@ -1,13 +1,12 @@
 // The first rule of a list that matches at a place of a word (`RulesApplication` of engine.rs).
 ghost use mathlib.Core.Path.{_≡_};
 ghost use Prim.Native.Nat.{_≤_, _<_, _-_, max};
-ghost use lib.ListN.{length, drop};
+ghost use lib.ListN.{length};
 ghost use Rattle.rule_index.specs.Contracts.{foundIn, MatchIs, FrontIs, OneMatch, NumberMatch, FirstNumbered, FirstBetween, FirstMatch};
 use crate::indexing::KINDS;
 use crate::numbers::Front;
 use crate::numbers::front_of;
-use crate::numbers::may_lead;
-use crate::rows::LEADS;
+use crate::numbers::is_tried;
 use crate::rows::LISTS;
 use crate::rows::NUMBERS;
 use crate::rows::PLACES;
@@ -116,7 +115,7 @@ fn match_one(pack: &[u8], at: usize, word: &[u8], place: usize) -> Matched
     }
 }
 
-// The rule of a number, where it matches; `front` is that of the word's rest. Most rules are passed over by it.
+// The rule of a number, where it matches; `front` is what the word has at the place.
 fn try_number(
     pack: &[u8],
     table: &Table,
@@ -125,10 +124,10 @@ fn try_number(
     word: &[u8],
     place: usize,
 ) -> Matched
-    requires { ⌜ (number < 4096) × (place < length (now word)) × FrontIs (drop place (now word)) front ⌝ }
+    requires { ⌜ (number < 4096) × (place < length (now word)) × FrontIs (now word) place front ⌝ }
     ensures { λ r. ⌜ NumberMatch (now (pack .entry)) (now (table .entry)) number (now (word .entry)) place r ⌝ }
 {
-    if may_lead(noted_at(table, LEADS, number), front) {
+    if is_tried(table, number, front) {
         match_one(pack, noted_at(table, PLACES, number), word, place)
     } else {
         Matched::Nothing
@@ -147,7 +146,7 @@ fn first_numbered(
     requires { ⌜ (stop ≤ 4096) × (place < length (now word)) ⌝ }
     ensures { λ r. ⌜ FirstNumbered (now (pack .entry)) (now (table .entry)) start stop (now (word .entry)) place r ⌝ }
 {
-    let front = front_of(&word[place..word.len()]);
+    let front = front_of(word, place);
     let mut number = start;
     while number < stop {
         match try_number(pack, table, number, front, word, place) {

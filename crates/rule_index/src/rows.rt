@@ -12,12 +12,17 @@ pub const COLUMNS: usize = 128;
 // So many numbers are held of a kind: a pack has no more guessing rules, and no more rules of its lists are numbered.
 pub(crate) const NUMBERS: usize = 4096;
 
-// The first rows of the rules' places, of the first two bytes of their patterns, of what guessing rules require, and of their places.
+// The first rows of the rules' places, of the first two bytes of their patterns, of the bytes that may stand before a place and behind its
+// first byte, of what guessing rules require, and of their places.
 pub(crate) const PLACES: usize = LISTS;
 
 pub(crate) const LEADS: usize = PLACES + NUMBERS / COLUMNS;
 
-pub(crate) const REQUIRED: usize = LEADS + NUMBERS / COLUMNS;
+pub(crate) const BEFORE: usize = LEADS + NUMBERS / COLUMNS;
+
+pub(crate) const BEHIND: usize = BEFORE + NUMBERS / COLUMNS;
+
+pub(crate) const REQUIRED: usize = BEHIND + NUMBERS / COLUMNS;
 
 pub(crate) const GUESSES: usize = REQUIRED + NUMBERS / COLUMNS;
 

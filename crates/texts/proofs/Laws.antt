@@ -2,7 +2,7 @@
 use mathlib.Core.Path.{_≡_, refl, sym, ap, _∙_}
 use mathlib.Core.Bool.{Bool, true, false}
 use mathlib.Core.List.{List, [], _∷_}
-use Prim.Native.Nat.{ℕ, suc, _+_, _-_, _≤_, _<_, zero-le}
+use Prim.Native.Nat.{ℕ, zero, suc, _+_, _-_, _≤_, _<_, zero-le}
 use native.Mathlib.Decide.{decLe}
 use native.Mathlib.Nat.{sub-zero}
 use native.Mathlib.Numerals.{add-one}
@@ -11,13 +11,17 @@ use lib.Dec.{eqb}
 use lib.ListN.{length, getD, take, drop, drop-of-length-le, length-drop}
 use lib.Seq.{drop-cons, take-all, take-length}
 use borrow.Author.Needs.{needs}
-use borrow.Author.Tests.{lt-ltb, le-ltb, eq-eqb, ne-eqb}
+use borrow.Author.Tests.{lt-ltb, le-ltb, eq-eqb, ne-eqb, eqb-true}
 use Rattle.base.specs.Pick.{pick, and}
 use Rattle.texts.specs.Parts.{tail, front, firstIs, lastIs, placeOf, prefixOf, suffixOf, caret, dollar, withoutCaret, withoutDollar}
 use Rattle.base.proofs.Arms.{clash}
-use Rattle.base.proofs.PickLaws.{pick-true, pick-false, and-no}
+use Rattle.base.proofs.PickLaws.{pick-true, pick-false, and-no, and-inv}
 
 -- ---- the first and the last byte
+
+pub no-byte : (s : List ℕ) (i : ℕ) → length s ≤ 0 → 0 ≡ getD s i 0
+no-byte [] i h = refl
+no-byte (x ∷ s) i h = absurd (omega arith)
 
 pub first-some : (s : List ℕ) (b : ℕ) → 0 < length s → eqb (getD s 0 0) b ≡ firstIs b s
 unfolding firstIs
@@ -146,6 +150,14 @@ prefix-within t s e = elim (decLe (length t) (length s)) [
   | no k ↦ let n = prefix-short t s (omega arith) in clash (cc)
 ]
 
+-- what a text begins with has its bytes
+pub prefix-byte : (t s : List ℕ) → prefixOf t s ≡ true → (i : ℕ) → i < length t → getD s i 0 ≡ getD t i 0
+unfolding prefixOf
+prefix-byte [] s e i h = absurd (omega arith)
+prefix-byte (x ∷ t) [] e i h = clash (cc)
+prefix-byte (x ∷ t) (y ∷ s) e zero h = eqb-true y x (and-inv _ _ e .0)
+prefix-byte (x ∷ t) (y ∷ s) e (suc i) h = prefix-byte t s (and-inv _ _ e .1) i (omega arith)
+
 pub record Matching (t s : List ℕ) (i : ℕ) : Type 0 where
   pub fits : length t ≤ length s
   pub within : i ≤ length t
@@ -183,4 +195,4 @@ unfolding suffixOf
 suffix-by t s r h e =
     e ∙ ap (prefixOf t) (take-all (length s - (length s - length t)) (drop (length s - length t) s) (rw length-drop (omega arith))) ∙ sym (pick-false _ _ _ (le-ltb _ _ h))
 
-pub ruleset parts-laws = (first-some, first-none, last-some, last-none, looking-start, looking-next, looking-found, looking-none, prefix-short, matching-start, matching-in, matching-next, matching-stop, matching-done, suffix-short, suffix-by, needs)
+pub ruleset parts-laws = (no-byte, first-some, first-none, last-some, last-none, looking-start, looking-next, looking-found, looking-none, prefix-short, matching-start, matching-in, matching-next, matching-stop, matching-done, suffix-short, suffix-by, needs)

@@ -3,7 +3,7 @@ use Prim.Native.Nat.{ℕ, suc, _-_}
 use mathlib.Core.Bool.{Bool, true, false}
 use mathlib.Core.List.{List, [], _∷_}
 use lib.Dec.{eqb, ltb}
-use lib.ListN.{length, drop}
+use lib.ListN.{length, getD, drop}
 use Rattle.base.specs.Pick.{pick, and}
 
 -- all but the first byte
@@ -16,6 +16,13 @@ unfoldable pub front : List ℕ → List ℕ
 front [] = []
 front (x ∷ []) = []
 front (x ∷ y ∷ l) = x ∷ front (y ∷ l)
+
+-- the first and the last byte; 0 where there is none
+abbrev pub firstByte : List ℕ → ℕ
+firstByte s = getD s 0 0
+
+abbrev pub lastByte : List ℕ → ℕ
+lastByte s = getD s (length s - 1) 0
 
 unfoldable pub firstIs : ℕ → List ℕ → Bool
 firstIs b [] = false

@@ -1,8 +1,29 @@
 // Parts of texts: what a text begins and ends with, where a byte or a character stands in it, and a text without its anchors.
 ghost use mathlib.Core.Path.{_≡_};
 ghost use Rattle.letters.specs.Reading.{codesOf};
-ghost use Rattle.texts.specs.Parts.{firstIs, lastIs, placeOf, has, prefixOf, suffixOf, withoutCaret, withoutDollar};
+ghost use Rattle.texts.specs.Parts.{firstByte, lastByte, firstIs, lastIs, placeOf, has, prefixOf, suffixOf, withoutCaret, withoutDollar};
+
+mod signatures;
+
 use letters::Step;
+pub use signatures::bit_of;
+pub use signatures::has_bits;
+pub use signatures::signature;
+
+// The first byte of s, and 0 where it has none.
+pub fn first_byte(s: &[u8]) -> u8
+    ensures { λ r. ⌜ r ≡ firstByte (now (s .entry)) ⌝ }
+{
+    if 0 < s.len() { s[0] } else { 0 }
+}
+
+// The last byte of s, and 0 where it has none.
+pub fn last_byte(s: &[u8]) -> u8
+    ensures { λ r. ⌜ r ≡ lastByte (now (s .entry)) ⌝ }
+{
+    let n = s.len();
+    if 0 < n { s[n - 1] } else { 0 }
+}
 
 // Whether the first byte of s is b.
 pub fn first_is(s: &[u8], b: u8) -> bool

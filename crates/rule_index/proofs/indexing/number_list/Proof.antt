@@ -11,9 +11,4 @@ abbrev μ-loop : tie.MeasureT-loop
 
 pub number-list-spec : {M : Type 1} → statement M
 number-list-spec =
-    tie.close (tie.spec Inv-loop μ-loop (λ c κs. search numbering-laws) (λ c. omega (arith, numbering-within (c .before .before .pre .0))) (λ c. search numbering-laws)
-    (λ c κs. search numbering-laws) (λ c. search numbering-laws) (λ c κs. search numbering-laws) (λ c. search numbering-laws)
-    (λ c. search numbering-laws) (λ c. search numbering-laws) (λ c κs. search numbering-laws) (λ c κs. search numbering-laws)
-    (λ c. search numbering-laws) (λ c. search numbering-laws) (λ c. search numbering-laws) (λ c κs. search numbering-laws)
-    (λ c. search numbering-laws) (λ c. search numbering-laws) (λ c. search numbering-laws) (λ c. search numbering-laws)
-    (λ c. search numbering-laws) (λ c. search numbering-laws) (λ c. search numbering-laws))
+    tie.close (tie.spec Inv-loop μ-loop (λ c κs. search numbering-laws) (λ c. omega (arith, numbering-within (c .before .before .pre .0))) (λ c. search numbering-laws) (λ c κs. search numbering-laws) (λ c. search numbering-laws) (λ c κs. search numbering-laws) (λ c. search numbering-laws) (λ c. search numbering-laws) (λ c. search numbering-laws) (λ c. search numbering-laws) (λ c. search numbering-laws) (λ c. search numbering-laws) (λ c. search numbering-laws) (λ c. search numbering-laws) (λ c. search numbering-laws) (λ c κs. search numbering-laws) (λ c κs. search numbering-laws) (λ c. search numbering-laws) (λ c. search numbering-laws) (λ c. search numbering-laws) (λ c κs. search numbering-laws) (λ c. search numbering-laws) (λ c. search numbering-laws) (λ c. search numbering-laws) (λ c. search numbering-laws) (λ c. search numbering-laws) (λ c. search numbering-laws) (λ c. search numbering-laws))

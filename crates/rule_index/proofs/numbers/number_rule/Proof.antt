@@ -1,7 +1,8 @@
-use Rattle.rule_index.proofs.CellLaws.{put-laws}
-use Rattle.rule_index.proofs.numbers.number_rule.Statement.{statement}
-use Rattle.rule_index.proofs.numbers.number_rule.Tie as tie
+use Rattle.rule_index.proofs
+use proofs.CellLaws.{put-laws}
+use proofs.numbers.number_rule.Statement.{statement}
+use proofs.numbers.number_rule.Tie as tie
 
 pub number-rule-spec : {M : Type 1} → statement M
 number-rule-spec =
-    tie.close (tie.spec (λ c κs. search put-laws) (λ c κs. search put-laws) (λ c. search put-laws))
+    tie.close (tie.spec (λ c κs. search put-laws) (λ c κs. search put-laws) (λ c κs. search put-laws) (λ c κs. search put-laws) (λ c. search put-laws))

@@ -1,15 +1,15 @@
 use Prim.Native.Nat.{_-_}
 use lib.ListN.{length}
-use Rattle.lang.proofs
-use proofs.Shortcuts.{Signing, signing-laws}
+use Rattle.texts.proofs
+use proofs.SignatureLaws.{Signing, signing-laws}
 use proofs.signatures.signature.Statement.{statement}
 use proofs.signatures.signature.Tie as tie
 
 abbrev Inv-loop : tie.InvT-loop
-Inv-loop name i₀ bits₀ i bits = Signing name i bits
+Inv-loop s i₀ bits₀ i bits = Signing s i bits
 
 abbrev μ-loop : tie.MeasureT-loop
-μ-loop name i₀ bits₀ i bits = length name - i
+μ-loop s i₀ bits₀ i bits = length s - i
 
 pub signature-spec : {M : Type 1} → statement M
 signature-spec =

@@ -1,5 +1,5 @@
-use Rattle.lang.proofs
-use proofs.Shortcuts.{signing-laws}
+use Rattle.texts.proofs
+use proofs.SignatureLaws.{signing-laws}
 use proofs.signatures.bit_of.Statement.{statement}
 use proofs.signatures.bit_of.Tie as tie
 

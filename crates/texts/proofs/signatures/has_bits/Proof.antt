@@ -1,6 +1,6 @@
 use borrow.Author.Needs.{needs}
-use Rattle.lang.specs.Contracts.{hasBits}
-use Rattle.lang.proofs
+use Rattle.texts.specs.Signatures.{hasBits}
+use Rattle.texts.proofs
 use proofs.signatures.has_bits.Statement.{statement}
 use proofs.signatures.has_bits.Tie as tie
 
