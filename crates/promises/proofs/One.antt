@@ -129,6 +129,21 @@ texts-without-dollar κs a = (tt, λ x y v w. one)
 pub texts-has-char : Settled texts.has_char.ended texts.has_char.Reads.Asked texts.has_char.Reads.Learnt
 texts-has-char κs a = (tt, λ x y v w p q. (one p q, refl))
 
+pub texts-first-byte : Settled texts.first_byte.ended texts.first_byte.Reads.Asked texts.first_byte.Reads.Learnt
+texts-first-byte κs a = (tt, λ x y v w p q. (one p q, refl))
+
+pub texts-last-byte : Settled texts.last_byte.ended texts.last_byte.Reads.Asked texts.last_byte.Reads.Learnt
+texts-last-byte κs a = (tt, λ x y v w p q. (one p q, refl))
+
+pub texts-bit-of : Settled texts.bit_of.ended texts.bit_of.Reads.Asked texts.bit_of.Reads.Learnt
+texts-bit-of κs a = (tt, λ x y v w p q. (one p q, refl))
+
+pub texts-signature : Settled texts.signature.ended texts.signature.Reads.Asked texts.signature.Reads.Learnt
+texts-signature κs a = (tt, λ x y v w p q. (one p q, refl))
+
+pub texts-has-bits : Settled texts.has_bits.ended texts.has_bits.Reads.Asked texts.has_bits.Reads.Learnt
+texts-has-bits κs a = (tt, λ x y v w p q. (one p q, refl))
+
 -- ---- writing
 
 pub writing-push : Settled writing.push.ended writing.push.Reads.Asked writing.push.Reads.Learnt
@@ -222,6 +237,12 @@ pub «regex_optim-left-fits» : Settled regex_optim.left_fits.ended regex_optim.
 pub «regex_optim-right-fits» : Settled regex_optim.right_fits.ended regex_optim.right_fits.Reads.Asked regex_optim.right_fits.Reads.Learnt
 «regex_optim-right-fits» κs a = (tt, λ x y v w p q. (one p q, refl))
 
+pub «regex_optim-left-bits» : Settled regex_optim.left_bits.ended regex_optim.left_bits.Reads.Asked regex_optim.left_bits.Reads.Learnt
+«regex_optim-left-bits» κs a = (tt, λ x y v w p q. (one p q, refl))
+
+pub «regex_optim-right-bits» : Settled regex_optim.right_bits.ended regex_optim.right_bits.Reads.Asked regex_optim.right_bits.Reads.Learnt
+«regex_optim-right-bits» κs a = (tt, λ x y v w p q. (one p q, refl))
+
 -- ---- lang
 
 pub lang-check-pattern : Settled lang.check_pattern.ended lang.check_pattern.Reads.Asked lang.check_pattern.Reads.Learnt
@@ -230,14 +251,8 @@ lang-check-pattern κs a = (tt, λ x y v w p q. (one p q, refl))
 pub lang-matches : Settled lang.matches.ended lang.matches.Reads.Asked lang.matches.Reads.Learnt
 lang-matches κs a = (tt, λ x y v w p q. (one p q, refl))
 
-pub lang-signature : Settled lang.signature.ended lang.signature.Reads.Asked lang.signature.Reads.Learnt
-lang-signature κs a = (tt, λ x y v w p q. (one p q, refl))
-
 pub lang-required-bits : Settled lang.required_bits.ended lang.required_bits.Reads.Asked lang.required_bits.Reads.Learnt
 lang-required-bits κs a = (tt, λ x y v w p q. (one p q, refl))
-
-pub lang-has-bits : Settled lang.has_bits.ended lang.has_bits.Reads.Asked lang.has_bits.Reads.Learnt
-lang-has-bits κs a = (tt, λ x y v w p q. (one p q, refl))
 
 -- ---- rule
 
