@@ -17,7 +17,7 @@ use Rattle.pack.specs
 use specs.Packs.{readRule, readList, all, orderedByCode, listGood}
 use Rattle.rule_lines.specs.Rules.{Rule, rule, ruleGood}
 use specs.PlaceContracts.{judge, placedFrom, placedRule, ruleStandsAt, countIn, ruleCount, NUMBERS, notedIn, placedIn, rowFrom}
-use specs.Contracts.{endIn, allFrom, ruleFits, rulesFrom, ruledAs, ruledIn, RulesAre, ListIs}
+use specs.Contracts.{endIn, allFrom, ruleFits, rulesFrom, ruledAs, ruledIn, RulesNoted, ListNoted}
 use Rattle.strings.specs.Contracts.{ByteIs, behind, numberAt, stringAt}
 use Rattle.strings.specs.declared.Number.{Number}
 use Rattle.strings.specs.declared.Number.the-variants as number
@@ -126,7 +126,7 @@ rule-read s at x q g =
 pub record RuleIs (s : List ℕ) (at a b c d e f g h : ℕ) : Type 0 where
   pub value : Rule
   pub reads : readRule (drop at s) ≡ got value (drop h s)
-  pub begins : at < a
+  pub begins : a ≡ at + 1
   pub one : a ≤ b
   pub two : b < c
   pub three : c ≤ d
@@ -161,7 +161,7 @@ is-by s at a b c d e f g h (got r q) o k =
     record {
       value = r;
       reads = o ∙ ap (got r) (w .rest ∙ ap (λ (n : ℕ). drop n s) fh);
-      begins = omega arith;
+      begins = sym ea;
       one = omega arith;
       two = omega arith;
       three = omega arith;
@@ -287,7 +287,7 @@ pub listing-start : (s names : List ℕ) (start count : ℕ) (row : List ℕ) �
 listing-start s names start count row h = record { within = h; is = refl; noted = refl }
 
 -- a rule more in a row
-row-next : (s : List ℕ) (n at e : ℕ) (row : List ℕ) (r : Rule) → 0 < n → readRule (drop at s) ≡ got r (drop e s) → e ≤ length s → rowFrom s n at row ≡ rowFrom s (n - 1) e (placedIn s row at e)
+pub row-next : (s : List ℕ) (n at e : ℕ) (row : List ℕ) (r : Rule) → 0 < n → readRule (drop at s) ≡ got r (drop e s) → e ≤ length s → rowFrom s n at row ≡ rowFrom s (n - 1) e (placedIn s row at e)
 unfolding rowFrom behind
 row-next s zero at e row r h g f = let no-way : ⊥ = omega arith in absurd no-way
 row-next s (suc n) at e row r h g f =
@@ -343,14 +343,14 @@ module _ {s names : List ℕ} {start count : ℕ} {row : List ℕ} {at left leas
         noted = w .noted ∙ row-next s left at e row′ (ruling .value) h (ruling .reads) (ruling .fits) ∙ ap (rowFrom s (left - 1) e) (sym f);
       }
 
-    pub listing-bad : x ≡ ruled.Bad → RulesAre s names count start row Bad row′
+    pub listing-bad : x ≡ ruled.Bad → RulesNoted s names count start row Bad row′
     unfolding ruledIn rulesFrom
     listing-bad q = record {
       result = sym (w .is ∙ walk-off s readRule (ruleFits names) (λ m r. firstCode (r .pattern)) (λ m. true) least left _ h (off-by s names at least (judged _ _ _ _ _ (sym g ∙ q))));
       noted = λ e o. clash (cc);
     }
 
-  pub listing-done : left ≤ 0 → RulesAre s names count start row (End at) row′
+  pub listing-done : left ≤ 0 → RulesNoted s names count start row (End at) row′
   unfolding rulesFrom pick rowFrom
   listing-done h =
       let none : left ≡ 0 = omega arith in
@@ -410,19 +410,19 @@ unfolding listGood
 list-not names rs h = and-first _ _ (lt-leb _ _ h)
 
 module _ (s names : List ℕ) (at : ℕ) (row : List ℕ) (r : Number) (p : r ≡ numberAt 2 s at) where
-  pub list-cut : r ≡ number.Cut → ListIs s names at row Bad row
+  pub list-cut : r ≡ number.Cut → ListNoted s names at row Bad row
   unfolding readList
   list-cut q = record { result = counted-cut s readRule (listGood names) (rulesFrom names 0) 4096 (list-not names) (list-is names) at r p q; noted = λ e o. clash (cc) }
 
   module _ (n d : ℕ) (q : r ≡ number.Of n d) where
-    pub list-much : 4096 < n → ListIs s names at row Bad row
+    pub list-much : 4096 < n → ListNoted s names at row Bad row
     unfolding readList
     list-much h = record { result = counted-much s readRule (listGood names) (rulesFrom names 0) 4096 (list-not names) (list-is names) at r p n d q h; noted = λ e o. clash (cc) }
 
     pub list-starts : d ≤ length s
     list-starts = count-of s at r n d p q .fits
 
-    pub list-many : (x : Section) (row′ : List ℕ) → n ≤ 4096 → RulesAre s names n d row x row′ → ListIs s names at row x row′
+    pub list-many : (x : Section) (row′ : List ℕ) → n ≤ 4096 → RulesNoted s names n d row x row′ → ListNoted s names at row x row′
     unfolding readList
     list-many x row′ h v = record {
       result = counted-many s readRule (listGood names) (rulesFrom names 0) 4096 (list-not names) (list-is names) at r p n d q x h (v .result);

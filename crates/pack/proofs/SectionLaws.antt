@@ -25,7 +25,7 @@ use Rattle.pack.specs
 use specs.Packs.{Pack, Verdict, accepted, refused, readNames, readGuesses, readList, all, holds, any, namesGood, guessesGood, listGood, section, namesIn, listCount, listSections, endSection, packOf, verdictOf, stringsLength}
 use Rattle.rule_lines.specs.Rules.{Rule}
 use specs.PlaceContracts.{surveyedOf, judge, foundIn, placesOf, rowAt, Stored, SurveyIs}
-use specs.Contracts.{endIn, allFrom, past, follows, metBy, namesFrom, listsEnd, ListIs, ListsAre, ended, restOf, restPlaces, RestIs}
+use specs.Contracts.{endIn, allFrom, past, follows, metBy, namesFrom, listsEnd, ListNoted, ListsAre, ended, restOf, restPlaces, RestIs}
 use Rattle.strings.specs.Contracts.{ByteIs, stringAt}
 use specs.declared
 use declared.sections.Section.{Section}
@@ -235,7 +235,7 @@ found-none s names zero r f = refl
 found-none s names (suc n) r f = judge-faulty _ _ _ _ f
 
 module _ {s names : List ℕ} {start count : ℕ} {places : List ℕ} {rows : List (List ℕ)} {at left k : ℕ} {places′ : List ℕ} {rows′ : List (List ℕ)} (w : Found s names start count places rows at left k places′ rows′) where
-  module _ (x : Section) (row : List ℕ) (g : ListIs s names at (replicate 128 0) x row) (h : 0 < left) where
+  module _ (x : Section) (row : List ℕ) (g : ListNoted s names at (replicate 128 0) x row) (h : 0 < left) where
     pub found-next : (e : ℕ) (places″ : List ℕ) (rows″ : List (List ℕ)) → x ≡ End e → places″ ≡ set places′ k at → rows″ ≡ set rows′ k row → Found s names start count places rows e (left - 1) (k + 1) places″ rows″
     found-next e places″ rows″ q f f₂ =
         let o = section-ends s (listGood names) readList (drop at s) x (g .result) list-ends (end-here s at (w .within)) e q in

@@ -103,12 +103,12 @@ listsEnd s names (suc n) r = judge (lists.Fault (placeIn s r)) (listGood names) 
 -- ---- the list count, the lists and the end
 
 -- n rules from a place on, and the row in which they are noted where they are good
-pub record RulesAre (s names : List ℕ) (n at : ℕ) (row : List ℕ) (r : Section) (row′ : List ℕ) : Type 0 where
+pub record RulesNoted (s names : List ℕ) (n at : ℕ) (row : List ℕ) (r : Section) (row′ : List ℕ) : Type 0 where
   pub result : r ≡ endIn s (rulesFrom names 0) (readMany readRule n (drop at s))
   pub noted : (e : ℕ) → r ≡ End e → row′ ≡ rowFrom s n at row
 
 -- the list at a place, and its row where it is good
-pub record ListIs (s names : List ℕ) (at : ℕ) (row : List ℕ) (r : Section) (row′ : List ℕ) : Type 0 where
+pub record ListNoted (s names : List ℕ) (at : ℕ) (row : List ℕ) (r : Section) (row′ : List ℕ) : Type 0 where
   pub result : r ≡ endIn s (listGood names) (readList (drop at s))
   pub noted : (e : ℕ) → r ≡ End e → row′ ≡ rowFrom s (ruleCount s at) (at + 2) row
 

@@ -4,7 +4,7 @@ ghost use Prim.Native.Nat.{_≤_};
 ghost use lib.ListN.{length, drop};
 ghost use Rattle.pack.specs.Packs.{readRule};
 ghost use Rattle.pack.specs.PlaceContracts.{ruleStandsAt, ruleCount};
-ghost use Rattle.pack.specs.Contracts.{ruledOf, ruledIn, RulesAre, ListIs};
+ghost use Rattle.pack.specs.Contracts.{ruledOf, ruledIn, RulesNoted, ListNoted};
 use crate::rows::Row;
 use crate::rows::note_place;
 use crate::sections::Section;
@@ -135,7 +135,7 @@ fn next_rule(pack: &[u8], at: usize, names: &[u8], least: u32) -> Ruled
 // Where `count` rules end, by first character, each noted in a row.
 fn rules_from(pack: &[u8], start: usize, count: u32, names: &[u8], row: &mut Row) -> Section
     requires { ⌜ start ≤ length (now pack) ⌝ }
-    ensures { λ r. ⌜ RulesAre (now (pack .entry)) (now (names .entry)) count start (now (row .entry)) r (now (row .exit)) ⌝ }
+    ensures { λ r. ⌜ RulesNoted (now (pack .entry)) (now (names .entry)) count start (now (row .entry)) r (now (row .exit)) ⌝ }
 {
     let mut at = start;
     let mut left = count;
@@ -158,7 +158,7 @@ fn rules_from(pack: &[u8], start: usize, count: u32, names: &[u8], row: &mut Row
 
 // Where the list at a place ends, its rules noted in a row; at most 4,096 rules.
 pub(crate) fn list_section(pack: &[u8], at: usize, names: &[u8], row: &mut Row) -> Section
-    ensures { λ r. ⌜ ListIs (now (pack .entry)) (now (names .entry)) at (now (row .entry)) r (now (row .exit)) ⌝ }
+    ensures { λ r. ⌜ ListNoted (now (pack .entry)) (now (names .entry)) at (now (row .entry)) r (now (row .exit)) ⌝ }
 {
     match strings::count_at(pack, at) {
         Number::Of { value: count, next } => {

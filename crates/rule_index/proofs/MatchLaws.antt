@@ -29,7 +29,8 @@ use Rattle.pack.proofs.Laws.{short-expression}
 use Rattle.rule_index.specs
 use specs.Matching.{Match, none, by, firstMatch}
 use specs.Rows.{placesRow, leadsRow, notedAt}
-use specs.Contracts.{NUMBERS, rulesBetween, ruleIn, ruleOf, mayLead, FrontIs, numbered, foundIn, matcher, RuleIn, MatchIs, seen, seenIn}
+use Rattle.pack.specs.PlaceContracts.{NUMBERS}
+use specs.Contracts.{rulesBetween, ruleIn, ruleOf, mayLead, FrontIs, numbered, foundIn, matcher, RuleIn, MatchIs, seen, seenIn}
 use Rattle.rule_index.proofs.RowLaws.{orElse, first-append}
 use specs.declared
 use declared.numbers.Front.{Front}

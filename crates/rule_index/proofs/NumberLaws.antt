@@ -6,7 +6,8 @@ use native.Mathlib.Omega.{arith}
 use lib.ListN.{getD, set}
 use Rattle.rule_index.specs
 use specs.Rows.{placesRow, leadsRow, requiredRow, rows, Roomy, notedAt, putAt}
-use specs.Contracts.{NUMBERS, numberedIn, Agree}
+use Rattle.pack.specs.PlaceContracts.{NUMBERS}
+use specs.Contracts.{numberedIn, Agree}
 use Rattle.rule_index.proofs.CellLaws.{put-same, put-other, put-room, put-before, put-behind, set-noted}
 
 -- ---- a rule's two numbers
