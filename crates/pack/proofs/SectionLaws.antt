@@ -240,7 +240,7 @@ module _ {s names : List ℕ} {start count : ℕ} {places : List ℕ} {rows : Li
     found-next e places″ rows″ q f f₂ =
         let o = section-ends s (listGood names) readList (drop at s) x (g .result) list-ends (end-here s at (w .within)) e q in
         let one : foundIn s names left (drop at s) ≡ at ∷ foundIn s names (left - 1) (drop e s) =
-            found-one s names left _ (o .value) _ h (o .reads) (o .passes) ∙ ap (λ (n : ℕ). n ∷ foundIn s names (left - 1) (drop e s)) (place-drop s at (w .within)) in
+        found-one s names left _ (o .value) _ h (o .reads) (o .passes) ∙ ap (λ (n : ℕ). n ∷ foundIn s names (left - 1) (drop e s)) (place-drop s at (w .within)) in
         record {
           within = o .fits;
           counted = omega arith;

@@ -470,7 +470,7 @@ module _ {s row : List ℕ} {whole : List Rule} {at left : ℕ} (w : Placing s w
         let kind : ℕ = getD s (at + 1) 0 % 64 in
         let room : kind + 64 < length row = omega (arith, w .long) in
         let byte : kind ≡ getD (v .value .pattern) 0 0 % 64 =
-            ap (λ (m : ℕ). m % 64) (ap (λ (m : ℕ). getD s m 0) (sym (v .begins)) ∙ sym (first-byte (w .midway) h x o pattern b c d e f g end q)) in
+        ap (λ (m : ℕ). m % 64) (ap (λ (m : ℕ). getD s m 0) (sym (v .begins)) ∙ sym (first-byte (w .midway) h x o pattern b c d e f g end q)) in
         let here-at : NUMBERS + at - NUMBERS ≡ at = omega arith in
         let there : NUMBERS + end - NUMBERS ≡ end = omega arith in
         record {
