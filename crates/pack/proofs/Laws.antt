@@ -49,9 +49,9 @@ use proofs.SectionLaws.{section-is, found-one, written, written-length, names-wr
 use Rattle.base.proofs.PickLaws.{pick-all, and-inv}
 use Rattle.languages.specs.Contracts.{BitsBelow}
 
--- the promise of a survey allows one answer and one content of `places`
-pub survey-one : {s t o o′ : List ℕ} {r r′ : Surveyed} → SurveyIs s t r o → SurveyIs s t r′ o′ → (r ≡ r′) × (o ≡ o′)
-survey-one a b = (surveyed-one _ _ (one (a .result) (b .result)), one (a .buffer) (b .buffer))
+-- the promise of a survey allows one answer and one content of `places` and of `rows`
+pub survey-one : {s t o o′ : List ℕ} {u p p′ : List (List ℕ)} {r r′ : Surveyed} → SurveyIs s t u r o p → SurveyIs s t u r′ o′ p′ → (r ≡ r′) × (o ≡ o′) × (p ≡ p′)
+survey-one a b = (surveyed-one _ _ (one (a .result) (b .result)), one (a .stored .placed) (b .stored .placed), one (a .stored .noted) (b .stored .noted))
 
 -- ---- the sections of an accepted pack
 

@@ -3,7 +3,7 @@ use borrow.Author.Needs.{needs}
 use mathlib.Core.Path.{_≡_, refl, sym, ap, ap₂, subst, _∙_}
 use mathlib.Core.Bool.{Bool, true, false}
 use mathlib.Core.List.{List, [], _∷_}
-use Prim.Native.Nat.{ℕ, _+_, _-_, _≤_, _<_, zero-le}
+use Prim.Native.Nat.{ℕ, zero, suc, _+_, _-_, _%_, _≤_, _<_, zero-le}
 use native.Mathlib.Omega.{arith}
 use lib.Dec.{leb}
 use lib.ListN.{length, take, drop, length-take, length-drop}
@@ -16,9 +16,9 @@ use Rattle.strings.specs.Reading.{Read, cut, got, andRead, readMany, placeIn}
 use Rattle.pack.specs
 use specs.Packs.{readRule, readList, all, orderedByCode, listGood}
 use Rattle.rule_lines.specs.Rules.{Rule, rule, ruleGood}
-use specs.PlaceContracts.{judge, placedFrom, placedRule, ruleStandsAt, countIn, ruleCount}
-use specs.Contracts.{endIn, allFrom, ruleFits, rulesFrom, ruledAs, ruledIn}
-use Rattle.strings.specs.Contracts.{numberAt, stringAt}
+use specs.PlaceContracts.{judge, placedFrom, placedRule, ruleStandsAt, countIn, ruleCount, NUMBERS, notedIn, placedIn, rowFrom}
+use specs.Contracts.{endIn, allFrom, ruleFits, rulesFrom, ruledAs, ruledIn, RulesNoted, ListNoted}
+use Rattle.strings.specs.Contracts.{ByteIs, behind, numberAt, stringAt}
 use Rattle.strings.specs.declared.Number.{Number}
 use Rattle.strings.specs.declared.Number.the-variants as number
 use specs.declared
@@ -126,7 +126,7 @@ rule-read s at x q g =
 pub record RuleIs (s : List ℕ) (at a b c d e f g h : ℕ) : Type 0 where
   pub value : Rule
   pub reads : readRule (drop at s) ≡ got value (drop h s)
-  pub begins : at < a
+  pub begins : a ≡ at + 1
   pub one : a ≤ b
   pub two : b < c
   pub three : c ≤ d
@@ -161,7 +161,7 @@ is-by s at a b c d e f g h (got r q) o k =
     record {
       value = r;
       reads = o ∙ ap (got r) (w .rest ∙ ap (λ (n : ℕ). drop n s) fh);
-      begins = omega arith;
+      begins = sym ea;
       one = omega arith;
       two = omega arith;
       three = omega arith;
@@ -271,14 +271,28 @@ module _ (s : List ℕ) (at : ℕ) (x : RuleAt) (o : x ≡ ruleStandsAt s at) wh
 
 pub ruleset next-rule-laws = (next-cut, pattern-order, pattern-fits, left-order, left-fits, right-order, right-fits, expression-order, expression-fits, next-rule, needs)
 
+-- ---- a rule noted by its place
+
+pub noted-place : (s row row′ : List ℕ) (at e b x y : ℕ) → ByteIs s (at + 1) b → x ≡ NUMBERS + at → y ≡ NUMBERS + e → row′ ≡ notedIn row (b % 64) x y → row′ ≡ placedIn s row at e
+noted-place s row row′ at e b x y w f g h = rw (f, g, w .is) at h
+
 -- ---- the rules of a list
 
-pub record Listing (s names : List ℕ) (start count at left least : ℕ) : Type 0 where
+pub record Listing (s names : List ℕ) (start count : ℕ) (row : List ℕ) (at left least : ℕ) (row′ : List ℕ) : Type 0 where
   pub within : at ≤ length s
   pub is : endIn s (rulesFrom names 0) (readMany readRule count (drop start s)) ≡ endIn s (rulesFrom names least) (readMany readRule left (drop at s))
+  pub noted : rowFrom s count start row ≡ rowFrom s left at row′
 
-pub listing-start : (s names : List ℕ) (start count : ℕ) → start ≤ length s → Listing s names start count start count 0
-listing-start s names start count h = record { within = h; is = refl }
+pub listing-start : (s names : List ℕ) (start count : ℕ) (row : List ℕ) → start ≤ length s → Listing s names start count row start count 0 row
+listing-start s names start count row h = record { within = h; is = refl; noted = refl }
+
+-- a rule more in a row
+pub row-next : (s : List ℕ) (n at e : ℕ) (row : List ℕ) (r : Rule) → 0 < n → readRule (drop at s) ≡ got r (drop e s) → e ≤ length s → rowFrom s n at row ≡ rowFrom s (n - 1) e (placedIn s row at e)
+unfolding rowFrom behind
+row-next s zero at e row r h g f = let no-way : ⊥ = omega arith in absurd no-way
+row-next s (suc n) at e row r h g f =
+    let m : n ≡ suc n - 1 = omega arith in
+    rw g (ap (λ (p : ℕ). rowFrom s n p (placedIn s row at p)) (place-drop s e f) ∙ ap (λ (k : ℕ). rowFrom s k e (placedIn s row at e)) m)
 
 -- what was ruled, taken apart
 record Ruling (s names : List ℕ) (at least e code : ℕ) : Type 0 where
@@ -307,28 +321,45 @@ off-by : (s names : List ℕ) (at least : ℕ)
 off-by s names at least (faulty x y) = x
 off-by s names at least (fine r q g h y) = clash (cc)
 
-module _ {s names : List ℕ} {start count at left least : ℕ} (w : Listing s names start count at left least) where
+module _ {s names : List ℕ} {start count : ℕ} {row : List ℕ} {at left least : ℕ} {row′ : List ℕ} (w : Listing s names start count row at left least row′) where
+  pub listing-within : at ≤ length s
+  listing-within = w .within
+
   module _ (x : Ruled) (g : x ≡ ruledIn s names least (readRule (drop at s))) (h : 0 < left) where
-    pub listing-next : (e code : ℕ) → x ≡ ruled.Next e code → Listing s names start count e (left - 1) code
+    module _ (e code : ℕ) (q : x ≡ ruled.Next e code) where
+      ruling : Ruling s names at least e code
+      unfolding ruledIn
+      ruling = ruling-by s names at least e code (w .within) (judged _ _ _ _ _ (sym g ∙ q))
+
+      pub listing-fits : e ≤ length s
+      listing-fits = ruling .fits
+
+      pub listing-next : (row″ : List ℕ) → row″ ≡ placedIn s row′ at e → Listing s names start count row e (left - 1) code row″
+      unfolding rulesFrom
+      listing-next row″ f = record {
+        within = ruling .fits;
+        is = w .is ∙ walk-on s readRule (ruleFits names) (λ m r. firstCode (r .pattern)) (λ m. true) least left _ (ruling .value) _ h (ruling .reads) (ruling .passes)
+            ∙ ap (λ (m : ℕ). endIn s (rulesFrom names m) (readMany readRule (left - 1) (drop e s))) (ruling .first);
+        noted = w .noted ∙ row-next s left at e row′ (ruling .value) h (ruling .reads) (ruling .fits) ∙ ap (rowFrom s (left - 1) e) (sym f);
+      }
+
+    pub listing-bad : x ≡ ruled.Bad → RulesNoted s names count start row Bad row′
     unfolding ruledIn rulesFrom
-    listing-next e code q =
-        let o = ruling-by s names at least e code (w .within) (judged _ _ _ _ _ (sym g ∙ q)) in
-        record {
-          within = o .fits;
-          is = w .is ∙ walk-on s readRule (ruleFits names) (λ m r. firstCode (r .pattern)) (λ m. true) least left _ (o .value) _ h (o .reads) (o .passes)
-              ∙ ap (λ (m : ℕ). endIn s (rulesFrom names m) (readMany readRule (left - 1) (drop e s))) (o .first);
-        }
+    listing-bad q = record {
+      result = sym (w .is ∙ walk-off s readRule (ruleFits names) (λ m r. firstCode (r .pattern)) (λ m. true) least left _ h (off-by s names at least (judged _ _ _ _ _ (sym g ∙ q))));
+      noted = λ e o. clash (cc);
+    }
 
-    pub listing-bad : x ≡ ruled.Bad → Bad ≡ endIn s (rulesFrom names 0) (readMany readRule count (drop start s))
-    unfolding ruledIn rulesFrom
-    listing-bad q =
-        sym (w .is ∙ walk-off s readRule (ruleFits names) (λ m r. firstCode (r .pattern)) (λ m. true) least left _ h (off-by s names at least (judged _ _ _ _ _ (sym g ∙ q))))
+  pub listing-done : left ≤ 0 → RulesNoted s names count start row (End at) row′
+  unfolding rulesFrom pick rowFrom
+  listing-done h =
+      let none : left ≡ 0 = omega arith in
+      record {
+        result = sym (w .is ∙ walk-end s readRule (ruleFits names) (λ m r. firstCode (r .pattern)) (λ m. true) least left at h (w .within));
+        noted = λ e o. sym (w .noted ∙ ap (λ (n : ℕ). rowFrom s n at row′) none);
+      }
 
-  pub listing-done : left ≤ 0 → End at ≡ endIn s (rulesFrom names 0) (readMany readRule count (drop start s))
-  unfolding rulesFrom pick
-  listing-done h = sym (w .is ∙ walk-end s readRule (ruleFits names) (λ m r. firstCode (r .pattern)) (λ m. true) least left at h (w .within))
-
-pub ruleset listing-laws = (listing-start, listing-next, listing-bad, listing-done, needs)
+pub ruleset listing-laws = (listing-start, listing-within, listing-fits, listing-next, listing-bad, listing-done, needs)
 
 -- ---- a list is good where each of its rules is, behind the one before
 
@@ -378,21 +409,24 @@ list-not : (names : List ℕ) (rs : List Rule) → 4096 < length rs → listGood
 unfolding listGood
 list-not names rs h = and-first _ _ (lt-leb _ _ h)
 
-module _ (s names : List ℕ) (at : ℕ) (r : Number) (p : r ≡ numberAt 2 s at) where
-  pub list-cut : r ≡ number.Cut → Bad ≡ endIn s (listGood names) (readList (drop at s))
+module _ (s names : List ℕ) (at : ℕ) (row : List ℕ) (r : Number) (p : r ≡ numberAt 2 s at) where
+  pub list-cut : r ≡ number.Cut → ListNoted s names at row Bad row
   unfolding readList
-  list-cut = counted-cut s readRule (listGood names) (rulesFrom names 0) 4096 (list-not names) (list-is names) at r p
+  list-cut q = record { result = counted-cut s readRule (listGood names) (rulesFrom names 0) 4096 (list-not names) (list-is names) at r p q; noted = λ e o. clash (cc) }
 
   module _ (n d : ℕ) (q : r ≡ number.Of n d) where
-    pub list-much : 4096 < n → Bad ≡ endIn s (listGood names) (readList (drop at s))
+    pub list-much : 4096 < n → ListNoted s names at row Bad row
     unfolding readList
-    list-much = counted-much s readRule (listGood names) (rulesFrom names 0) 4096 (list-not names) (list-is names) at r p n d q
+    list-much h = record { result = counted-much s readRule (listGood names) (rulesFrom names 0) 4096 (list-not names) (list-is names) at r p n d q h; noted = λ e o. clash (cc) }
 
     pub list-starts : d ≤ length s
     list-starts = count-of s at r n d p q .fits
 
-    pub list-many : (x : Section) → n ≤ 4096 → x ≡ endIn s (rulesFrom names 0) (readMany readRule n (drop d s)) → x ≡ endIn s (listGood names) (readList (drop at s))
+    pub list-many : (x : Section) (row′ : List ℕ) → n ≤ 4096 → RulesNoted s names n d row x row′ → ListNoted s names at row x row′
     unfolding readList
-    list-many = counted-many s readRule (listGood names) (rulesFrom names 0) 4096 (list-not names) (list-is names) at r p n d q
+    list-many x row′ h v = record {
+      result = counted-many s readRule (listGood names) (rulesFrom names 0) 4096 (list-not names) (list-is names) at r p n d q x h (v .result);
+      noted = λ e o. v .noted e o ∙ ap₂ (λ (k m : ℕ). rowFrom s k m row) (rules-many s at n d r p q) (count-of s at r n d p q .ends);
+    }
 
 pub ruleset list-laws = (list-cut, list-much, list-starts, list-many, needs)

@@ -1,13 +1,13 @@
 -- The names, the lists and the survey: the loops over them, and that the sections one after the other are the pack. Assumes nothing.
-use mathlib.Core.Path.{_≡_, refl, sym, ap, ap₂, _∙_}
+use mathlib.Core.Path.{_≡_, refl, sym, ap, ap₂, subst, _∙_}
 use mathlib.Core.Bool.{Bool, true, false}
-use mathlib.Core.List.{List, [], _∷_, _++_, append-assoc}
+use mathlib.Core.List.{List, [], _∷_, _++_, map, append-assoc}
 use Prim.Native.Nat.{ℕ, zero, suc, _+_, _-_, _*_, _≤_, _<_, zero-le}
 use native.Mathlib.Nat.{not-suc-le-zero}
 use native.Mathlib.Numerals.{add-one}
 use native.Mathlib.Omega.{arith}
 use lib.Dec.{eqb, leb}
-use lib.ListN.{length, getD, take, drop, set, length-append, length-drop, length-set, take-append-drop}
+use lib.ListN.{length, getD, take, drop, set, replicate, length-append, length-drop, length-set, take-append-drop}
 use lib.Seq.{sets, set-out, length-take-le}
 use borrow.Author.Needs.{needs}
 use borrow.Author.Tests.{le-leb, lt-leb, leb-true, eq-eqb, ne-eqb}
@@ -24,8 +24,8 @@ use Rattle.strings.specs.Reading.{Read, cut, got, andRead, readByte, readText, 
 use Rattle.pack.specs
 use specs.Packs.{Pack, Verdict, accepted, refused, readNames, readGuesses, readList, all, holds, any, namesGood, guessesGood, listGood, section, namesIn, listCount, listSections, endSection, packOf, verdictOf, stringsLength}
 use Rattle.rule_lines.specs.Rules.{Rule}
-use specs.PlaceContracts.{surveyedOf, judge, foundIn, placesOf, SurveyIs}
-use specs.Contracts.{endIn, allFrom, past, follows, metBy, namesFrom, listsEnd, ListsAre, ended, restOf, restPlaces, RestIs}
+use specs.PlaceContracts.{surveyedOf, judge, foundIn, placesOf, rowAt, Stored, SurveyIs}
+use specs.Contracts.{endIn, allFrom, past, follows, metBy, namesFrom, listsEnd, ListNoted, ListsAre, ended, restOf, restPlaces, RestIs}
 use Rattle.strings.specs.Contracts.{ByteIs, stringAt}
 use specs.declared
 use declared.sections.Section.{Section}
@@ -192,18 +192,24 @@ pub ruleset naming-laws = (names-none, names-much, naming-start, naming-cut, nam
 
 -- ---- the lists, one after the other
 
-pub put-out : (l : List ℕ) (k v : ℕ) → length l ≤ k → l ≡ set l k v
+pub put-out : {A : Type 0} (l : List A) (k : ℕ) (v : A) → length l ≤ k → l ≡ set l k v
 put-out l k v h = sym (set-out l k v h)
 
-pub record Found (s names : List ℕ) (start count : ℕ) (places : List ℕ) (at left k : ℕ) (places′ : List ℕ) : Type 0 where
+pub record Found (s names : List ℕ) (start count : ℕ) (places : List ℕ) (rows : List (List ℕ)) (at left k : ℕ) (places′ : List ℕ) (rows′ : List (List ℕ)) : Type 0 where
   pub within : at ≤ length s
   pub counted : k + left ≡ count
   pub same : length places′ ≡ length places
+  pub wide : length rows′ ≡ length rows
   pub is : listsEnd s names count (drop start s) ≡ listsEnd s names left (drop at s)
-  pub stored : sets places 0 (foundIn s names count (drop start s)) ≡ sets places′ k (foundIn s names left (drop at s))
+  pub placed : sets places 0 (foundIn s names count (drop start s)) ≡ sets places′ k (foundIn s names left (drop at s))
+  pub noted : sets rows 0 (map (rowAt s) (foundIn s names count (drop start s))) ≡ sets rows′ k (map (rowAt s) (foundIn s names left (drop at s)))
 
-pub found-start : (s names : List ℕ) (start count : ℕ) (places : List ℕ) → start ≤ length s → Found s names start count places start count 0 places
-found-start s names start count places h = record { within = h; counted = omega arith; same = refl; is = refl; stored = refl }
+pub found-start : (s names : List ℕ) (start count : ℕ) (places : List ℕ) (rows : List (List ℕ)) → start ≤ length s → Found s names start count places rows start count 0 places rows
+found-start s names start count places rows h = record { within = h; counted = omega arith; same = refl; wide = refl; is = refl; placed = refl; noted = refl }
+
+-- what is stored of a list at a place, and then of the others
+stored-next : {A : Type 0} (f : ℕ → A) (l : List A) (k place : ℕ) (found more : List ℕ) → found ≡ place ∷ more → sets l k (map f found) ≡ sets (set l k (f place)) (k + 1) (map f more)
+stored-next f l k place found more e = ap (λ (x : List ℕ). sets l k (map f x)) e ∙ ap (λ (n : ℕ). sets (set l k (f place)) n (map f more)) (sym (add-one k))
 
 ends-one : (s names : List ℕ) (n : ℕ) (r : List ℕ) (rules : List Rule) (q : List ℕ) → 0 < n → readList r ≡ got rules q → listGood names rules ≡ true
     → listsEnd s names n r ≡ listsEnd s names (n - 1) q
@@ -228,77 +234,89 @@ unfolding foundIn
 found-none s names zero r f = refl
 found-none s names (suc n) r f = judge-faulty _ _ _ _ f
 
-module _ {s names : List ℕ} {start count : ℕ} {places : List ℕ} {at left k : ℕ} {places′ : List ℕ} (w : Found s names start count places at left k places′) where
-  module _ (x : Section) (g : x ≡ endIn s (listGood names) (readList (drop at s))) (h : 0 < left) where
-    pub found-next : (e : ℕ) (places″ : List ℕ) → x ≡ End e → places″ ≡ set places′ k at → Found s names start count places e (left - 1) (k + 1) places″
-    found-next e places″ q f =
-        let o = section-ends s (listGood names) readList (drop at s) x g list-ends (end-here s at (w .within)) e q in
+module _ {s names : List ℕ} {start count : ℕ} {places : List ℕ} {rows : List (List ℕ)} {at left k : ℕ} {places′ : List ℕ} {rows′ : List (List ℕ)} (w : Found s names start count places rows at left k places′ rows′) where
+  module _ (x : Section) (row : List ℕ) (g : ListNoted s names at (replicate 128 0) x row) (h : 0 < left) where
+    pub found-next : (e : ℕ) (places″ : List ℕ) (rows″ : List (List ℕ)) → x ≡ End e → places″ ≡ set places′ k at → rows″ ≡ set rows′ k row → Found s names start count places rows e (left - 1) (k + 1) places″ rows″
+    found-next e places″ rows″ q f f₂ =
+        let o = section-ends s (listGood names) readList (drop at s) x (g .result) list-ends (end-here s at (w .within)) e q in
+        let one : foundIn s names left (drop at s) ≡ at ∷ foundIn s names (left - 1) (drop e s) =
+        found-one s names left _ (o .value) _ h (o .reads) (o .passes) ∙ ap (λ (n : ℕ). n ∷ foundIn s names (left - 1) (drop e s)) (place-drop s at (w .within)) in
         record {
           within = o .fits;
           counted = omega arith;
           same = ap length f ∙ length-set places′ k at ∙ w .same;
+          wide = ap length f₂ ∙ length-set rows′ k row ∙ w .wide;
           is = w .is ∙ ends-one s names left _ (o .value) _ h (o .reads) (o .passes);
-          stored = w .stored ∙ ap (sets places′ k) (found-one s names left _ (o .value) _ h (o .reads) (o .passes))
-              ∙ ap₂ (λ (l : List ℕ) (v : ℕ). sets l v (foundIn s names (left - 1) (drop e s))) (ap (set places′ k) (place-drop s at (w .within)) ∙ sym f) (sym (add-one k));
+          placed = w .placed ∙ ap (sets places′ k) one ∙ ap₂ (λ (l : List ℕ) (v : ℕ). sets l v (foundIn s names (left - 1) (drop e s))) (sym f) (sym (add-one k));
+          noted = w .noted ∙ stored-next (rowAt s) rows′ k at _ _ one
+              ∙ ap (λ (l : List (List ℕ)). sets l (k + 1) (map (rowAt s) (foundIn s names (left - 1) (drop e s)))) (sym (f₂ ∙ ap (set rows′ k) (g .noted e q)));
         }
 
-    pub found-fault : x ≡ Bad → ListsAre s names count start places (lists.Fault at) places′
+    pub found-fault : x ≡ Bad → ListsAre s names count start places rows (lists.Fault at) places′ rows′
     found-fault q =
-        let o = section-faulty s (listGood names) readList (drop at s) x g q in
+        let o = section-faulty s (listGood names) readList (drop at s) x (g .result) q in
+        let none = found-none s names left _ o in
         record {
           result = sym (w .is ∙ ends-none s names left _ h o ∙ ap lists.Fault (place-drop s at (w .within)));
-          buffer = sym (w .stored ∙ ap (sets places′ k) (found-none s names left _ o));
+          stored = record { placed = sym (w .placed ∙ ap (sets places′ k) none); noted = sym (w .noted ∙ ap (λ (l : List ℕ). sets rows′ k (map (rowAt s) l)) none) };
         }
 
-  pub found-done : left ≤ 0 → ListsAre s names count start places (lists.Done at) places′
+  pub found-done : left ≤ 0 → ListsAre s names count start places rows (lists.Done at) places′ rows′
   unfolding listsEnd foundIn
   found-done h =
       let none : left ≡ 0 = omega arith in
       record {
         result = sym (w .is ∙ ap (λ (n : ℕ). listsEnd s names n (drop at s)) none ∙ ap lists.Done (place-drop s at (w .within)));
-        buffer = sym (w .stored ∙ ap (λ (n : ℕ). sets places′ k (foundIn s names n (drop at s))) none);
+        stored = record {
+          placed = sym (w .placed ∙ ap (λ (n : ℕ). sets places′ k (foundIn s names n (drop at s))) none);
+          noted = sym (w .noted ∙ ap (λ (n : ℕ). sets rows′ k (map (rowAt s) (foundIn s names n (drop at s)))) none);
+        };
       }
 
 pub ruleset found-laws = (found-start, found-next, found-fault, found-done, needs)
 
+-- where no list is found nothing is stored
+none-stored : (s places : List ℕ) (rows : List (List ℕ)) (found : List ℕ) → found ≡ [] → Stored s places rows found places rows
+none-stored s places rows found e = record { placed = sym (ap (sets places 0) e); noted = sym (ap (λ (l : List ℕ). sets rows 0 (map (rowAt s) l)) e) }
+
 -- ---- the list count, the lists and the end
 
-module _ (s names : List ℕ) (n at : ℕ) (places : List ℕ) where
-  pub rest-none : length s ≤ at → at ≤ length s → RestIs s names n at places (checked.Refused at) places
+module _ (s names : List ℕ) (n at : ℕ) (places : List ℕ) (rows : List (List ℕ)) where
+  pub rest-none : length s ≤ at → at ≤ length s → RestIs s names n at places rows (checked.Refused at) places rows
   unfolding restOf restPlaces judge
-  rest-none h w = record { result = rw (byte-none s at h) (ap checked.Refused (sym (place-drop s at w))); buffer = rw (byte-none s at h) refl }
+  rest-none h w = record { result = rw (byte-none s at h) (ap checked.Refused (sym (place-drop s at w))); stored = none-stored s places rows _ (rw (byte-none s at h) refl) }
 
   module _ (k : ℕ) (h : at < length s) (b : ByteIs s at k) where
     byte-reads : readByte (drop at s) ≡ got k (drop (at + 1) s)
     byte-reads = byte-some s at h ∙ ap (λ (x : ℕ). got x (drop (at + 1) s)) (sym (b .is))
 
-    pub rest-count : (k ≡ 3 * n + 2 → ⊥) → RestIs s names n at places (checked.Refused at) places
+    pub rest-count : (k ≡ 3 * n + 2 → ⊥) → RestIs s names n at places rows (checked.Refused at) places rows
     unfolding restOf restPlaces listCount
     rest-count e =
         let f : Faulty (λ (c : ℕ). eqb c (3 * n + 2)) (readByte (drop at s)) = fails k _ byte-reads (ne-eqb _ _ e) in
         let w : at ≤ length s = omega arith in
         record {
           result = sym (judge-faulty _ _ _ _ f ∙ ap checked.Refused (place-drop s at w));
-          buffer = sym (ap (sets places 0) (judge-faulty _ _ _ _ f));
+          stored = none-stored s places rows _ (judge-faulty _ _ _ _ f);
         }
 
-    module _ (e : k ≡ 3 * n + 2) (x : Lists) (places′ : List ℕ) (l : ListsAre s names k (at + 1) places x places′) where
-      rest-by : (y : Checked) → y ≡ ended s x → RestIs s names n at places y places′
+    module _ (e : k ≡ 3 * n + 2) (x : Lists) (places′ : List ℕ) (rows′ : List (List ℕ)) (l : ListsAre s names k (at + 1) places rows x places′ rows′) where
+      rest-by : (y : Checked) → y ≡ ended s x → RestIs s names n at places rows y places′ rows′
       unfolding restOf restPlaces listCount
       rest-by y q = record {
         result = q ∙ ap (ended s) (l .result) ∙ sym (judge-fine _ _ _ _ k _ byte-reads (eq-eqb _ _ e));
-        buffer = l .buffer ∙ ap (sets places 0) (sym (judge-fine _ _ _ _ k _ byte-reads (eq-eqb _ _ e)));
+        stored = subst (λ (f : List ℕ). Stored s places rows f places′ rows′) (sym (judge-fine _ _ _ _ k _ byte-reads (eq-eqb _ _ e))) (l .stored);
       }
 
-      pub rest-fault : (p : ℕ) → x ≡ lists.Fault p → RestIs s names n at places (checked.Refused p) places′
+      pub rest-fault : (p : ℕ) → x ≡ lists.Fault p → RestIs s names n at places rows (checked.Refused p) places′ rows′
       unfolding ended
       rest-fault p q = rest-by _ (sym (ap (ended s) q))
 
-      pub rest-ends : (p : ℕ) → x ≡ lists.Done p → p ≡ length s → RestIs s names n at places checked.Accepted places′
+      pub rest-ends : (p : ℕ) → x ≡ lists.Done p → p ≡ length s → RestIs s names n at places rows checked.Accepted places′ rows′
       unfolding ended
       rest-ends p q f = rest-by _ (sym (ap (ended s) q ∙ pick-true _ _ _ (eq-eqb _ _ f)))
 
-      pub rest-more : (p : ℕ) → x ≡ lists.Done p → (p ≡ length s → ⊥) → RestIs s names n at places (checked.Refused p) places′
+      pub rest-more : (p : ℕ) → x ≡ lists.Done p → (p ≡ length s → ⊥) → RestIs s names n at places rows (checked.Refused p) places′ rows′
       unfolding ended
       rest-more p q f = rest-by _ (sym (ap (ended s) q ∙ pick-false _ _ _ (ne-eqb _ _ f)))
 
@@ -449,14 +467,14 @@ module _ (s : List ℕ) (g : ℕ) (w : Ending s namesGood (readNames s) g) where
 
 -- ---- the survey
 
-module _ (s places : List ℕ) (x₁ : Section) (e₁ : x₁ ≡ endIn s namesGood (readNames s)) where
-  pub survey-names : x₁ ≡ Bad → SurveyIs s places (surveyed.Refused 0) places
+module _ (s places : List ℕ) (rows : List (List ℕ)) (x₁ : Section) (e₁ : x₁ ≡ endIn s namesGood (readNames s)) where
+  pub survey-names : x₁ ≡ Bad → SurveyIs s places rows (surveyed.Refused 0) places rows
   unfolding packOf placesOf surveyedOf
   survey-names q =
       let f = section-faulty s namesGood readNames s x₁ e₁ q in
       record {
         result = surveyed-told _ _ (sym (ap surveyedOf (section-is _ _ _ _ ∙ judge-faulty _ _ _ _ f)));
-        buffer = sym (ap (sets places 0) (judge-faulty _ _ _ _ f));
+        stored = none-stored s places rows _ (judge-faulty _ _ _ _ f);
       }
 
   module _ (g : ℕ) (q₁ : x₁ ≡ End g) where
@@ -480,14 +498,14 @@ module _ (s places : List ℕ) (x₁ : Section) (e₁ : x₁ ≡ endIn s namesGo
         e₂′ : x₂ ≡ endIn s (guessesGood (length (front .value))) (readGuesses (drop g s))
         e₂′ = e₂ ∙ ap (λ (k : ℕ). endIn s (guessesGood k) (readGuesses (drop g s))) (sym count)
 
-        pub survey-guesses : x₂ ≡ Bad → SurveyIs s places (surveyed.Refused g) places
+        pub survey-guesses : x₂ ≡ Bad → SurveyIs s places rows (surveyed.Refused g) places rows
         unfolding packOf placesOf surveyedOf
         survey-guesses q =
             let f = section-faulty s _ readGuesses (drop g s) x₂ e₂′ q in
             record {
               result = surveyed-told _ _ (sym (ap surveyedOf (section-is _ _ _ _ ∙ judge-fine _ _ _ _ (front .value) _ (front .reads) (front .passes) ∙ section-is _ _ _ _ ∙ judge-faulty _ _ _ _ f)
                   ∙ ap surveyed.Refused (place-drop s g (front .fits))));
-              buffer = sym (ap (sets places 0) (judge-fine _ _ _ _ (front .value) _ (front .reads) (front .passes) ∙ judge-faulty _ _ _ _ f));
+              stored = none-stored s places rows _ (judge-fine _ _ _ _ (front .value) _ (front .reads) (front .passes) ∙ judge-faulty _ _ _ _ f);
             }
 
         module _ (c : ℕ) (q₂ : x₂ ≡ End c) where
@@ -497,18 +515,18 @@ module _ (s places : List ℕ) (x₁ : Section) (e₁ : x₁ ≡ endIn s namesGo
           pub survey-counted : c ≤ length s
           survey-counted = middle .fits
 
-          module _ (x₃ : Checked) (places′ : List ℕ) (r : RestIs s (take (g - 1) (drop 1 s)) n c places x₃ places′) where
-            survey-by : (y : Surveyed) → y ≡ told (front .value) x₃ → SurveyIs s places y places′
+          module _ (x₃ : Checked) (places′ : List ℕ) (rows′ : List (List ℕ)) (r : RestIs s (take (g - 1) (drop 1 s)) n c places rows x₃ places′ rows′) where
+            survey-by : (y : Surveyed) → y ≡ told (front .value) x₃ → SurveyIs s places rows y places′ rows′
             survey-by y f = record {
               result = surveyed-told _ _ (f ∙ sym (rest-told s g front c middle ∙ ap (told (front .value)) (ap (λ (k : ℕ). restOf s (take (g - 1) (drop 1 s)) k (drop c s)) count ∙ sym (r .result))));
-              buffer = r .buffer ∙ ap (sets places 0) (sym (rest-places s g front c middle ∙ ap (λ (k : ℕ). restPlaces s (take (g - 1) (drop 1 s)) k (drop c s)) count));
+              stored = subst (λ (f : List ℕ). Stored s places rows f places′ rows′) (sym (rest-places s g front c middle ∙ ap (λ (k : ℕ). restPlaces s (take (g - 1) (drop 1 s)) k (drop c s)) count)) (r .stored);
             }
 
-            pub survey-refused : (p : ℕ) → x₃ ≡ checked.Refused p → SurveyIs s places (surveyed.Refused p) places′
+            pub survey-refused : (p : ℕ) → x₃ ≡ checked.Refused p → SurveyIs s places rows (surveyed.Refused p) places′ rows′
             unfolding told
             survey-refused p q = survey-by _ (sym (ap (told (front .value)) q))
 
-            pub survey-accepted : x₃ ≡ checked.Accepted → SurveyIs s places (surveyed.Accepted n g) places′
+            pub survey-accepted : x₃ ≡ checked.Accepted → SurveyIs s places rows (surveyed.Accepted n g) places′ rows′
             unfolding told
             survey-accepted q = survey-by _ (sym (ap (told (front .value)) q ∙ ap₂ (λ (i j : ℕ). surveyed.Accepted i j) count (sym (names-end s g front))))
 
@@ -526,7 +544,7 @@ unfolding surveyedOf verdictOf
 refused-by (accepted k) p e = clash (cc)
 refused-by (refused k) p e = cc
 
-module _ (s places : List ℕ) (x : Surveyed) (places′ : List ℕ) (w : SurveyIs s places x places′) where
+module _ (s places : List ℕ) (rows : List (List ℕ)) (x : Surveyed) (places′ : List ℕ) (rows′ : List (List ℕ)) (w : SurveyIs s places rows x places′ rows′) where
   pub check-accepted : (n g : ℕ) → x ≡ surveyed.Accepted n g → checked.Accepted ≡ verdictOf (packOf s)
   check-accepted n g q = accepted-by (packOf s) n g (sym (surveyed-one _ _ (w .result)) ∙ q)
 

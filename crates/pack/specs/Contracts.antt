@@ -1,20 +1,19 @@
 -- What the functions of the walk answer, in terms of what is read.
 use Prim.{Unit}
 use mathlib.Core.Path.{_≡_}
-use Prim.Native.Nat.{ℕ, zero, suc, _-_, min}
+use Prim.Native.Nat.{ℕ, zero, suc, _+_, _-_, min}
 use mathlib.Core.Bool.{Bool, true}
 use mathlib.Core.List.{List, [], _∷_}
 use lib.Dec.{eqb, leb}
 use lib.ListN.{length, drop}
-use lib.Seq.{sets}
 use Rattle.base.specs.Pick.{pick, and}
 use Rattle.letters.specs.Order.{orderOf, sameText, isLess}
 use Rattle.languages.specs.Names.{languageName}
 use Rattle.rule.specs.Matching.{firstCode}
-use Rattle.strings.specs.Reading.{Read, cut, got, readByte, readNumber, placeIn}
-use Rattle.pack.specs.Packs.{Guess, readGuess, readList, any, guessGood, listGood, listCount}
+use Rattle.strings.specs.Reading.{Read, cut, got, readByte, readNumber, readMany, placeIn}
+use Rattle.pack.specs.Packs.{Guess, readGuess, readRule, readList, any, guessGood, listGood, listCount}
 use Rattle.rule_lines.specs.Rules.{Rule, ruleGood, rule}
-use Rattle.pack.specs.PlaceContracts.{judge, foundIn}
+use Rattle.pack.specs.PlaceContracts.{judge, foundIn, ruleCount, rowFrom, Stored}
 use Rattle.strings.specs.Contracts.{behind, readSome}
 use Rattle.strings.specs.declared.Number.{Number}
 use Rattle.strings.specs.declared.Number.the-variants as number
@@ -103,9 +102,19 @@ listsEnd s names (suc n) r = judge (lists.Fault (placeIn s r)) (listGood names) 
 
 -- ---- the list count, the lists and the end
 
-pub record ListsAre (s names : List ℕ) (n at : ℕ) (places : List ℕ) (r : Lists) (places′ : List ℕ) : Type 0 where
+-- n rules from a place on, and the row in which they are noted where they are good
+pub record RulesNoted (s names : List ℕ) (n at : ℕ) (row : List ℕ) (r : Section) (row′ : List ℕ) : Type 0 where
+  pub result : r ≡ endIn s (rulesFrom names 0) (readMany readRule n (drop at s))
+  pub noted : (e : ℕ) → r ≡ End e → row′ ≡ rowFrom s n at row
+
+-- the list at a place, and its row where it is good
+pub record ListNoted (s names : List ℕ) (at : ℕ) (row : List ℕ) (r : Section) (row′ : List ℕ) : Type 0 where
+  pub result : r ≡ endIn s (listGood names) (readList (drop at s))
+  pub noted : (e : ℕ) → r ≡ End e → row′ ≡ rowFrom s (ruleCount s at) (at + 2) row
+
+pub record ListsAre (s names : List ℕ) (n at : ℕ) (places : List ℕ) (rows : List (List ℕ)) (r : Lists) (places′ : List ℕ) (rows′ : List (List ℕ)) : Type 0 where
   pub result : r ≡ listsEnd s names n (drop at s)
-  pub buffer : places′ ≡ sets places 0 (foundIn s names n (drop at s))
+  pub stored : Stored s places rows (foundIn s names n (drop at s)) places′ rows′
 
 unfoldable pub ended : List ℕ → Lists → Checked
 ended s (lists.Done e) = pick (eqb e (length s)) checked.Accepted (checked.Refused e)
@@ -118,6 +127,6 @@ restOf s names n r =
 unfoldable pub restPlaces : List ℕ → List ℕ → ℕ → List ℕ → List ℕ
 restPlaces s names n r = judge [] (λ (c : ℕ). eqb c (listCount n)) (readByte r) (λ c q. foundIn s names c q)
 
-pub record RestIs (s names : List ℕ) (n at : ℕ) (places : List ℕ) (r : Checked) (places′ : List ℕ) : Type 0 where
+pub record RestIs (s names : List ℕ) (n at : ℕ) (places : List ℕ) (rows : List (List ℕ)) (r : Checked) (places′ : List ℕ) (rows′ : List (List ℕ)) : Type 0 where
   pub result : r ≡ restOf s names n (drop at s)
-  pub buffer : places′ ≡ sets places 0 (restPlaces s names n (drop at s))
+  pub stored : Stored s places rows (restPlaces s names n (drop at s)) places′ rows′

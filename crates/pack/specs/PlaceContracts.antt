@@ -1,10 +1,10 @@
 -- Where things stand in a pack: its guessing section, its lists, and the strings of a rule.
 use mathlib.Core.Path.{_≡_}
-use Prim.Native.Nat.{ℕ, zero, suc, _+_}
+use Prim.Native.Nat.{ℕ, zero, suc, _+_, _%_}
 use mathlib.Core.Bool.{Bool}
-use mathlib.Core.List.{List, [], _∷_}
+use mathlib.Core.List.{List, [], _∷_, map}
 use lib.Dec.{eqb}
-use lib.ListN.{length, drop}
+use lib.ListN.{length, drop, getD, set, replicate}
 use lib.Seq.{sets}
 use Rattle.base.specs.Pick.{pick}
 use Rattle.strings.specs.Reading.{Read, cut, got, readByte, readNumber, placeIn}
@@ -15,7 +15,7 @@ use Rattle.pack.specs.declared.sections.Surveyed.{Surveyed}
 use Rattle.pack.specs.declared.sections.Surveyed.the-variants as surveyed
 use Rattle.pack.specs.declared.rules.RuleAt.{RuleAt}
 use Rattle.pack.specs.declared.rules.RuleAt.the-variants as rules
-use Rattle.strings.specs.Contracts.{readSome}
+use Rattle.strings.specs.Contracts.{behind, readSome}
 
 -- ---- what a survey finds
 
@@ -42,11 +42,6 @@ placesOf s =
     judge [] (guessesGood (length names)) (readGuesses a) (λ guesses b.
     judge [] (λ (n : ℕ). eqb n (listCount (length names))) (readByte b) (λ n c.
     foundIn s (namesIn s a) n c)))
-
--- the promise of a survey: the verdict, and the places stored in the buffer from its front on, as far as it goes
-pub record SurveyIs (s places : List ℕ) (r : Surveyed) (places′ : List ℕ) : Type 0 where
-  pub result : surveyedNumbers r ≡ surveyedNumbers (surveyedOf (packOf s))
-  pub buffer : places′ ≡ sets places 0 (placesOf s)
 
 -- ---- a rule by its places
 
@@ -76,3 +71,38 @@ ruleCount s place = countIn (readNumber 2 (drop place s))
 -- its rules, up to where bytes run out
 unfoldable pub listAt : List ℕ → ℕ → List Rule
 listAt s place = readSome readRule (ruleCount s place) (drop (place + 2) s)
+
+-- ---- the row of a list
+
+-- places stand behind so many numbers
+abbrev pub NUMBERS : ℕ
+NUMBERS = 4096
+
+-- a rule from one number or place to the next noted as the first of its kind, or as the last so far
+unfoldable pub notedIn : List ℕ → ℕ → ℕ → ℕ → List ℕ
+notedIn row kind at end = pick (eqb (getD row (kind + 64) 0) 0) (set (set row kind at) (kind + 64) end) (set row (kind + 64) end)
+
+-- a row in which the rule from a place to another is noted, by the first byte of its pattern, behind its length byte
+abbrev pub placedIn : List ℕ → List ℕ → ℕ → ℕ → List ℕ
+placedIn s row at end = notedIn row (getD s (at + 1) 0 % 64) (NUMBERS + at) (NUMBERS + end)
+
+-- the same with n rules that stand from a place on
+unfoldable pub rowFrom : List ℕ → ℕ → ℕ → List ℕ → List ℕ
+rowFrom s zero at row = row
+rowFrom s (suc n) at row = behind (readRule (drop at s)) (λ r q. rowFrom s n (placeIn s q) (placedIn s row at (placeIn s q)))
+
+-- the row of the list at a place
+abbrev pub rowAt : List ℕ → ℕ → List ℕ
+rowAt s place = rowFrom s (ruleCount s place) (place + 2) (replicate 128 0)
+
+-- ---- what a survey promises
+
+-- the places of lists and their rows stored in two buffers from their front on, as far as they go
+pub record Stored (s places : List ℕ) (rows : List (List ℕ)) (found places′ : List ℕ) (rows′ : List (List ℕ)) : Type 0 where
+  pub placed : places′ ≡ sets places 0 found
+  pub noted : rows′ ≡ sets rows 0 (map (rowAt s) found)
+
+-- the verdict, and what is stored
+pub record SurveyIs (s places : List ℕ) (rows : List (List ℕ)) (r : Surveyed) (places′ : List ℕ) (rows′ : List (List ℕ)) : Type 0 where
+  pub result : surveyedNumbers r ≡ surveyedNumbers (surveyedOf (packOf s))
+  pub stored : Stored s places rows (placesOf s) places′ rows′

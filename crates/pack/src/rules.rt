@@ -2,10 +2,11 @@
 ghost use mathlib.Core.Path.{_≡_};
 ghost use Prim.Native.Nat.{_≤_};
 ghost use lib.ListN.{length, drop};
-ghost use Rattle.strings.specs.Reading.{readMany};
-ghost use Rattle.pack.specs.Packs.{readRule, readList, listGood};
+ghost use Rattle.pack.specs.Packs.{readRule};
 ghost use Rattle.pack.specs.PlaceContracts.{ruleStandsAt, ruleCount};
-ghost use Rattle.pack.specs.Contracts.{endIn, ruledOf, ruledIn, rulesFrom};
+ghost use Rattle.pack.specs.Contracts.{ruledOf, ruledIn, RulesNoted, ListNoted};
+use crate::rows::Row;
+use crate::rows::note_place;
 use crate::sections::Section;
 use strings::Next;
 use strings::Number;
@@ -131,10 +132,10 @@ fn next_rule(pack: &[u8], at: usize, names: &[u8], least: u32) -> Ruled
     }
 }
 
-// Where `count` rules end, by first character.
-fn rules_from(pack: &[u8], start: usize, count: u32, names: &[u8]) -> Section
+// Where `count` rules end, by first character, each noted in a row.
+fn rules_from(pack: &[u8], start: usize, count: u32, names: &[u8], row: &mut Row) -> Section
     requires { ⌜ start ≤ length (now pack) ⌝ }
-    ensures { λ r. ⌜ r ≡ endIn (now (pack .entry)) (rulesFrom (now (names .entry)) 0) (readMany readRule count (drop start (now (pack .entry)))) ⌝ }
+    ensures { λ r. ⌜ RulesNoted (now (pack .entry)) (now (names .entry)) count start (now (row .entry)) r (now (row .exit)) ⌝ }
 {
     let mut at = start;
     let mut left = count;
@@ -142,6 +143,7 @@ fn rules_from(pack: &[u8], start: usize, count: u32, names: &[u8]) -> Section
     while 0 < left {
         match next_rule(pack, at, names, least) {
             Ruled::Next { end, code } => {
+                note_place(pack, row, at, end);
                 at = end;
                 least = code;
                 left -= 1;
@@ -154,16 +156,16 @@ fn rules_from(pack: &[u8], start: usize, count: u32, names: &[u8]) -> Section
     Section::End(at)
 }
 
-// Where the list at a place ends; at most 4,096 rules.
-pub(crate) fn list_section(pack: &[u8], at: usize, names: &[u8]) -> Section
-    ensures { λ r. ⌜ r ≡ endIn (now (pack .entry)) (listGood (now (names .entry))) (readList (drop at (now (pack .entry)))) ⌝ }
+// Where the list at a place ends, its rules noted in a row; at most 4,096 rules.
+pub(crate) fn list_section(pack: &[u8], at: usize, names: &[u8], row: &mut Row) -> Section
+    ensures { λ r. ⌜ ListNoted (now (pack .entry)) (now (names .entry)) at (now (row .entry)) r (now (row .exit)) ⌝ }
 {
     match strings::count_at(pack, at) {
         Number::Of { value: count, next } => {
             if 4096 < count {
                 return Section::Bad;
             }
-            rules_from(pack, next, count, names)
+            rules_from(pack, next, count, names, row)
         }
         Number::Cut => Section::Bad,
     }

@@ -6,6 +6,9 @@ ghost use Rattle.pack.specs.Packs.{readNames, namesGood, packOf, verdict
 ghost use Rattle.pack.specs.Numbers.{checkedNumbers};
 ghost use Rattle.pack.specs.PlaceContracts.{SurveyIs};
 ghost use Rattle.pack.specs.Contracts.{endIn, follows, metBy, ListsAre, RestIs};
+use crate::rows::COLUMNS;
+use crate::rows::Row;
+use crate::rows::put_row;
 use letters::Order;
 use strings::Next;
 
@@ -99,18 +102,28 @@ fn put(places: &mut [usize], k: usize, place: usize)
     }
 }
 
-// Where `count` lists end, with the place of each that is good stored in `places`.
-fn lists_section(pack: &[u8], start: usize, count: u32, names: &[u8], places: &mut [usize]) -> Lists
+// Where `count` lists end, with the place and the row of each that is good stored in `places` and `rows`.
+fn lists_section(
+    pack: &[u8],
+    start: usize,
+    count: u32,
+    names: &[u8],
+    places: &mut [usize],
+    rows: &mut [Row],
+) -> Lists
     requires { ⌜ start ≤ length (now pack) ⌝ }
-    ensures { λ r. ⌜ ListsAre (now (pack .entry)) (now (names .entry)) count start (now (places .entry)) r (now (places .exit)) ⌝ }
+    ensures { λ r. ⌜ ListsAre (now (pack .entry)) (now (names .entry)) count start (now (places .entry)) (now (rows .entry)) r
+        (now (places .exit)) (now (rows .exit)) ⌝ }
 {
     let mut at = start;
     let mut left = count;
     let mut k: usize = 0;
     while 0 < left {
-        match crate::rules::list_section(pack, at, names) {
+        let mut row = [0usize; COLUMNS];
+        match crate::rules::list_section(pack, at, names, &mut row) {
             Section::End(end) => {
                 put(places, k, at);
+                put_row(rows, k, row);
                 k += 1;
                 at = end;
                 left -= 1;
@@ -130,9 +143,11 @@ fn rest_section(
     languages: usize,
     names: &[u8],
     places: &mut [usize],
+    rows: &mut [Row],
 ) -> Checked
     requires { ⌜ (at ≤ length (now pack)) × (languages ≤ 32) ⌝ }
-    ensures { λ r. ⌜ RestIs (now (pack .entry)) (now (names .entry)) languages at (now (places .entry)) r (now (places .exit)) ⌝ }
+    ensures { λ r. ⌜ RestIs (now (pack .entry)) (now (names .entry)) languages at (now (places .entry)) (now (rows .entry)) r
+        (now (places .exit)) (now (rows .exit)) ⌝ }
 {
     if pack.len() <= at {
         return Checked::Refused(at);
@@ -142,7 +157,7 @@ fn rest_section(
     if count as usize != wanted {
         return Checked::Refused(at);
     }
-    match lists_section(pack, at + 1, count, names, places) {
+    match lists_section(pack, at + 1, count, names, places, rows) {
         Lists::Done(end) => {
             if end == pack.len() {
                 Checked::Accepted
@@ -155,16 +170,17 @@ fn rest_section(
 }
 
 // The verdict on `pack`; where it is accepted, its languages and the place of its guessing section, so that the names stand
-// in `pack[1..guesses]`. `places` gets the place of each list that is found good, in order, as far as it goes.
-pub fn survey(pack: &[u8], places: &mut [usize]) -> Surveyed
-    ensures { λ r. ⌜ SurveyIs (now (pack .entry)) (now (places .entry)) r (now (places .exit)) ⌝ }
+// in `pack[1..guesses]`. `places` gets the place of each list that is found good, in order, and `rows` its row, as far as they go.
+pub fn survey(pack: &[u8], places: &mut [usize], rows: &mut [Row]) -> Surveyed
+    ensures { λ r. ⌜ SurveyIs (now (pack .entry)) (now (places .entry)) (now (rows .entry)) r (now (places .exit)) (now (rows .exit)) ⌝ }
 {
     match names_section(pack) {
         Section::End(guesses) => {
             let languages = strings::byte_at(pack, 0) as usize;
             match crate::guessing::guess_section(pack, guesses, languages) {
                 Section::End(counted) => {
-                    match rest_section(pack, counted, languages, &pack[1..guesses], places) {
+                    let names = &pack[1..guesses];
+                    match rest_section(pack, counted, languages, names, places, rows) {
                         Checked::Accepted => Surveyed::Accepted { languages, guesses },
                         Checked::Refused(place) => Surveyed::Refused(place),
                     }
@@ -181,7 +197,8 @@ pub fn check_pack(pack: &[u8]) -> Checked
     ensures { λ r. ⌜ checkedNumbers r ≡ checkedNumbers (verdictOf (packOf (now (pack .entry)))) ⌝ }
 {
     let mut places = [0usize; 1];
-    match survey(pack, &mut places) {
+    let mut rows = [[0usize; COLUMNS]; 1];
+    match survey(pack, &mut places, &mut rows) {
         Surveyed::Accepted {
             languages: _,
             guesses: _,

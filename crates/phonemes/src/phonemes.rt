@@ -31,11 +31,12 @@ fn cut_end(t: &[u8], b: u8, from: usize) -> usize
     from + texts::find_byte(&t[from..t.len()], b)
 }
 
-// Whether the first `[` of an alternative is closed at its very end.
-fn piece_formed(a: &[u8]) -> bool
+// Whether the first `[` of an alternative, at p, is closed at its very end.
+fn piece_formed(a: &[u8], p: usize) -> bool
+    requires { ⌜ p ≡ placeOf opening (now a) ⌝ }
     ensures { λ r. ⌜ r ≡ formedPiece (now (a .entry)) ⌝ }
 {
-    if texts::find_byte(a, b'[') < a.len() {
+    if p < a.len() {
         texts::last_is(a, b']')
     } else {
         true
@@ -91,10 +92,12 @@ fn piece_mask(names: &[u8], a: &[u8], p: usize) -> Listed
     }
 }
 
-fn piece_listed(names: &[u8], a: &[u8]) -> bool
+// Whether the names of an alternative, whose first `[` is at p, are all listed.
+fn piece_listed(names: &[u8], a: &[u8], p: usize) -> bool
+    requires { ⌜ p ≡ placeOf opening (now a) ⌝ }
     ensures { λ r. ⌜ r ≡ listedPiece (now (names .entry)) (now (a .entry)) ⌝ }
 {
-    match piece_mask(names, a, texts::find_byte(a, b'[')) {
+    match piece_mask(names, a, p) {
         Listed::Bit(_) => true,
         Listed::Unlisted => false,
     }
@@ -153,8 +156,10 @@ fn judge(names: &[u8], t: &[u8], more: usize) -> Expression
     let mut known = true;
     loop {
         let to = cut_end(t, b'|', from);
-        if piece_formed(&t[from..to]) {
-            known = both(known, piece_listed(names, &t[from..to]));
+        let piece = &t[from..to];
+        let p = texts::find_byte(piece, b'[');
+        if piece_formed(piece, p) {
+            known = both(known, piece_listed(names, piece, p));
             count += 1;
             if n <= to {
                 return told_of(count, known);
@@ -169,8 +174,9 @@ fn judge(names: &[u8], t: &[u8], more: usize) -> Expression
 fn check_single(names: &[u8], e: &[u8]) -> Expression
     ensures { λ r. ⌜ r ≡ judgedPieces (now (names .entry)) 0 true (now (e .entry) ∷ []) ⌝ }
 {
-    if piece_formed(e) {
-        told_of(1, piece_listed(names, e))
+    let p = texts::find_byte(e, b'[');
+    if piece_formed(e, p) {
+        told_of(1, piece_listed(names, e, p))
     } else {
         Expression::Malformed
     }

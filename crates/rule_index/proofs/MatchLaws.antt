@@ -31,8 +31,9 @@ use Rattle.pack.proofs.RuleLaws.{RuleIs, rule-is, rule-cut, pattern-order, patt
 use Rattle.pack.proofs.Laws.{short-expression}
 use Rattle.rule_index.specs
 use specs.Matching.{Match, none, by, firstMatch}
+use Rattle.pack.specs.PlaceContracts.{NUMBERS}
 use specs.Rows.{placesRow, leadsRow, beforeRow, behindRow, notedAt}
-use specs.Contracts.{NUMBERS, rulesBetween, leadOf, ruleIn, ruleOf, triedBy, triedAt, FrontIs, numbered, foundIn, matcher, RuleIn, MatchIs, seen, seenIn}
+use specs.Contracts.{rulesBetween, leadOf, ruleIn, ruleOf, triedBy, triedAt, FrontIs, numbered, foundIn, matcher, RuleIn, MatchIs, seen, seenIn}
 use Rattle.rule_index.proofs.RowLaws.{orElse, first-append}
 use specs.declared
 use declared.numbers.Front.{Front}

@@ -5,8 +5,9 @@ use Prim.Native.Nat.{ℕ, _+_, _*_, _≤_, _<_}
 use native.Mathlib.Omega.{arith}
 use lib.ListN.{getD, set}
 use Rattle.rule_index.specs
+use Rattle.pack.specs.PlaceContracts.{NUMBERS}
 use specs.Rows.{placesRow, requiredRow, Roomy, notedAt}
-use specs.Contracts.{NUMBERS, numberedIn, Agree}
+use specs.Contracts.{numberedIn, Agree}
 use specs.declared.numbers.Marks.{Marks}
 use Rattle.rule_index.proofs.CellLaws.{all-room, all-other, all-here, all-away, set-noted}
 

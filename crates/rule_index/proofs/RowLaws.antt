@@ -8,7 +8,7 @@ use Prim.Native.Nat.{ℕ, zero, suc, _+_, _-_, _*_, _%_, _≤_, _<_}
 use native.Mathlib.Nat.{add-zero}
 use native.Mathlib.Omega.{arith}
 use lib.Dec.{eqb, ltb}
-use lib.ListN.{length, getD, take, drop, set, length-set, length-take, length-drop, drop-of-length-le}
+use lib.ListN.{length, getD, take, drop, set, replicate, length-set, length-take, length-drop, length-replicate, getD-replicate, drop-of-length-le}
 use lib.Seq.{getD-set-same, getD-set-other, getD-take, getD-drop}
 use borrow.Author.Tests.{eqb-true, eqb-false, eq-eqb, ne-eqb, lt-ltb, le-ltb}
 use Rattle.base.specs.Pick.{pick}
@@ -24,18 +24,18 @@ use Rattle.rule.specs.Matching.{ruleMatches}
 use Rattle.strings.specs.Reading.{got}
 use Rattle.pack.specs.Packs.{readRule, stringsLength}
 use Rattle.rule_lines.specs.Rules.{Rule}
-use Rattle.pack.specs.PlaceContracts.{ruleStandsAt, ruleCount, listAt}
+use Rattle.pack.specs.PlaceContracts.{ruleStandsAt, ruleCount, listAt, NUMBERS, notedIn, placedIn, rowFrom, rowAt}
 use Rattle.strings.specs.Contracts.{behind}
 use Rattle.pack.specs.declared.rules.RuleAt.{RuleAt}
 use Rattle.pack.specs.declared.rules.RuleAt.the-variants as rules
 use Rattle.strings.proofs.Readers.{place-drop}
-use Rattle.pack.proofs.RuleLaws.{RuleIs, rule-is, pattern-order, pattern-fits, left-order, left-fits, right-order, right-fits}
+use Rattle.pack.proofs.RuleLaws.{RuleIs, rule-is, pattern-order, pattern-fits, left-order, left-fits, right-order, right-fits, row-next}
 use Rattle.pack.proofs.Laws.{RulesAt, one-rule, ListIs, good-rule, held-by, held-whole, list-held, list-told}
 use Rattle.rule_index.specs
 use specs.declared.numbers.Marks.{Marks}
 use specs.Matching.{Match, none, by, Matcher, firstMatch}
 use specs.Rows.{placesRow, leadsRow, beforeRow, behindRow, requiredRow, rows, Roomy, notedAt}
-use specs.Contracts.{NUMBERS, packIn, rulesBetween, leadOf, behindBits, triedBy, triedAt, ruleIn, ruleOf, numbered, foundIn, notedIn, ListPlaced, RowReady, RowPlaces, MarksAre, numberedIn, Agree, ListReady, ListIndexed}
+use specs.Contracts.{packIn, rulesBetween, leadOf, behindBits, triedBy, triedAt, ruleIn, ruleOf, numbered, foundIn, ListPlaced, RowPlaces, MarksAre, numberedIn, Agree, ListReady, ListIndexed}
 use Rattle.rule_index.proofs
 use proofs.CellLaws.{set-here, set-room}
 use proofs.NumberLaws.{numbered-room, numbered-here, numbered-before, numbered-behind, numbered-agree, agree-same, agree-then, agree-row}
@@ -453,15 +453,16 @@ pub record Placing (s : List ℕ) (whole : List Rule) (row : List ℕ) (at left 
   pub midway : Midway s whole before at left
   pub notes : (u : List (List ℕ)) → RowNotes (PlacedAt s) (foundIn s u) before (NUMBERS + at) row
 
-module _ {s row : List ℕ} {place : ℕ} (w : RowReady s row place) where
-  pub placing-within : place + 2 ≤ length s
-  placing-within = list-within (w .placed)
-
-  pub placing-start : (left : ℕ) → left ≡ ruleCount s place → Placing s (listAt s place) row (place + 2) left
-  placing-start left e = record { long = w .blank .long; before = []; midway = midway-start (w .placed) left e; notes = λ u b h. not-yet (w .blank .clear b h) (alike-same refl) }
+placing-start : {s : List ℕ} {place : ℕ} → ListPlaced s place → Placing s (listAt s place) (replicate 128 0) (place + 2) (ruleCount s place)
+placing-start w = record {
+  long = length-replicate {A = ℕ} 128 0;
+  before = [];
+  midway = midway-start w _ refl;
+  notes = λ u b h. not-yet (getD-replicate 128 (b + 64) 0 0 (omega arith)) (alike-same refl);
+}
 
 module _ {s row : List ℕ} {whole : List Rule} {at left : ℕ} (w : Placing s whole row at left) where
-  pub placing-done : left ≤ 0 → RowPlaces s row whole
+  placing-done : left ≤ 0 → RowPlaces s row whole
   placing-done h = record {
     long = w .long;
     found = λ u word place.
@@ -469,45 +470,45 @@ module _ {s row : List ℕ} {whole : List Rule} {at left : ℕ} (w : Placing s w
         ∙ ap (λ (l : List Rule). firstMatch l word place) (midway-done (w .midway) h);
   }
 
-  module _ (h : 0 < left) (x : RuleAt) (o : x ≡ ruleStandsAt s at) where
-    pub placing-cut : x ≡ rules.Cut → RowPlaces s row whole
-    placing-cut q = absurd (midway-cut (w .midway) h x o q)
+  module _ (h : 0 < left) (x : RuleAt) (o : x ≡ ruleStandsAt s at) (pattern b c d e f g end : ℕ) (q : x ≡ rules.At pattern b c d e f g end) where
+    placing-turn : Placing s whole (placedIn s row at end) end (left - 1)
+    placing-turn =
+        let v = rule-here (w .midway) h x o pattern b c d e f g end q in
+        let ahead = forward (w .midway) h x o pattern b c d e f g end q in
+        let kind : ℕ = getD s (at + 1) 0 % 64 in
+        let room : kind + 64 < length row = omega (arith, w .long) in
+        let byte : kind ≡ getD (v .value .pattern) 0 0 % 64 =
+        ap (λ (m : ℕ). m % 64) (ap (λ (m : ℕ). getD s m 0) (sym (v .begins)) ∙ sym (first-byte (w .midway) h x o pattern b c d e f g end q)) in
+        let here-at : NUMBERS + at - NUMBERS ≡ at = omega arith in
+        let there : NUMBERS + end - NUMBERS ≡ end = omega arith in
+        record {
+          long = note-long row _ kind (NUMBERS + at) (NUMBERS + end) room refl ∙ w .long;
+          before = _;
+          midway = midway-next (w .midway) h x o pattern b c d e f g end q;
+          notes = λ u. row-notes row _ kind (NUMBERS + at) (NUMBERS + end) room refl (placed-found s u)
+              (record { reads = rw (here-at, there) (v .reads); forward = omega arith; low = omega arith; fits = rw there (v .fits) })
+              (λ n. omega arith) (some-pattern (w .midway) h x o pattern b c d e f g end q) byte (w .notes u);
+        }
 
-    module _ (pattern b c d e f g end : ℕ) (q : x ≡ rules.At pattern b c d e f g end) where
-      pub placing-pattern : pattern < length s
-      placing-pattern = midway-pattern (w .midway) h x o pattern b c d e f g end q
+-- the rules that are left, each noted
+placing-rule : {s row : List ℕ} {whole : List Rule} {at : ℕ} (n : ℕ) → ((row′ : List ℕ) (at′ : ℕ) → Placing s whole row′ at′ n → RowPlaces s (rowFrom s n at′ row′) whole)
+    → Placing s whole row at (suc n) → (x : RuleAt) → x ≡ ruleStandsAt s at → RowPlaces s (rowFrom s (suc n) at row) whole
+placing-rule n more w rules.Cut o = absurd (midway-cut (w .midway) (omega arith) _ o refl)
+placing-rule {s} {row} {whole} {at} n more w (rules.At a b c d e f g end) o =
+    let some : 0 < suc n = omega arith in
+    let v = rule-here (w .midway) some _ o a b c d e f g end refl in
+    let m : suc n - 1 ≡ n = omega arith in
+    subst (λ (l : List ℕ). RowPlaces s l whole) (sym (row-next s (suc n) at end row (v .value) some (v .reads) (v .fits) ∙ ap (λ (k : ℕ). rowFrom s k end (placedIn s row at end)) m))
+    (more _ _ (subst (Placing s whole (placedIn s row at end) end) m (placing-turn w some _ o a b c d e f g end refl)))
 
-      pub placing-end : end ≤ length s
-      placing-end = rule-here (w .midway) h x o pattern b c d e f g end q .fits
+placing-all : {s row : List ℕ} {whole : List Rule} {at : ℕ} (n : ℕ) → Placing s whole row at n → RowPlaces s (rowFrom s n at row) whole
+unfolding rowFrom
+placing-all zero w = placing-done w (omega arith)
+placing-all (suc n) w = placing-rule n (λ row′ at′ v. placing-all n v) w _ refl
 
-      pub placing-at : at ≤ length s
-      placing-at = omega (arith, placing-end, forward (w .midway) h x o pattern b c d e f g end q)
-
-      module _ (kind : ℕ) (ek : kind ≡ getD s pattern 0 % 64) where
-        pub placing-kind : kind + 64 < length row
-        placing-kind = omega (arith, w .long)
-
-        pub placing-turn : (row′ : List ℕ) (i j : ℕ) → i ≡ NUMBERS + at → j ≡ NUMBERS + end → row′ ≡ notedIn row kind i j → Placing s whole row′ end (left - 1)
-        placing-turn row′ i j ei ej er =
-            let et = rw (ei, ej) at er in
-            let v = rule-here (w .midway) h x o pattern b c d e f g end q in
-            let ahead = forward (w .midway) h x o pattern b c d e f g end q in
-            let here-at : NUMBERS + at - NUMBERS ≡ at = omega arith in
-            let there : NUMBERS + end - NUMBERS ≡ end = omega arith in
-            record {
-              long = note-long row row′ kind (NUMBERS + at) (NUMBERS + end) placing-kind et ∙ w .long;
-              before = _;
-              midway = midway-next (w .midway) h x o pattern b c d e f g end q;
-              notes = λ u. row-notes row row′ kind (NUMBERS + at) (NUMBERS + end) placing-kind et (placed-found s u)
-                  (record { reads = rw (here-at, there) (v .reads); forward = omega arith; low = omega arith; fits = rw there (v .fits) })
-                  (λ n. omega arith) (some-pattern (w .midway) h x o pattern b c d e f g end q)
-                  (ek ∙ ap (λ (m : ℕ). m % 64) (sym (first-byte (w .midway) h x o pattern b c d e f g end q))) (w .notes u);
-            }
-
-pub placing-same : {s row row′ : List ℕ} {whole : List Rule} {place at left : ℕ} → RowReady s row place → Placing s whole row′ at left → length row′ ≡ length row
-placing-same w v = v .long ∙ sym (w .blank .long)
-
-pub ruleset placing-laws = (placing-within, placing-start, placing-done, placing-cut, placing-pattern, placing-end, placing-at, placing-kind, placing-turn, placing-same, needs)
+-- by the row of a list its rules are found
+pub row-places : {s : List ℕ} {place : ℕ} → ListPlaced s place → RowPlaces s (rowAt s place) (listAt s place)
+row-places w = placing-all _ (placing-start w)
 
 -- ---- by numbers
 

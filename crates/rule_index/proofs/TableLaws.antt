@@ -2,12 +2,12 @@
 use borrow.Author.Needs.{needs}
 use mathlib.Core.Path.{_≡_, refl, sym, ap, subst, _∙_}
 use mathlib.Core.Bool.{Bool, true, false}
-use mathlib.Core.List.{List, [], _∷_}
+use mathlib.Core.List.{List, [], _∷_, map}
 use Prim.Native.Nat.{ℕ, zero, suc, _+_, _-_, _*_, _%_, _≤_, _<_, zero-le}
 use native.Mathlib.Omega.{arith}
 use lib.Dec.{ltb}
-use lib.ListN.{length, getD, set, replicate, length-replicate, getD-replicate, List·getD-append}
-use lib.Seq.{sets-eq, length-sets, getD-set-other}
+use lib.ListN.{length, getD, set, replicate, length-set, length-map, length-replicate, getD-replicate, List·getD-append}
+use lib.Seq.{sets, sets-eq, length-sets, getD-set-same, getD-set-other}
 use mir.Syntax.{w64}
 use mir.Val.{Fits}
 use borrow.Author.Tests.{ltb-true, ltb-false}
@@ -15,7 +15,7 @@ use Rattle.base.proofs.One.{one}
 use Rattle.base.proofs.PickLaws.{pick-true, pick-false, and-yes, and-first, and-second}
 use Rattle.pack.specs.Packs.{Pack, Verdict, accepted, refused, listCount, packOf, stringsLength}
 use Rattle.rule_lines.specs.Rules.{Rule}
-use Rattle.pack.specs.PlaceContracts.{placesOf, surveyedOf, ruleCount, listAt, SurveyIs}
+use Rattle.pack.specs.PlaceContracts.{NUMBERS, placesOf, surveyedOf, ruleCount, listAt, rowAt, SurveyIs}
 use Rattle.pack.specs.Numbers.{surveyedNumbers}
 use Rattle.pack.specs.Contracts.{guessedAt}
 use Rattle.languages.specs.declared.sets.LanguageSet.{LanguageSet}
@@ -28,11 +28,11 @@ use Rattle.rule_index.specs
 use specs.Matching.{none, Matcher, firstMatch}
 use specs.Rows.{requiredRow, rows, Roomy}
 use specs.GuessContracts.{guesser, guesserBy, GuessesReady, GuessesNoted}
-use specs.Contracts.{NUMBERS, packBy, packIn, foundIn, matcher, Blank, RowReady, RowPlaces, Agree, RowFinds, ListReady, ListIndexed, ListsReady, Finds, ListsFound, IndexIs}
+use specs.Contracts.{packBy, packIn, foundIn, matcher, Blank, ListPlaced, RowPlaces, Agree, RowFinds, ListReady, ListStands, ListIndexed, ListsReady, Finds, ListsFound, SurveyLeft, AcceptedIs, IndexIs}
 use Rattle.rule_index.proofs
 use proofs.CellLaws.{set-here, set-room}
 use proofs.NumberLaws.{agree-same, agree-then, agree-row}
-use proofs.RowLaws.{never-past, clear-found}
+use proofs.RowLaws.{never-past, clear-found, row-places}
 use proofs.GuessLaws.{guesser-kept}
 
 -- ---- a list matches nothing behind a word
@@ -59,6 +59,9 @@ no-list [] k h = refl
 no-list (x ∷ ls) zero h = let no-way : ⊥ = omega arith in absurd no-way
 no-list (x ∷ ls) (suc k) h = no-list ls k (omega arith)
 
+zeros-row : Blank (replicate 128 0)
+zeros-row = record { long = length-replicate {A = ℕ} 128 0; clear = λ kind l. getD-replicate 128 (kind + 64) 0 0 (omega arith) }
+
 -- what is found by a table, from what is found by its rows
 module _ (s : List ℕ) (table : List (List ℕ)) (n : ℕ) (rows : (k : ℕ) → k < 98 → RowFinds s table n (getD table k []) (getD (packIn s .lists) k []))
     (past : (k : ℕ) (word : List ℕ) (place : ℕ) → length word ≤ place → firstMatch (getD (packIn s .lists) k []) word place ≡ none)
@@ -75,7 +78,7 @@ module _ (s : List ℕ) (table : List (List ℕ)) (n : ℕ) (rows : (k : ℕ) �
 
 -- ---- one list
 
-module _ {s : List ℕ} {table : List (List ℕ)} {list place free : ℕ} (w : ListReady s table list place free) where
+module _ {s : List ℕ} {table : List (List ℕ)} {list place free : ℕ} (w : ListStands s table list place free) where
   pub indexing-few : free ≤ NUMBERS
   indexing-few = w .few
 
@@ -85,32 +88,53 @@ module _ {s : List ℕ} {table : List (List ℕ)} {list place free : ℕ} (w : L
   pub indexing-room : (count : ℕ) → count ≡ ruleCount s place → count ≤ NUMBERS - free → ruleCount s place ≤ NUMBERS - free
   indexing-room count e l = omega arith
 
-  pub indexing-ready : RowReady s (getD table list []) place
-  indexing-ready = record { placed = w .placed; blank = w .blank }
-
-  pub indexing-placed : (row : List ℕ) → RowPlaces s row (listAt s place) → ListIndexed s table (set table list row) list place free free
-  indexing-placed row v = record {
-    finds = rw (set-here (w .room) list indexing-row row) (record { found = λ u a. v .found u });
-    room = set-room (w .room) list indexing-row row (v .long);
-    others = λ k h n. getD-set-other table list k row [] n;
-    kept = λ k h. getD-set-other table list k row [] (λ n. omega (arith, w .row));
-    agree = agree-row (w .room) list (w .row) row;
+  -- where its rules have no numbers its row stays as it is
+  pub indexing-kept : ListIndexed s table table list place free free
+  indexing-kept = record {
+    finds = record { found = λ u a. w .noted .found u };
+    room = w .room;
+    others = λ k h n. refl;
+    kept = λ k h. refl;
+    agree = agree-same;
     more = omega arith;
     few = w .few;
   }
 
-pub ruleset indexing-laws = (indexing-few, indexing-row, indexing-room, indexing-ready, indexing-placed, needs)
+  -- where they have, they are numbered from a blank row on
+  module _ (row : List ℕ) (blank : row ≡ replicate 128 0) where
+    pub indexing-ready : ListReady s (set table list row) list place free
+    indexing-ready = record {
+      placed = w .placed;
+      row = w .row;
+      room = set-room (w .room) list indexing-row row (ap length blank ∙ length-replicate {A = ℕ} 128 0);
+      blank = rw (set-here (w .room) list indexing-row row, blank) zeros-row;
+      few = w .few;
+    }
+
+    pub indexing-numbered : (u : List (List ℕ)) (free′ : ℕ) → ListIndexed s (set table list row) u list place free free′ → ListIndexed s table u list place free free′
+    indexing-numbered u free′ v = record {
+      finds = v .finds;
+      room = v .room;
+      others = λ k h n. v .others k h n ∙ getD-set-other table list k row [] n;
+      kept = λ k h. v .kept k h ∙ getD-set-other table list k row [] (λ n. omega (arith, w .row));
+      agree = agree-then (omega arith) (agree-row (w .room) list (w .row) row) (v .agree);
+      more = v .more;
+      few = v .few;
+    }
+
+pub ruleset indexing-laws = (indexing-few, indexing-row, indexing-room, indexing-kept, indexing-ready, indexing-numbered, needs)
 
 -- ---- the loop over the lists
 
--- the rows before the k-th find the rules of their lists, and the others are blank
+-- the rows before the k-th find the rules of their lists, those behind have them by places, and the others are blank
 pub record Listing (s places : List ℕ) (lists : ℕ) (t table : List (List ℕ)) (k free : ℕ) : Type 0 where
   pub is : packOf s ≡ accepted (packIn s)
   pub counted : lists ≡ listCount (length (packIn s .names))
   pub held : (j : ℕ) → j < lists → getD places j 0 ≡ getD (placesOf s) j 0
   pub roomy : Roomy table
   pub kept : (j : ℕ) → requiredRow ≤ j → getD table j [] ≡ getD t j []
-  pub blank : (j : ℕ) → k ≤ j → j < 98 → Blank (getD table j [])
+  pub noted : (j : ℕ) → k ≤ j → j < lists → RowPlaces s (getD table j []) (listAt s (getD places j 0))
+  pub blank : (j : ℕ) → lists ≤ j → j < 98 → Blank (getD table j [])
   pub found : (j : ℕ) → j < k → RowFinds s table free (getD table j []) (getD (packIn s .lists) j [])
   pub within : k ≤ lists
   pub few : lists ≤ 98
@@ -125,7 +149,8 @@ listing-start {s} w l = record {
   held = w .held;
   roomy = w .room;
   kept = λ j h. refl;
-  blank = λ j l h. w .blank j h;
+  noted = λ j l h. w .noted j h;
+  blank = w .blank;
   found = λ j h. let no-way : ⊥ = omega arith in absurd no-way;
   within = zero-le;
   few = omega (arith, languages-few s (packIn s) (1 + stringsLength (packIn s .names)) (w .is) refl);
@@ -147,7 +172,7 @@ module _ {s places : List ℕ} {lists k free : ℕ} {t table : List (List ℕ)} 
   row-by h j l true e = w .found j (omega (arith, ltb-true j lists e))
   row-by h j l false e =
       subst (λ (rs : List Rule). RowFinds s table free (getD table j []) rs) (sym (no-list (packIn s .lists) j (omega (arith, many, ltb-false j lists e))))
-      (blank-finds (w .blank j (omega (arith, ltb-false j lists e)) l))
+      (blank-finds (w .blank j (ltb-false j lists e) l))
 
   pub listing-done : lists ≤ k → ListsFound s t table
   listing-done h = record { found = finds s table free (λ j l. row-by h j l _ refl) (λ j word place l. past-by j word place l _ refl) (omega (arith, many)); kept = w .kept }
@@ -156,12 +181,12 @@ module _ {s places : List ℕ} {lists k free : ℕ} {t table : List (List ℕ)} 
     pub listing-place : k < length places
     listing-place = omega arith
 
-    pub listing-next : ListReady s table k (getD places k 0) free
+    pub listing-next : ListStands s table k (getD places k 0) free
     listing-next = record {
       placed = record { is = w .is; list = k; known = rw (← w .counted) h; held = w .held k h };
       row = omega arith;
       room = w .roomy;
-      blank = w .blank k (omega arith) (omega arith);
+      noted = w .noted k (omega arith) h;
       few = w .room;
     }
 
@@ -186,7 +211,8 @@ module _ {s places : List ℕ} {lists k free : ℕ} {t table : List (List ℕ)} 
         held = w .held;
         roomy = v .room;
         kept = λ j l. v .kept j l ∙ w .kept j l;
-        blank = λ j l m. subst Blank (sym (v .others j m (λ n. omega arith))) (w .blank j (omega arith) m);
+        noted = λ j l m. rw (v .others j (omega arith) (λ n. omega arith)) (w .noted j (omega arith) m);
+        blank = λ j l m. subst Blank (sym (v .others j m (λ n. omega arith))) (w .blank j l m);
         found = λ j l. found-by j l _ refl;
         within = omega arith;
         few = w .few;
@@ -196,13 +222,30 @@ module _ {s places : List ℕ} {lists k free : ℕ} {t table : List (List ℕ)} 
 
 pub ruleset listing-laws = (listing-start, listing-done, listing-place, listing-next, listing-turn, needs)
 
+-- ---- a run of stores, read again
+
+sets-below : {A : Type 0} (vs l : List A) (i k : ℕ) (d : A) → k < i → getD (sets l i vs) k d ≡ getD l k d
+sets-below [] l i k d h = refl
+sets-below (a ∷ vs) l i k d h = sets-below vs (set l i a) (suc i) k d (omega arith) ∙ getD-set-other l i k a d (λ e. omega arith)
+
+sets-above : {A : Type 0} (vs l : List A) (i k : ℕ) (d : A) → i + length vs ≤ k → getD (sets l i vs) k d ≡ getD l k d
+sets-above [] l i k d h = refl
+sets-above (a ∷ vs) l i k d h = sets-above vs (set l i a) (suc i) k d (omega arith) ∙ getD-set-other l i k a d (λ e. omega arith)
+
+sets-map : {A B : Type 0} (f : A → B) (xs : List A) (l : List B) (i j k : ℕ) (x : A) (d : B) → j ≡ i + k → k < length xs → i + length xs ≤ length l → getD (sets l i (map f xs)) j d ≡ f (getD xs k x)
+sets-map f [] l i j k x d e h r = let no-way : ⊥ = omega arith in absurd no-way
+sets-map f (a ∷ xs) l i j zero x d e h r =
+    let here : j ≡ i = omega arith in
+    sets-below (map f xs) (set l i (f a)) (suc i) j d (omega arith) ∙ ap (λ (n : ℕ). getD (set l i (f a)) n d) here ∙ getD-set-same l i (f a) d (omega arith)
+sets-map f (a ∷ xs) l i j (suc k) x d e h r = sets-map f xs (set l i (f a)) (suc i) j k x d (omega arith) (omega arith) (omega (arith, length-set l i (f a)))
+
 -- ---- a survey's answer
 
 pub pack-in : (s : List ℕ) (p : Pack) → packOf s ≡ accepted p → packIn s ≡ p
 unfolding packIn packBy
 pack-in s p e = ap packBy e
 
-module _ {s t t′ : List ℕ} {r : Surveyed} (w : SurveyIs s t r t′) where
+module _ {s t t′ : List ℕ} {u u′ : List (List ℕ)} {r : Surveyed} (w : SurveyIs s t u r t′ u′) where
   refused-by : (place : ℕ) (v : Verdict) → packOf s ≡ v → surveyedOf v ≡ surveyed.Refused place → packIn s .lists ≡ []
   unfolding surveyedOf packIn packBy
   refused-by place (accepted p) e q = clash (cc)
@@ -221,64 +264,105 @@ module _ {s t t′ : List ℕ} {r : Surveyed} (w : SurveyIs s t r t′) where
         guessed = refl;
       }
 
-  module _ (n g : ℕ) (q : r ≡ surveyed.Accepted n g) where
-    pub index-accepted : {blank noted table : List (List ℕ)} → GuessesNoted s g blank noted → ListsFound s noted table → IndexIs s (surveyed.Accepted n g) table
-    unfolding guesserBy
-    index-accepted {noted = noted} {table = table} v f = record {
-      result = ap surveyedNumbers (sym q) ∙ w .result;
-      found = f .found;
-      guessed = ap (λ (a : ℕ → List ℕ → LanguageSet). a n) (guesser-kept s noted table g (f .kept) ∙ v .guessed);
+-- the table that the survey of an accepted pack left
+module _ {s places : List ℕ} {table : List (List ℕ)} {n g : ℕ} (w : SurveyLeft s places table n g) where
+  there : SurveyedPack s n g
+  there = surveyed-pack s n g (surveyed.Accepted n g) (surveyed-one _ _ (w .survey .result)) refl
+
+  few : n ≤ 32
+  few = omega (arith, there .languages, languages-few s (there .pack) g (there .is) (there .guesses))
+
+  same : packIn s ≡ there .pack
+  same = pack-in s (there .pack) (there .is)
+
+  is-accepted : packOf s ≡ accepted (packIn s)
+  is-accepted = there .is ∙ ap accepted (sym same)
+
+  lists-many : 3 * n + 2 ≡ listCount (length (packIn s .names))
+  unfolding listCount
+  lists-many = ap listCount (there .languages ∙ ap (λ (p : Pack). length (p .names)) (sym same))
+
+  counted : length (placesOf s) ≡ 3 * n + 2
+  counted = places-counted s (packIn s) g is-accepted (there .guesses ∙ ap (λ (p : Pack). 1 + stringsLength (p .names)) (sym same)) ∙ sym lists-many
+
+  pub left-thrice : Fits w64 (3 * n)
+  left-thrice = record { fits = omega (arith, few) }
+
+  pub left-lists : Fits w64 (3 * n + 2)
+  left-lists = record { fits = omega (arith, few) }
+
+  place-held : (k : ℕ) → k < 3 * n + 2 → getD places k 0 ≡ getD (placesOf s) k 0
+  place-held k h =
+      ap (λ (x : List ℕ). getD x k 0) (w .survey .stored .placed ∙ sets-eq (placesOf s) (w .empty) 0 (omega (arith, w .long, few, counted)))
+      ∙ List·getD-append (placesOf s) _ 0 k (omega (arith, counted))
+
+  list-placed : (k : ℕ) → k < 3 * n + 2 → ListPlaced s (getD (placesOf s) k 0)
+  list-placed k h = record { is = is-accepted; list = k; known = rw (← lists-many) h; held = refl }
+
+  -- the rows that it noted, and those behind
+  row-noted : (k : ℕ) → k < 3 * n + 2 → getD table k [] ≡ rowAt s (getD (placesOf s) k 0)
+  row-noted k h =
+      ap (λ (x : List (List ℕ)). getD x k []) (w .survey .stored .noted)
+      ∙ sets-map (rowAt s) (placesOf s) (w .blanks) 0 k k 0 [] (omega arith) (omega (arith, counted)) (omega (arith, w .many, few, counted))
+
+  row-behind : (k : ℕ) → 3 * n + 2 ≤ k → getD table k [] ≡ getD (w .blanks) k []
+  row-behind k h =
+      ap (λ (x : List (List ℕ)). getD x k []) (w .survey .stored .noted)
+      ∙ sets-above (map (rowAt s) (placesOf s)) (w .blanks) 0 k [] (omega (arith, length-map (placesOf s) (rowAt s), counted))
+
+  row-long : (k : ℕ) → k < rows → (z : Bool) → ltb k (3 * n + 2) ≡ z → length (getD table k []) ≡ 128
+  row-long k h true e = let l : k < 3 * n + 2 = ltb-true _ _ e in ap length (row-noted k l) ∙ row-places (list-placed k l) .long
+  row-long k h false e = ap length (row-behind k (ltb-false _ _ e)) ∙ w .room .wide k h
+
+  pub left-guesses : GuessesReady s g table
+  left-guesses = record { pack = there .pack; is = there .is; held = there .guesses; room = record { wide = λ k h. row-long k h _ refl } }
+
+  module _ {noted : List (List ℕ)} (v : GuessesNoted s g table noted) where
+    pub left-ready : ListsReady s places (3 * n + 2) noted
+    left-ready = record {
+      is = is-accepted;
+      counted = lists-many;
+      long = ap length (w .survey .stored .placed) ∙ length-sets (w .empty) 0 (placesOf s) ∙ w .long;
+      held = place-held;
+      room = v .room;
+      noted = λ k h. rw (v .kept k (omega (arith, few)), row-noted k h, place-held k h) (row-places (list-placed k h));
+      blank = λ k l h. subst Blank (sym (v .kept k (omega arith) ∙ row-behind k l)) (w .blank k h);
     }
 
-    there : SurveyedPack s n g
-    there = surveyed-pack s n g r (surveyed-one _ _ (w .result)) q
+    pub left-found : {done : List (List ℕ)} → ListsFound s noted done → AcceptedIs s done n g
+    unfolding guesserBy
+    left-found {done} f = record {
+      result = w .survey .result;
+      found = f .found;
+      guessed = ap (λ (a : ℕ → List ℕ → LanguageSet). a n) (guesser-kept s noted done g (f .kept) ∙ v .guessed);
+    }
 
-    few : n ≤ 32
-    few = omega (arith, there .languages, languages-few s (there .pack) g (there .is) (there .guesses))
-
-    same : packIn s ≡ there .pack
-    same = pack-in s (there .pack) (there .is)
-
-    pub thrice-fits : Fits w64 (3 * n)
-    thrice-fits = record { fits = omega (arith, few) }
-
-    pub lists-fit : Fits w64 (3 * n + 2)
-    lists-fit = record { fits = omega (arith, few) }
-
-    lists-many : 3 * n + 2 ≡ listCount (length (packIn s .names))
-    unfolding listCount
-    lists-many = ap listCount (there .languages ∙ ap (λ (p : Pack). length (p .names)) (sym same))
-
-    pub index-ready : {blank table : List (List ℕ)} → GuessesNoted s g blank table → length t ≡ 98 → ((k : ℕ) → k < 98 → Blank (getD blank k []))
-        → ListsReady s t′ (3 * n + 2) table
-    index-ready v long blank =
-        let room : length (placesOf s) ≡ 3 * n + 2 = places-counted s (packIn s) g (there .is ∙ ap accepted (sym same)) (there .guesses ∙ ap (λ (p : Pack). 1 + stringsLength (p .names)) (sym same)) ∙ sym lists-many in
-        record {
-          is = there .is ∙ ap accepted (sym same);
-          counted = lists-many;
-          long = ap length (w .buffer) ∙ length-sets t 0 (placesOf s) ∙ long;
-          held = λ k h. ap (λ (x : List ℕ). getD x k 0) (w .buffer ∙ sets-eq (placesOf s) t 0 (omega (arith, long, few))) ∙ List·getD-append (placesOf s) _ 0 k (omega arith);
-          room = v .room;
-          blank = λ k h. subst Blank (sym (v .kept k (omega arith))) (blank k h);
-        }
-
-    pub index-guesses : {table : List (List ℕ)} → Roomy table → GuessesReady s g table
-    index-guesses room = record { pack = there .pack; is = there .is; held = there .guesses; room = room }
+pub ruleset left-laws = (left-thrice, left-lists, left-guesses, left-ready, left-found, needs)
 
 -- ---- a new table
+
+zeros-row-of : (n m : ℕ) → n ≡ rows → m ≡ 128 → (k : ℕ) → k < rows → getD (replicate n (replicate {A = ℕ} m 0)) k [] ≡ replicate 128 0
+zeros-row-of n m en em k h = getD-replicate n k _ [] (omega arith) ∙ ap (λ (i : ℕ). replicate i 0) em
 
 pub zeros-long : length (replicate {A = ℕ} 98 0) ≡ 98
 zeros-long = length-replicate {A = ℕ} 98 0
 
-pub zeros-roomy : (n m : ℕ) → n ≡ rows → m ≡ 128 → Roomy (replicate n (replicate m 0))
-zeros-roomy n m en em = record { wide = λ k h. ap length (getD-replicate n k _ [] (omega arith)) ∙ length-replicate m 0 ∙ em }
-
 pub zeros-blank : (n m : ℕ) → n ≡ rows → m ≡ 128 → (k : ℕ) → k < 98 → Blank (getD (replicate n (replicate m 0)) k [])
-zeros-blank n m en em k h =
-    subst Blank (sym (getD-replicate n k _ [] (omega arith)))
-    (record { long = length-replicate m 0 ∙ em; clear = λ kind l. getD-replicate m (kind + 64) 0 0 (omega arith) })
+zeros-blank n m en em k h = rw (zeros-row-of n m en em k (omega arith)) zeros-row
 
-pub ruleset survey-laws = (index-refused, index-accepted, thrice-fits, lists-fit, index-guesses, index-ready, zeros-long, zeros-roomy, zeros-blank, needs)
+pub zeros-left : (s places : List ℕ) (table : List (List ℕ)) (n m languages guesses : ℕ) (r : Surveyed) → n ≡ rows → m ≡ 128
+    → SurveyIs s (replicate 98 0) (replicate n (replicate m 0)) r places table → r ≡ surveyed.Accepted languages guesses → SurveyLeft s places table languages guesses
+zeros-left s places table n m languages guesses r en em w q = record {
+  empty = replicate {A = ℕ} 98 0;
+  blanks = replicate n (replicate {A = ℕ} m 0);
+  survey = subst (λ (x : Surveyed). SurveyIs s (replicate {A = ℕ} 98 0) (replicate n (replicate {A = ℕ} m 0)) x places table) q w;
+  long = zeros-long;
+  many = length-replicate n (replicate {A = ℕ} m 0) ∙ en;
+  room = record { wide = λ k h. ap length (zeros-row-of n m en em k h) ∙ length-replicate {A = ℕ} 128 0 };
+  blank = zeros-blank n m en em;
+}
+
+pub ruleset survey-laws = (index-refused, zeros-left, zeros-long, zeros-blank, needs)
 
 -- the promise of `index` allows one answer, and one table as far as it is looked at
 pub index-one : (s : List ℕ) (r r′ : Surveyed) (t t′ : List (List ℕ)) → IndexIs s r t → IndexIs s r′ t′

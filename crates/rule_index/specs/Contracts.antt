@@ -11,15 +11,16 @@ use Rattle.base.specs.Pick.{pick, and}
 use Rattle.pack.specs.Packs.{Pack, Verdict, accepted, refused, readRule, packOf, listCount}
 use Rattle.rule_lines.specs.Rules.{Rule}
 use Rattle.strings.specs.Reading.{Read, cut, got, placeIn}
-use Rattle.pack.specs.PlaceContracts.{surveyedOf, placesOf, listAt}
+use Rattle.pack.specs.PlaceContracts.{NUMBERS, surveyedOf, placesOf, listAt, SurveyIs}
 use Rattle.strings.specs.Contracts.{behind}
 use Rattle.pack.specs.Numbers.{surveyedNumbers}
 use Rattle.pack.specs.declared.sections.Surveyed.{Surveyed}
+use Rattle.pack.specs.declared.sections.Surveyed.the-variants.{Accepted}
 use Rattle.pack.specs.Contracts.{guessedAt}
 use Rattle.texts.specs.Parts.{firstByte, lastByte}
 use Rattle.texts.specs.Signatures.{bitOf, hasBits}
 use Rattle.regex_optim.specs.Contracts.{allBits, leftBits, rightBits}
-use Rattle.rule_index.specs.Rows.{placesRow, leadsRow, beforeRow, behindRow, requiredRow, Roomy, notedAt, putAll}
+use Rattle.rule_index.specs.Rows.{placesRow, leadsRow, beforeRow, behindRow, requiredRow, rows, Roomy, notedAt, putAll}
 use Rattle.rule_index.specs.GuessContracts.{guesser, guesserBy}
 use Rattle.rule_index.specs.Matching.{Match, none, by, Matcher, firstMatch}
 use Rattle.rule_index.specs.declared.numbers.Front.{Front}
@@ -43,10 +44,6 @@ packIn s = packBy (packOf s)
 unfoldable pub rulesBetween : ℕ → List ℕ → ℕ → ℕ → List Rule
 rulesBetween zero s at stop = []
 rulesBetween (suc f) s at stop = pick (ltb at stop) (behind (readRule (drop at s)) (λ r q. r ∷ rulesBetween f s (placeIn s q) stop)) []
-
--- how many rules have a number
-abbrev pub NUMBERS : ℕ
-NUMBERS = 4096
 
 -- the first two bytes of a text as one number
 abbrev pub leadOf : List ℕ → ℕ
@@ -147,10 +144,6 @@ seenIn s (By step start end) = seen step (take (end - start) (drop start s))
 
 -- ---- a row
 
--- a rule that stands from a place to an end noted as the first of its kind, or as the last so far
-unfoldable pub notedIn : List ℕ → ℕ → ℕ → ℕ → List ℕ
-notedIn row kind at end = pick (eqb (getD row (kind + 64) 0) 0) (set (set row kind at) (kind + 64) end) (set row (kind + 64) end)
-
 -- a row with no rule in it
 pub record Blank (row : List ℕ) : Type 0 where
   pub long : length row ≡ 128
@@ -162,11 +155,6 @@ pub record ListPlaced (s : List ℕ) (place : ℕ) : Type 0 where
   pub list : ℕ
   pub known : list < listCount (length (packIn s .names))
   pub held : place ≡ getD (placesOf s) list 0
-
--- and a blank row for it
-pub record RowReady (s row : List ℕ) (place : ℕ) : Type 0 where
-  pub placed : ListPlaced s place
-  pub blank : Blank row
 
 -- by a row of places the rules of a list are found, whatever else the table has
 pub record RowPlaces (s row : List ℕ) (rules : List Rule) : Type 0 where
@@ -201,6 +189,14 @@ pub record ListReady (s : List ℕ) (table : List (List ℕ)) (list place free :
   pub blank : Blank (getD table list [])
   pub few : free ≤ NUMBERS
 
+-- the same, and its row has its rules by places
+pub record ListStands (s : List ℕ) (table : List (List ℕ)) (list place free : ℕ) : Type 0 where
+  pub placed : ListPlaced s place
+  pub row : list < 98
+  pub room : Roomy table
+  pub noted : RowPlaces s (getD table list []) (listAt s place)
+  pub few : free ≤ NUMBERS
+
 -- the list is found by its row; the other rows of lists, the numbers that were not free and what is noted of guessing rules are as they were
 pub record ListIndexed (s : List ℕ) (t u : List (List ℕ)) (list place free free′ : ℕ) : Type 0 where
   pub finds : RowFinds s u free′ (getD u list []) (listAt s place)
@@ -211,14 +207,15 @@ pub record ListIndexed (s : List ℕ) (t u : List (List ℕ)) (list place free f
   pub more : free ≤ free′
   pub few : free′ ≤ NUMBERS
 
--- the lists of an accepted pack by their places, and a table of blank rows
+-- the lists of an accepted pack by their places, and a table with their rows and blank ones behind
 pub record ListsReady (s places : List ℕ) (lists : ℕ) (table : List (List ℕ)) : Type 0 where
   pub is : packOf s ≡ accepted (packIn s)
   pub counted : lists ≡ listCount (length (packIn s .names))
   pub long : length places ≡ 98
   pub held : (k : ℕ) → k < lists → getD places k 0 ≡ getD (placesOf s) k 0
   pub room : Roomy table
-  pub blank : (k : ℕ) → k < 98 → Blank (getD table k [])
+  pub noted : (k : ℕ) → k < lists → RowPlaces s (getD table k []) (listAt s (getD places k 0))
+  pub blank : (k : ℕ) → lists ≤ k → k < 98 → Blank (getD table k [])
 
 -- by a table the rules of a pack's lists are found, and no others
 abbrev pub Finds : List ℕ → List (List ℕ) → Type 0
@@ -234,3 +231,16 @@ pub record IndexIs (s : List ℕ) (r : Surveyed) (table : List (List ℕ)) : Typ
   pub result : surveyedNumbers r ≡ surveyedNumbers (surveyedOf (packOf s))
   pub found : Finds s table
   pub guessed : guesserBy (guesser s table) r ≡ guesserBy (guessedAt s) r
+
+-- what the survey of an accepted pack leaves in a table of blank rows
+pub record SurveyLeft (s places : List ℕ) (table : List (List ℕ)) (n g : ℕ) : Type 0 where
+  pub empty : List ℕ
+  pub blanks : List (List ℕ)
+  pub survey : SurveyIs s empty blanks (Accepted n g) places table
+  pub long : length empty ≡ 98
+  pub many : length blanks ≡ rows
+  pub room : Roomy blanks
+  pub blank : (k : ℕ) → k < 98 → Blank (getD blanks k [])
+
+abbrev pub AcceptedIs : List ℕ → List (List ℕ) → ℕ → ℕ → Type 0
+AcceptedIs s table n g = IndexIs s (Accepted n g) table

@@ -2,8 +2,8 @@
 ghost use mathlib.Core.Path.{_≡_};
 ghost use Prim.Native.Nat.{_+_, _-_, _%_, _≤_, _<_};
 ghost use lib.ListN.{length, getD};
-ghost use Rattle.rule_index.specs.Contracts.{notedIn, RowReady, RowPlaces, ListReady, ListIndexed, ListsReady, ListsFound, IndexIs};
-ghost use Rattle.pack.specs.PlaceContracts.{ruleCount, listAt};
+ghost use Rattle.rule_index.specs.Contracts.{ListReady, ListStands, ListIndexed, ListsReady, ListsFound, SurveyLeft, AcceptedIs, IndexIs};
+ghost use Rattle.pack.specs.PlaceContracts.{notedIn, ruleCount};
 use crate::guessing::note_guesses;
 use crate::numbers::marks_of;
 use crate::numbers::number_rule;
@@ -37,45 +37,6 @@ fn kind_at(pack: &[u8], at: usize) -> usize
     ensures { λ r. ⌜ r ≡ getD (now (pack .entry)) at 0 % 64 ⌝ }
 {
     (pack[at] as usize) % KINDS
-}
-
-// A place of `pack` as a row has it, behind the numbers.
-fn shifted(pack: &[u8], place: usize) -> usize
-    requires { ⌜ place ≤ length (now pack) ⌝ }
-    ensures { λ r. ⌜ r ≡ 4096 + place ⌝ }
-{
-    NUMBERS + place
-}
-
-// The rules of the list at a place noted in its row by their places, each by the first byte of its pattern.
-fn place_list(pack: &[u8], row: &mut [usize], place: usize)
-    requires { ⌜ RowReady (now pack) (now row) place ⌝ }
-    ensures { λ r. ⌜ RowPlaces (now (pack .entry)) (now (row .exit)) (listAt (now (pack .entry)) place) ⌝ }
-{
-    let mut left = pack::rule_count(pack, place);
-    let mut at = place + 2;
-    while 0 < left {
-        match pack::rule_at(pack, at) {
-            RuleAt::At {
-                pattern,
-                pattern_end: _,
-                left: _,
-                left_end: _,
-                right: _,
-                right_end: _,
-                expression: _,
-                end,
-            } => {
-                let kind = kind_at(pack, pattern);
-                note(row, kind, shifted(pack, at), shifted(pack, end));
-                at = end;
-                left -= 1;
-            }
-            RuleAt::Cut => {
-                return;
-            }
-        }
-    }
 }
 
 // The rules of the list at a place numbered from `first` on and noted in its row. Returns the number behind the last one.
@@ -119,20 +80,21 @@ fn number_list(pack: &[u8], table: &mut Table, list: usize, place: usize, first:
     number
 }
 
-// The list at a place noted in its row, by numbers from `free` on where there are enough. Returns the number that is free then.
+// The list at a place, whose row has its rules by places: by numbers from `free` on where there are enough. Returns the number that is
+// free then.
 fn index_list(pack: &[u8], table: &mut Table, list: usize, place: usize, free: usize) -> usize
-    requires { ⌜ ListReady (now pack) (now table) list place free ⌝ }
+    requires { ⌜ ListStands (now pack) (now table) list place free ⌝ }
     ensures { λ r. ⌜ ListIndexed (now (pack .entry)) (now (table .entry)) (now (table .exit)) list place free r ⌝ }
 {
     if pack::rule_count(pack, place) <= NUMBERS - free {
+        table[list] = [0usize; COLUMNS];
         number_list(pack, table, list, place, free)
     } else {
-        place_list(pack, &mut table[list], place);
         free
     }
 }
 
-// The lists at their places, each noted in its row, with numbers from `first` on.
+// The lists at their places, each found by its row, with numbers from `first` on.
 fn index_lists(pack: &[u8], places: &[usize], lists: usize, table: &mut Table, first: usize)
     requires { ⌜ ListsReady (now pack) (now places) lists (now table) ⌝ }
     requires { ⌜ first ≤ 4096 ⌝ }
@@ -153,25 +115,39 @@ fn first_free(numbered: bool) -> usize
     if numbered { 0 } else { NUMBERS }
 }
 
+// The table of an accepted pack, in which its survey noted its lists: its guessing rules are noted too, and its rules numbered.
+fn index_accepted(
+    pack: &[u8],
+    places: &[usize],
+    table: &mut Table,
+    languages: usize,
+    guesses: usize,
+    first: usize,
+)
+    requires { ⌜ SurveyLeft (now pack) (now places) (now table) languages guesses ⌝ }
+    requires { ⌜ first ≤ 4096 ⌝ }
+    ensures { λ r. ⌜ AcceptedIs (now (pack .entry)) (now (table .exit)) languages guesses ⌝ }
+{
+    note_guesses(pack, guesses, table);
+    index_lists(pack, places, 3 * languages + 2, table, first);
+}
+
 // The verdict on a pack, and the table by which its rules are found, whatever the table held before. A refused pack has none.
-// Numbering the rules takes longer than noting their places, and pays from the second name on.
+// A survey notes the places of the rules; numbering them is a second walk, which pays from the second name on.
 pub fn index(pack: &[u8], table: &mut Table, numbered: bool) -> Surveyed
     ensures { λ r. ⌜ IndexIs (now (pack .entry)) r (now (table .exit)) ⌝ }
 {
     *table = [[0usize; COLUMNS]; ROWS];
     let mut places = [0usize; LISTS];
-    match pack::survey(pack, &mut places) {
+    match pack::survey(pack, &mut places, table) {
         Surveyed::Accepted { languages, guesses } => {
-            note_guesses(pack, guesses, table);
-            index_lists(
-                pack,
-                &places,
-                3 * languages + 2,
-                table,
-                first_free(numbered),
-            );
+            let first = first_free(numbered);
+            index_accepted(pack, &places, table, languages, guesses, first);
             Surveyed::Accepted { languages, guesses }
         }
-        Surveyed::Refused(place) => Surveyed::Refused(place),
+        Surveyed::Refused(place) => {
+            *table = [[0usize; COLUMNS]; ROWS];
+            Surveyed::Refused(place)
+        }
     }
 }

@@ -1,7 +1,7 @@
-use Rattle.phonemes.proofs
-use proofs.ExprLaws.{piece-laws}
-use proofs.phonemes.piece_formed.Statement.{statement}
-use proofs.phonemes.piece_formed.Tie as tie
+use Rattle.phonemes.proofs.ExprLaws.{piece-laws}
+use Rattle.phonemes.proofs.phonemes.piece_formed.Statement.{statement}
+use Rattle.phonemes.proofs.phonemes.piece_formed.Tie as tie
 
 pub piece-formed-spec : {M : Type 1} → statement M
-piece-formed-spec = tie.close (tie.spec (λ c κs. search piece-laws) (λ c κs. search piece-laws) (λ c. search piece-laws) (λ c. search piece-laws))
+piece-formed-spec =
+    tie.close (tie.spec (λ c κs. search piece-laws) (λ c. search piece-laws) (λ c. search piece-laws))

@@ -1,9 +1,7 @@
-use Rattle.phonemes.proofs
-use proofs.ExprLaws.{piece-laws}
-use proofs.phonemes.piece_listed.Statement.{statement}
-use proofs.phonemes.piece_listed.Tie as tie
+use Rattle.phonemes.proofs.ExprLaws.{piece-laws}
+use Rattle.phonemes.proofs.phonemes.piece_listed.Statement.{statement}
+use Rattle.phonemes.proofs.phonemes.piece_listed.Tie as tie
 
 pub piece-listed-spec : {M : Type 1} → statement M
 piece-listed-spec =
-    tie.close (tie.spec (λ c κs. search piece-laws) (λ c κs. search piece-laws) (λ c. search piece-laws) (λ c. search piece-laws)
-    (λ c. search piece-laws) (λ c. search piece-laws))
+    tie.close (tie.spec (λ c κs. search piece-laws) (λ c. search piece-laws) (λ c. search piece-laws) (λ c. search piece-laws) (λ c. search piece-laws))

@@ -1,10 +1,7 @@
-use Rattle.rule_index.proofs.TableLaws.{index-ready, survey-laws}
+use Rattle.rule_index.proofs.TableLaws.{survey-laws}
 use Rattle.rule_index.proofs.indexing.index.Statement.{statement}
 use Rattle.rule_index.proofs.indexing.index.Tie as tie
 
 pub index-spec : {M : Type 1} → statement M
 index-spec =
-    tie.close (tie.spec (λ c. search survey-laws) (λ c κs. search survey-laws) (λ c. search survey-laws) (λ c κs. search survey-laws)
-    (λ c. search survey-laws) (λ c. search survey-laws) (λ c. search survey-laws) (λ c κs. search survey-laws)
-    (λ c κs. (index-ready (c .before .before .before .before .before .before .before .before .before .survey .ensures) _ _ (search survey-laws) (c .before .before .before .note-guesses .ensures) (search survey-laws) (search survey-laws), search survey-laws))
-    (λ c. search survey-laws) (λ c. search survey-laws) (λ c. search survey-laws))
+    tie.close (tie.spec (λ c. search survey-laws) (λ c κs. search survey-laws) (λ c. search survey-laws) (λ c κs. search survey-laws) (λ c. search survey-laws) (λ c κs. (search survey-laws, search survey-laws)) (λ c. search survey-laws) (λ c. search survey-laws) (λ c. search survey-laws))

@@ -1,6 +1,6 @@
 use borrow.Author.Needs.{needs}
 use Rattle.base.proofs.PickLaws.{cases}
-use Rattle.rule_index.specs.Contracts.{notedIn}
+use Rattle.pack.specs.PlaceContracts.{notedIn}
 use Rattle.rule_index.proofs
 use proofs.indexing.note.Statement.{statement}
 use proofs.indexing.note.Tie as tie
