@@ -12,16 +12,18 @@ use Rattle.choices.specs.Texts.{Text}
 use Rattle.languages.specs.Contracts.{decoded, IsCode}
 use Rattle.languages.specs.declared.sets.LanguageSet.{LanguageSet}
 use Rattle.letters.specs.Order.{sameText}
-use Rattle.choices.specs.Apply.{Alternative, Entry, textsOf, under, enter, apply, start}
+use Rattle.choices.specs.Apply.{Alternative, Entry, NextSet, overlong, nextSet, textsOf, under, enter, apply, start}
 use Rattle.choices.specs.Choices.{Increasing}
 use Rattle.phonemes.specs.Expressions.{bar}
 use Rattle.refusals.specs.Numbers.{numberOf}
 use Rattle.refusals.specs.declared.Refusal.the-variants.{TextTooLong, TooManyTexts}
 use Rattle.phoneme_builder.specs.Sets.{Spelling, refusal, texts}
-use Rattle.phoneme_builder.specs.Passes.{offered, Turn, turnOn, turnsOf, Ran, tooLong, ran, flagged, run, raised, finalText, finalFrom, finalPass, then, wordOf, joined}
+use Rattle.phoneme_builder.specs.Passes.{offered, Turn, turnOn, turnsOf, Ran, tooLong, ran, flagged, afterLetter, unmatched, run, raised, finalText, finalFrom, finalPass, then, wordOf, joined}
 use Rattle.phoneme_builder.specs.BufferContracts.{MOST, TABLE, SETS, langsOf, altOf, AltIn, AltsIn, alternatives, Holds, slotTexts, part, Arena, SetAt, TextIn, entryIn, entriesAt, Stayed, Only, AppliedAt, BetweenIn, sourceOf}
 use Rattle.phoneme_builder.specs.declared.pass.Turned.{Turned}
 use Rattle.phoneme_builder.specs.declared.pass.Turned.the-variants as turned
+use Rattle.phoneme_builder.specs.declared.pass.Settled.{Settled}
+use Rattle.phoneme_builder.specs.declared.pass.Settled.the-variants as settled
 use Rattle.phoneme_builder.specs.declared.pass.Passed.{Passed}
 use Rattle.phoneme_builder.specs.declared.pass.Passed.the-variants as passed
 use Rattle.phoneme_builder.specs.declared.finals.Finished.{Finished}
@@ -34,7 +36,7 @@ use Rattle.phoneme_builder.specs.declared.pass.Stage.{Stage}
 use Rattle.phoneme_builder.specs.declared.finals.FinalSets.{FinalSets}
 use Rattle.phoneme_builder.specs.declared.finals.NextText.{NextText}
 use Rattle.phoneme_builder.specs.declared.words.Plan.{Plan}
-use Rattle.rule_index.specs.Matching.{none, Matcher}
+use Rattle.rule_index.specs.Matching.{Matcher}
 use Rattle.rule_index.specs.Contracts.{matcher}
 use Rattle.phoneme_builder.specs.declared.words.Worded.{Worded}
 use Rattle.phoneme_builder.specs.declared.words.Worded.the-variants as worded
@@ -78,16 +80,7 @@ pub record AltsAre (names e alts : List ℕ) (m : ℕ) : Type 0 where
   pub parts : AltsIn e alts m
   pub are : (limit : ℕ) (old : List Entry) → apply limit (alternatives e alts m) old ≡ apply limit (offered names e) old
 
--- a rule's expression applied
-pub record RuleApplies (a : Arena) (sets : Between) (expr : List ℕ) (limit : ℕ) : Type 0 where
-  pub sides : BetweenIn a sets
-  pub short : length expr < 256
-  pub few : limit ≤ MOST
-
-abbrev pub RuleApplied : Arena → Arena → Between → List ℕ → List ℕ → ℕ → Applied → Type 0
-RuleApplied a b sets expr names limit r = AppliedAt a b (sets .to) r (apply limit (offered names expr) (sourceOf a sets))
-
--- ---- a turn: what the run then comes to, whatever turns follow
+-- ---- a stage of a pass: the characters that no rule matched since the last match are yet to be appended
 
 -- the names and the rules of a pass
 abbrev pub namesOf : List ℕ → Pass → List ℕ
@@ -96,42 +89,94 @@ namesOf s by = namesIn s (by .guesses)
 abbrev pub rulesOf : List ℕ → List (List ℕ) → Pass → Matcher
 rulesOf s table by = matcher s table (by .list)
 
--- the turns from here on, run from the texts of a set
-abbrev pub runFrom : Pass → List Turn → Arena → ℕ → ℕ → Ran
-runFrom by turns a set n = run (by .appends) (by .limit) turns (entriesAt a set n)
+-- the two sets take turns
+pub data Sides (x y : ℕ) : ℕ → ℕ → Type 0 where
+  straight : Sides x y x y
+  crossed : Sides x y y x
 
-unfoldable pub turnedBy : Turned → Pass → Arena → Stage → (ℕ → List Turn) → Ran
-turnedBy (turned.Into k step full) by b at rest = flagged full (runFrom by (rest (at .place + step)) b (at .to) k)
-turnedBy (turned.Kept step) by b at rest = runFrom by (rest (at .place + step)) b (at .from) (at .count)
-turnedBy turned.TooLong by b at rest = tooLong
+abbrev pub setsAt : Stage → Between
+setsAt at = record { from = at .from; count = at .count; to = at .to }
+
+-- a pass stands at a place of the word or at its end, with two sets
+pub record StageIn (a : Arena) (word : Text) (at : Stage) : Type 0 where
+  pub sides : BetweenIn a (setsAt at)
+  pub behind : at .since ≤ at .place
+  pub within : at .place ≤ length word
+
+-- where there is no such character, the texts stay
+unfoldable pub stretched : Bool → Text → List Entry → NextSet
+stretched final [] l = nextSet l
+stretched final (b ∷ c) l = unmatched final (b ∷ c) l
+
+-- the stretch before a stage, appended as the pass appends
+abbrev pub stretchAt : Pass → Text → Arena → Stage → NextSet
+stretchAt by word a at = stretched (by .appends) (take (at .place - at .since) (drop (at .since) word)) (sourceOf a (setsAt at))
+
+unfoldable pub SettledKept : Settled → Arena → Stage → Type 0
+SettledKept (settled.In sets) b at = BetweenIn b sets × Sides (at .from) (at .to) (sets .from) (sets .to)
+SettledKept settled.TooLong b at = Unit {0}
+
+unfoldable pub settledBy : Settled → Arena → (List Entry → Ran) → Ran
+settledBy (settled.In sets) b rest = rest (sourceOf b sets)
+settledBy settled.TooLong b rest = tooLong
+
+pub record SettledAt (a b : Arena) (at : Stage) (o : NextSet) (r : Settled) : Type 0 where
+  pub kept : SettledKept r b at
+  pub is : (rest : List Entry → Ran) → settledBy r b rest ≡ afterLetter o rest
+  pub others : Only (at .from) (at .to) a b
+
+abbrev pub SettledBy : Arena → Arena → Pass → Text → Stage → Settled → Type 0
+SettledBy a b by word at r = SettledAt a b at (stretchAt by word a at) r
+
+-- a rule's expression applied behind it
+pub record RuleApplies (a : Arena) (by : Pass) (word : Text) (at : Stage) (expr : List ℕ) : Type 0 where
+  pub stage : StageIn a word at
+  pub short : length expr < 256
+  pub few : by .limit ≤ MOST
+
+unfoldable pub afterSet : NextSet → (List Entry → NextSet) → NextSet
+afterSet overlong rest = overlong
+afterSet (nextSet l) rest = rest l
+
+abbrev pub ruleOn : List ℕ → Pass → List ℕ → List Entry → NextSet
+ruleOn s by expr = apply (by .limit) (offered (namesOf s by) expr)
+
+abbrev pub RuleApplied : Arena → Arena → List ℕ → Pass → Text → Stage → List ℕ → Settled → Type 0
+RuleApplied a b s by word at expr r = SettledAt a b at (afterSet (stretchAt by word a at) (ruleOn s by expr)) r
+
+-- ---- a turn: what the run then comes to, whatever turns follow
+
+-- the stretch and then the turns from a stage on
+abbrev pub runFrom : Pass → Text → List Turn → Arena → Stage → Ran
+runFrom by word turns a at = afterLetter (stretchAt by word a at) (run (by .appends) (by .limit) turns)
+
+unfoldable pub turnedBy : Turned → Pass → Text → Arena → (ℕ → List Turn) → Ran
+turnedBy (turned.On next full) by word b rest = flagged full (runFrom by word (rest (next .place)) b next)
+turnedBy turned.TooLong by word b rest = tooLong
 
 -- the step lies within the word
 pub record StepIn (word : Text) (place step : ℕ) : Type 0 where
   pub some : 0 < step
   pub within : place + step ≤ length word
 
-unfoldable pub TurnKept : Turned → Arena → Arena → Stage → Text → Type 0
-TurnKept (turned.Into k step full) a b at word = SetAt b (at .to) k × StepIn word (at .place) step
-TurnKept (turned.Kept step) a b at word = (b ≡ a) × StepIn word (at .place) step
-TurnKept turned.TooLong a b at word = Unit {0}
+-- the next stage is further on, with the same two sets
+pub record StageOn (b : Arena) (word : Text) (at next : Stage) : Type 0 where
+  pub stage : StageIn b word next
+  pub sides : Sides (at .from) (at .to) (next .from) (next .to)
+  pub on : at .place < next .place
+
+unfoldable pub TurnKept : Turned → Arena → Text → Stage → Type 0
+TurnKept (turned.On next full) b word at = StageOn b word at next
+TurnKept turned.TooLong b word at = Unit {0}
 
 pub record TurnedAt (a b : Arena) (by : Pass) (word : Text) (at : Stage) (turns : (ℕ → List Turn) → List Turn) (r : Turned) : Type 0 where
-  pub kept : TurnKept r a b at word
-  pub is : (rest : ℕ → List Turn) → turnedBy r by b at rest ≡ runFrom by (turns rest) a (at .from) (at .count)
-  pub others : Only (at .to) (at .to) a b
-
--- a pass stands at a place of the word, with two sets
-pub record StageIn (a : Arena) (word : Text) (at : Stage) : Type 0 where
-  pub source : SetAt a (at .from) (at .count)
-  pub known : at .to < SETS
-  pub apart : at .from ≡ at .to → ⊥
-  pub here : at .place < length word
-
-abbrev pub UnmatchedTurned : Arena → Arena → Pass → Text → Stage → Turned → Type 0
-UnmatchedTurned a b by word at r = TurnedAt a b by word at (turnOn [] none word (at .place)) r
+  pub kept : TurnKept r b word at
+  pub is : (rest : ℕ → List Turn) → turnedBy r by word b rest ≡ runFrom by word (turns rest) a at
+  pub others : Only (at .from) (at .to) a b
 
 pub record Turns (a : Arena) (by : Pass) (word : Text) (at : Stage) : Type 0 where
   pub stage : StageIn a word at
+  pub here : at .place < length word
   pub few : by .limit ≤ MOST
 
 abbrev pub TurnedBy : Arena → Arena → List ℕ → List (List ℕ) → Pass → Text → Stage → Turned → Type 0

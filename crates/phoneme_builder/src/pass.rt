@@ -7,7 +7,7 @@ ghost use Rattle.base.specs.Pick.{pick};
 ghost use Rattle.letters.specs.Utf8.{decodeAt};
 ghost use Rattle.phoneme_builder.specs.BufferContracts.{arena};
 ghost use Rattle.phoneme_builder.specs.Passes.{stepLength};
-ghost use Rattle.phoneme_builder.specs.Contracts.{namesIn, StepIn, StageIn, UnmatchedTurned, RuleApplies, RuleApplied, Turns, TurnedBy, Runs, RunTo};
+ghost use Rattle.phoneme_builder.specs.Contracts.{namesIn, StepIn, StageIn, SettledBy, RuleApplies, RuleApplied, Turns, TurnedBy, Runs, RunTo};
 use crate::append::append;
 use crate::apply::Applied;
 use crate::apply::Most;
@@ -31,25 +31,25 @@ pub(crate) struct Pass {
     pub(crate) guesses: usize,
 }
 
-// Where a pass stands: from the texts of one set into another, at a place of the word.
+// Where a pass stands: from the texts of one set into another, at a place of the word; no rule matched from `since` on.
 pub(crate) struct Stage {
     pub(crate) from: usize,
     pub(crate) count: usize,
     pub(crate) to: usize,
+    pub(crate) since: usize,
     pub(crate) place: usize,
 }
 
-// What a turn at a place comes to: so many texts in the other set, `full` where an apply ended at or over the limit;
-// or the texts kept where they are; or a text over 128 bytes would have entered (7).
+// What a turn at a place comes to: the next stage, `full` where an apply ended at or over the limit;
+// or a text over 128 bytes would have entered (7).
 pub(crate) enum Turned {
-    Into {
-        texts: usize,
-        step: usize,
-        full: bool,
-    },
-    Kept {
-        step: usize,
-    },
+    On { next: Stage, full: bool },
+    TooLong,
+}
+
+// Where the texts of a pass stand when the characters that no rule matched are appended; or 7.
+pub(crate) enum Settled {
+    In(Between),
     TooLong,
 }
 
@@ -106,64 +106,68 @@ fn past(word: &[u8], place: usize, step: usize) -> usize
     place + step
 }
 
-// An unmatched character: skipped in the main pass, appended in a final one.
-fn pass_unmatched(store: &mut Store, slots: &mut Slots, by: Pass, word: &[u8], at: Stage) -> Turned
+// The stretch of unmatched characters before a place: skipped in the main pass, appended in a final one.
+fn settle(store: &mut Store, slots: &mut Slots, by: Pass, word: &[u8], at: Stage) -> Settled
     requires { ⌜ StageIn (arena (now store) (now slots)) (now word) at ⌝ }
-    ensures { λ r. ⌜ UnmatchedTurned (arena (now (store .entry)) (now (slots .entry))) (arena (now (store .exit)) (now (slots .exit)))
+    ensures { λ r. ⌜ SettledBy (arena (now (store .entry)) (now (slots .entry))) (arena (now (store .exit)) (now (slots .exit)))
         by (now (word .entry)) at r ⌝ }
 {
+    let since = at.since;
     let place = at.place;
-    let step = char_bytes(word, place);
+    let sets = Between {
+        from: at.from,
+        count: at.count,
+        to: at.to,
+    };
+    if since == place {
+        return Settled::In(sets);
+    }
     if by.appends {
-        let end = place + step;
-        match append(
-            store,
-            slots,
-            Between {
-                from: at.from,
-                count: at.count,
-                to: at.to,
-            },
-            &word[place..end],
-        ) {
-            Applied::Now(texts) => Turned::Into {
-                texts,
-                step,
-                full: false,
-            },
-            Applied::TooLong => Turned::TooLong,
+        match append(store, slots, sets, &word[since..place]) {
+            Applied::Now(texts) => Settled::In(Between {
+                from: at.to,
+                count: texts,
+                to: at.from,
+            }),
+            Applied::TooLong => Settled::TooLong,
         }
     } else {
-        Turned::Kept { step }
+        Settled::In(sets)
     }
 }
 
-// A rule's expression applied.
+// A rule's expression applied, behind the stretch before its place.
 fn apply_rule(
     store: &mut Store,
     slots: &mut Slots,
     alts: &mut Alternatives,
-    sets: Between,
+    pack: &[u8],
+    by: Pass,
+    word: &[u8],
+    at: Stage,
     expr: &[u8],
-    names: &[u8],
-    limit: usize,
-) -> Applied
-    requires { ⌜ RuleApplies (arena (now store) (now slots)) sets (now expr) limit ⌝ }
+) -> Settled
+    requires { ⌜ RuleApplies (arena (now store) (now slots)) by (now word) at (now expr) ⌝ }
     ensures { λ r. ⌜ RuleApplied (arena (now (store .entry)) (now (slots .entry))) (arena (now (store .exit)) (now (slots .exit)))
-        sets (now (expr .entry)) (now (names .entry)) limit r ⌝ }
+        (now (pack .entry)) by (now (word .entry)) at (now (expr .entry)) r ⌝ }
 {
-    let m = alternatives(expr, names, alts);
-    apply(
-        store,
-        slots,
-        sets,
-        expr,
-        alts,
-        Most {
-            alternatives: m,
-            limit,
-        },
-    )
+    match settle(store, slots, by, word, at) {
+        Settled::In(sets) => {
+            let most = Most {
+                alternatives: alternatives(expr, names_in(pack, by.guesses), alts),
+                limit: by.limit,
+            };
+            match apply(store, slots, sets, expr, alts, most) {
+                Applied::Now(texts) => Settled::In(Between {
+                    from: sets.to,
+                    count: texts,
+                    to: sets.from,
+                }),
+                Applied::TooLong => Settled::TooLong,
+            }
+        }
+        Settled::TooLong => Settled::TooLong,
+    }
 }
 
 // The turn at a place of a word.
@@ -191,23 +195,38 @@ fn turn(
             store,
             slots,
             alts,
-            Between {
+            pack,
+            by,
+            word,
+            at,
+            &pack[expression..end],
+        ) {
+            Settled::In(sets) => {
+                let behind = past(word, place, step);
+                let next = Stage {
+                    from: sets.from,
+                    count: sets.count,
+                    to: sets.to,
+                    since: behind,
+                    place: behind,
+                };
+                Turned::On {
+                    next,
+                    full: by.limit <= sets.count,
+                }
+            }
+            Settled::TooLong => Turned::TooLong,
+        },
+        Matched::Nothing => Turned::On {
+            next: Stage {
                 from: at.from,
                 count: at.count,
                 to: at.to,
+                since: at.since,
+                place: past(word, place, char_bytes(word, place)),
             },
-            &pack[expression..end],
-            names_in(pack, by.guesses),
-            by.limit,
-        ) {
-            Applied::Now(texts) => Turned::Into {
-                texts,
-                step,
-                full: by.limit <= texts,
-            },
-            Applied::TooLong => Turned::TooLong,
+            full: false,
         },
-        Matched::Nothing => pass_unmatched(store, slots, by, word, at),
     }
 }
 
@@ -226,38 +245,31 @@ pub(crate) fn run(
     ensures { λ r. ⌜ RunTo (arena (now (store .entry)) (now (slots .entry))) (arena (now (store .exit)) (now (slots .exit)))
         (now (pack .entry)) (now (table .entry)) by (now (word .entry)) sets r ⌝ }
 {
-    let mut from = sets.from;
-    let mut to = sets.to;
-    let mut count = sets.count;
-    let mut place = 0;
+    let mut at = Stage {
+        from: sets.from,
+        count: sets.count,
+        to: sets.to,
+        since: 0,
+        place: 0,
+    };
     let mut flag = false;
-    while place < word.len() {
-        let at = Stage {
-            from,
-            count,
-            to,
-            place,
-        };
+    while at.place < word.len() {
         match turn(store, slots, alts, pack, table, by, word, at) {
-            Turned::Into { texts, step, full } => {
-                let other = from;
-                from = to;
-                to = other;
-                count = texts;
-                place = past(word, place, step);
+            Turned::On { next, full } => {
+                at = next;
                 flag = either(flag, full);
-            }
-            Turned::Kept { step } => {
-                place = past(word, place, step);
             }
             Turned::TooLong => {
                 return Passed::TooLong;
             }
         }
     }
-    Passed::Now {
-        texts: count,
-        set: from,
-        flag,
+    match settle(store, slots, by, word, at) {
+        Settled::In(sets) => Passed::Now {
+            texts: sets.count,
+            set: sets.from,
+            flag,
+        },
+        Settled::TooLong => Passed::TooLong,
     }
 }

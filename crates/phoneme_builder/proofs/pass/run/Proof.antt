@@ -5,29 +5,20 @@ use Rattle.phoneme_builder.specs
 use specs.BufferContracts.{arena, entriesAt}
 use specs.Contracts.{namesOf, rulesOf, runOf}
 use Rattle.phoneme_builder.proofs
-use proofs.PassLaws.{Running, running-laws, running-into, step-in, skip-in}
+use proofs.PassLaws.{Running, running-laws}
 use proofs.pass.run.Statement.{statement}
 use proofs.pass.run.Tie as tie
 
 abbrev Inv-loop : tie.InvT-loop
-Inv-loop store₀ slots₀ alts₀ pack table by word from₀ to₀ count₀ place₀ flag₀ store slots alts from to count place flag =
-    Running (arena store₀ slots₀) from₀ to₀ by (namesOf pack by) (rulesOf pack table by) word
-    (runOf pack table by word (entriesAt (arena store₀ slots₀) from₀ count₀)) (arena store slots) from to count place flag
+Inv-loop store₀ slots₀ alts₀ pack table by word at₀ flag₀ store slots alts at flag =
+    Running (arena store₀ slots₀) (at₀ .from) (at₀ .to) by (namesOf pack by) (rulesOf pack table by) word
+    (runOf pack table by word (entriesAt (arena store₀ slots₀) (at₀ .from) (at₀ .count))) (arena store slots) at flag
 
 abbrev μ-loop : tie.MeasureT-loop
-μ-loop store₀ slots₀ alts₀ pack table by word from₀ to₀ count₀ place₀ flag₀ store slots alts from to count place flag = length word - place
-
-loop-again : tie.Need-loop-again Inv-loop μ-loop
-loop-again c =
-    let arm = c .before .before .before in
-    let turned = arm .before .before in
-    let test = turned .before .before .before .before in
-    running-into (test .before .loop .inv) (test .loop-test .taken) _ _ (turned .turn .ensures) _ _ _ _ (arm .texts .given .1)
-    (c .either .ensures) _ (c .before .past .ensures)
+μ-loop store₀ slots₀ alts₀ pack table by word at₀ flag₀ store slots alts at flag = length word - at .place
 
 pub run-spec : {M : Type 1} → statement M
 run-spec =
-    tie.close (tie.spec Inv-loop μ-loop (λ c. search running-laws) (λ c κs. search running-laws) (λ c. search needs)
-    (λ c κs. step-in (c .before .before .before .turn .ensures) (c .before .texts .given .1)) (λ c κs. search needs) (λ c. search running-laws)
-    loop-again (λ c. search needs) (λ c κs. skip-in (c .before .before .before .turn .ensures) (c .before .step .given .1)) (λ c. search running-laws)
-    (λ c. search running-laws) (λ c. search needs) (λ c. search running-laws) (λ c. search running-laws))
+    tie.close (tie.spec Inv-loop μ-loop (λ c. search running-laws) (λ c κs. search running-laws) (λ c. search needs) (λ c κs. search needs)
+    (λ c. search running-laws) (λ c. search running-laws) (λ c. search needs) (λ c. search running-laws) (λ c κs. search running-laws)
+    (λ c. search needs) (λ c. search needs) (λ c. search running-laws) (λ c. search running-laws))
