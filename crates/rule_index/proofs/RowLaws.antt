@@ -25,7 +25,7 @@ use Rattle.strings.specs.Reading.{got}
 use Rattle.pack.specs.Packs.{readRule, stringsLength}
 use Rattle.rule_lines.specs.Rules.{Rule}
 use Rattle.pack.specs.PlaceContracts.{ruleStandsAt, ruleCount, listAt, NUMBERS, notedIn, placedIn, rowFrom, rowAt}
-use Rattle.strings.specs.Contracts.{behind}
+use Rattle.strings.specs.Contracts.{ByteIs, behind}
 use Rattle.pack.specs.declared.rules.RuleAt.{RuleAt}
 use Rattle.pack.specs.declared.rules.RuleAt.the-variants as rules
 use Rattle.strings.proofs.Readers.{place-drop}
@@ -569,10 +569,7 @@ module _ {s : List ℕ} {t table : List (List ℕ)} {list place first at left nu
     numbering-row = omega (arith, w .row)
 
     module _ (pattern b c d e f g end : ℕ) (q : x ≡ rules.At pattern b c d e f g end) where
-      pub numbering-pattern : pattern < length s
-      numbering-pattern = midway-pattern (w .midway) h x o pattern b c d e f g end q
-
-      module _ (kind : ℕ) (ek : kind ≡ getD s pattern 0 % 64) {y : Marks} (my : MarksAre (take (b - pattern) (drop pattern s)) (take (d - c) (drop c s)) (take (f - e) (drop e s)) y)
+      module _ (byte : ℕ) (eb : ByteIs s pattern byte) {y : Marks} (my : MarksAre (take (b - pattern) (drop pattern s)) (take (d - c) (drop c s)) (take (f - e) (drop e s)) y)
           (t₁ : List (List ℕ)) (et : t₁ ≡ numberedIn table number at y) where
         roomy₁ : Roomy t₁
         roomy₁ = rw et (numbered-room (w .roomy) number numbering-free at y)
@@ -586,15 +583,15 @@ module _ {s : List ℕ} {t table : List (List ℕ)} {list place first at left nu
         agree₁ : Agree number table t₁
         agree₁ = rw et (numbered-agree (w .roomy) number numbering-free at y)
 
-        pub numbering-kind : kind + 64 < length (getD t₁ list [])
-        numbering-kind = omega (arith, roomy₁ .wide list numbering-row)
+        kind-fits : byte % 64 + 64 < length (getD t₁ list [])
+        kind-fits = omega (arith, roomy₁ .wide list numbering-row)
 
-        module _ (row′ : List ℕ) (er : row′ ≡ notedIn (getD t₁ list []) kind number (number + 1)) where
+        module _ (row′ : List ℕ) (er : row′ ≡ notedIn (getD t₁ list []) (byte % 64) number (number + 1)) where
           agree₂ : {n : ℕ} → Agree n t₁ (set t₁ list row′)
           agree₂ = agree-row roomy₁ list (w .row) row′
 
           long-row : length row′ ≡ 128
-          long-row = note-long (getD t₁ list []) row′ kind number (number + 1) numbering-kind er ∙ roomy₁ .wide list numbering-row
+          long-row = note-long (getD t₁ list []) row′ (byte % 64) number (number + 1) kind-fits er ∙ roomy₁ .wide list numbering-row
 
           module _ (u : List (List ℕ)) (a : Agree (number + 1) (set t₁ list row′) u) where
             noted-here : (j : ℕ) → j < 4 → notedAt u (placesRow + 32 * j) number ≡ getD (at ∷ y .lead ∷ y .before ∷ y .behind ∷ []) j 0
@@ -606,7 +603,7 @@ module _ {s : List ℕ} {t table : List (List ℕ)} {list place first at left nu
             turn-notes =
                 let v = rule-here (w .midway) h x o pattern b c d e f g end q in
                 rw (set-here roomy₁ list numbering-row row′)
-                (row-notes (getD t₁ list []) row′ kind number (number + 1) numbering-kind er (numbered-found s u) {before = w .before} {r = v .value}
+                (row-notes (getD t₁ list []) row′ (byte % 64) number (number + 1) kind-fits er (numbered-found s u) {before = w .before} {r = v .value}
                 (record {
                   rest = drop end s;
                   reads = rw (noted-here 0 (omega arith)) (v .reads);
@@ -618,7 +615,7 @@ module _ {s : List ℕ} {t table : List (List ℕ)} {list place first at left nu
                   few = numbering-free;
                 })
                 (λ n. omega arith) (some-pattern (w .midway) h x o pattern b c d e f g end q)
-                (ek ∙ ap (λ (m : ℕ). m % 64) (sym (first-byte (w .midway) h x o pattern b c d e f g end q)))
+                (ap (λ (m : ℕ). m % 64) (eb .is ∙ sym (first-byte (w .midway) h x o pattern b c d e f g end q)))
                 (rw (row₁ list (w .row)) (w .notes u (agree-then (omega arith) (agree-then (omega arith) agree₁ (agree₂ {n = number})) a))))
 
           pub numbering-turn : Numbering s t list place first (set t₁ list row′) end (left - 1) (number + 1)
@@ -635,4 +632,4 @@ module _ {s : List ℕ} {t table : List (List ℕ)} {list place first at left nu
             notes = turn-notes;
           }
 
-pub ruleset numbering-laws = (numbering-within, numbering-start, numbering-done, numbering-cut, numbering-free, numbering-row, numbering-pattern, numbering-kind, numbering-turn, pattern-order, pattern-fits, left-order, left-fits, right-order, right-fits, needs)
+pub ruleset numbering-laws = (numbering-within, numbering-start, numbering-done, numbering-cut, numbering-free, numbering-row, numbering-turn, pattern-order, pattern-fits, left-order, left-fits, right-order, right-fits, needs)

@@ -14,13 +14,13 @@ ghost use Rattle.pack.specs.Guessing.{narrowedBy, leftOver};
 ghost use Rattle.rule_index.specs.Rows.{requiredRow, guessRow, putAt};
 ghost use Rattle.rule_index.specs.GuessContracts.{narrowedIn, narrowedNoted, narrowedByFirst, guesser, GuessesReady, GuessesNoted};
 use crate::rows::GUESSES;
-use crate::rows::NUMBERS;
 use crate::rows::REQUIRED;
 use crate::rows::Table;
 use crate::rows::noted_at;
 use crate::rows::put_at;
 use languages::LanguageSet;
 use pack::GuessAt;
+use pack::NUMBERS;
 
 // The i-th guessing rule noted: what it requires, and its place.
 fn note_guess(table: &mut Table, i: usize, required: u64, place: usize)

@@ -1,43 +1,17 @@
 // The table that a pack's rules are found by: which rules of each list may match at a byte.
-ghost use mathlib.Core.Path.{_≡_};
-ghost use Prim.Native.Nat.{_+_, _-_, _%_, _≤_, _<_};
-ghost use lib.ListN.{length, getD};
+ghost use Prim.Native.Nat.{_-_, _≤_};
 ghost use Rattle.rule_index.specs.Contracts.{ListReady, ListStands, ListIndexed, ListsReady, ListsFound, SurveyLeft, AcceptedIs, IndexIs};
-ghost use Rattle.pack.specs.PlaceContracts.{notedIn, ruleCount};
+ghost use Rattle.pack.specs.PlaceContracts.{ruleCount};
 use crate::guessing::note_guesses;
 use crate::numbers::marks_of;
 use crate::numbers::number_rule;
 use crate::rows::COLUMNS;
 use crate::rows::LISTS;
-use crate::rows::NUMBERS;
 use crate::rows::ROWS;
 use crate::rows::Table;
+use pack::NUMBERS;
 use pack::RuleAt;
 use pack::Surveyed;
-
-// Bytes are told apart by their lower six bits.
-pub(crate) const KINDS: usize = 64;
-
-// A rule from one number or place to the next noted in a row: the first of its kind, or the last so far.
-fn note(row: &mut [usize], kind: usize, at: usize, end: usize)
-    requires { ⌜ kind + 64 < length (now row) ⌝ }
-    ensures { λ r. ⌜ now (row .exit) ≡ notedIn (now (row .entry)) kind at end ⌝ }
-{
-    if row[kind + KINDS] == 0 {
-        row[kind] = at;
-        row[kind + KINDS] = end;
-    } else {
-        row[kind + KINDS] = end;
-    }
-}
-
-// Which kind the byte at a place of `pack` is of.
-fn kind_at(pack: &[u8], at: usize) -> usize
-    requires { ⌜ at < length (now pack) ⌝ }
-    ensures { λ r. ⌜ r ≡ getD (now (pack .entry)) at 0 % 64 ⌝ }
-{
-    (pack[at] as usize) % KINDS
-}
 
 // The rules of the list at a place numbered from `first` on and noted in its row. Returns the number behind the last one.
 fn number_list(pack: &[u8], table: &mut Table, list: usize, place: usize, first: usize) -> usize
@@ -60,14 +34,14 @@ fn number_list(pack: &[u8], table: &mut Table, list: usize, place: usize, first:
                 expression: _,
                 end,
             } => {
-                let kind = kind_at(pack, pattern);
+                let byte = strings::byte_at(pack, pattern);
                 let marks = marks_of(
                     &pack[pattern..pattern_end],
                     &pack[before..before_end],
                     &pack[behind..behind_end],
                 );
                 number_rule(table, number, at, marks);
-                note(&mut table[list], kind, number, number + 1);
+                pack::note_rule(&mut table[list], byte, number, number + 1);
                 at = end;
                 number += 1;
                 left -= 1;

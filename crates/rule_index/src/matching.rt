@@ -3,15 +3,15 @@ ghost use mathlib.Core.Path.{_≡_};
 ghost use Prim.Native.Nat.{_≤_, _<_, _-_, max};
 ghost use lib.ListN.{length};
 ghost use Rattle.rule_index.specs.Contracts.{foundIn, MatchIs, FrontIs, OneMatch, NumberMatch, FirstNumbered, FirstBetween, FirstMatch};
-use crate::indexing::KINDS;
 use crate::numbers::Front;
 use crate::numbers::front_of;
 use crate::numbers::is_tried;
 use crate::rows::LISTS;
-use crate::rows::NUMBERS;
 use crate::rows::PLACES;
 use crate::rows::Table;
 use crate::rows::noted_at;
+use pack::KINDS;
+use pack::NUMBERS;
 use pack::RuleAt;
 
 // The rule that matches: how far its pattern reaches, and where its expression stands in the pack.

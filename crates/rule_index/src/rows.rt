@@ -2,17 +2,15 @@
 ghost use mathlib.Core.Path.{_≡_};
 ghost use Prim.Native.Nat.{_≤_, _<_};
 ghost use Rattle.rule_index.specs.Rows.{guessRow, notedAt, putAt};
+use pack::NUMBERS;
 
 // A pack has 3 lists for each of at most 32 languages, and 2 more.
 pub(crate) const LISTS: usize = 98;
 
-// The numbers of a row.
-pub const COLUMNS: usize = 128;
+// The numbers of a row, as a survey notes it.
+pub const COLUMNS: usize = pack::COLUMNS;
 
-// So many numbers are held of a kind: a pack has no more guessing rules, and no more rules of its lists are numbered.
-pub(crate) const NUMBERS: usize = 4096;
-
-// The first rows of the rules' places, of the first two bytes of their patterns, of the bytes that may stand before a place and behind its
+// So many numbers are held of a kind: a pack has no more guessing rules, and no more rules of its lists are numbered. The first rows of the rules' places, of the first two bytes of their patterns, of the bytes that may stand before a place and behind its
 // first byte, of what guessing rules require, and of their places.
 pub(crate) const PLACES: usize = LISTS;
 
