@@ -4,7 +4,7 @@ use mathlib.Core.Path.{_≡_, refl, sym, ap, ap₂, subst, _∙_}
 use mathlib.Core.Bool.{Bool, true, false}
 use mathlib.Core.List.{List, [], _∷_, _++_, map, append-assoc}
 use mathlib.Core.Logic.{_⊎_, inl, inr}
-use Prim.Native.Nat.{ℕ, _+_, _-_, _≤_, _<_}
+use Prim.Native.Nat.{ℕ, _-_, _≤_, _<_}
 use native.Mathlib.Omega.{arith}
 use borrow.Author.Tests.{lt-ltb, ltb-true}
 use lib.Dec.{ltb}
@@ -15,9 +15,8 @@ use Rattle.letters.specs.Order.{orderOf}
 use Rattle.letters.specs.declared.order.Order.{Order}
 use Rattle.letters.specs.declared.order.Order.the-variants.{Less, Equal, Greater}
 use Rattle.letters.proofs.StrictOrder.{compare-same}
-use Rattle.languages.specs.declared.sets.LanguageSet.{LanguageSet}
 use Rattle.choices.specs.Texts.{Text, byOrder}
-use Rattle.choices.specs.Apply.{Entry, textsOf, NextSet, overlong, nextSet, insert}
+use Rattle.choices.specs.Apply.{Entry, textsOf, NextSet, nextSet, insert}
 use Rattle.choices.specs.Choices.{Holds, Increasing}
 use Rattle.choices.proofs.SetLaws.{insert-has, insert-increasing, insert-either}
 use Rattle.choices.proofs.Covered.{insert-there}
@@ -29,10 +28,8 @@ use specs.Contracts.{Sides, straight, crossed, setsAt, StageIn, stretched, Settl
 use specs.declared
 use declared.apply.Applied.{Applied}
 use declared.apply.Applied.the-variants.{Now, TooLong}
-use declared.set.Between.{Between}
 use declared.pass.Pass.{Pass}
 use declared.pass.Stage.{Stage}
-use declared.pass.Settled.{Settled}
 use declared.pass.Settled.the-variants as settled
 use Rattle.phoneme_builder.proofs
 use proofs.PartLaws.{only-refl}
@@ -40,6 +37,27 @@ use proofs.Answers.{now-at, now-held-at, long-at}
 use proofs.AppendLaws.{lengthened-apart, appended-long, appended-short}
 
 -- ---- sorted anew twice, and once
+
+-- what is made of the texts, one by one, is made of them sorted too: those that differ may come in either order, and an equal one adds nothing
+module _ {S : Type 0} (made : List Entry → S) (more : Entry → S → S) (each : (e : Entry) (l : List Entry) → made (e ∷ l) ≡ more e (made l))
+    (either : (x e : Entry) (l : List Entry) → orderOf (x .text) (e .text) ≡ Less → more x (more e (made l)) ≡ more e (more x (made l)))
+    (once : (x e : Entry) (l : List Entry) → x .text ≡ e .text → more x (made l) ≡ more e (more x (made l))) where
+  made-by : (e x : Entry) (l : List Entry) (o : Order) → orderOf (x .text) (e .text) ≡ o → made (insert e l) ≡ more e (made l)
+      → made (byOrder o (x ∷ insert e l) (x ∷ l) (e ∷ x ∷ l)) ≡ more e (more x (made l))
+  unfolding byOrder
+  made-by e x l Less q ih = each x _ ∙ ap (more x) ih ∙ either x e l q
+  made-by e x l Equal q ih = each x l ∙ once x e l (compare-same _ _ q)
+  made-by e x l Greater q ih = each e _ ∙ ap (more e) (each x l)
+
+  made-insert : (e : Entry) (l : List Entry) → made (insert e l) ≡ more e (made l)
+  unfolding insert
+  made-insert e [] = each e []
+  made-insert e (x ∷ l) = made-by e x l _ refl (made-insert e l) ∙ ap (more e) (sym (each x l))
+
+  made-sorted : (l : List Entry) → made (sorted l) ≡ made l
+  unfolding sorted
+  made-sorted [] = refl
+  made-sorted (e ∷ l) = made-insert e (sorted l) ∙ ap (more e) (made-sorted l) ∙ sym (each e l)
 
 sorted-increasing : (l : List Entry) → Increasing (textsOf (sorted l))
 unfolding sorted Increasing
@@ -52,57 +70,34 @@ either-first true true r = refl
 either-first true false r = refl
 either-first false q r = refl
 
-once-more : (p r : Bool) → pick p false r ≡ pick p false (pick p false r)
+once-more : (p q r : Bool) → p ≡ q → pick p false r ≡ pick q false (pick p false r)
 unfolding pick
-once-more true r = refl
-once-more false r = refl
+once-more true true r e = refl
+once-more true false r e = refl
+once-more false q r e = rw (← e)
 
 module _ (c : Text) where
-  abbrev long : List Entry → List Entry
-  long l = map (lengthened c) l
-
   abbrev over : Entry → Bool
   over e = ltb 128 (length (e .text ++ c))
 
-  -- by the order of the text at the front and the one that is inserted
-  module _ (e x : Entry) (l : List Entry) where
-    sorted-by : (o : Order) → orderOf (x .text) (e .text) ≡ o → sorted (long (insert e l)) ≡ insert (lengthened c e) (sorted (long l))
-        → sorted (long (byOrder o (x ∷ insert e l) (x ∷ l) (e ∷ x ∷ l))) ≡ insert (lengthened c e) (sorted (long (x ∷ l)))
-    unfolding sorted byOrder
-    sorted-by Less q ih = ap (insert (lengthened c x)) ih ∙ sym (insert-either (lengthened c x) (lengthened c e) (lengthened-apart c x e q) _)
-    sorted-by Equal q ih =
-        let set : List Entry = insert (lengthened c x) (sorted (long l)) in
-        let came = insert-has (lengthened c x) (sorted (long l)) in
-        let there : Holds set (e .text ++ c) (came .0) = subst (λ (t : Text). Holds set (t ++ c) (came .0)) (compare-same _ _ q) (came .1) in
-        sym (insert-there (lengthened c e) set (sorted-increasing (long (x ∷ l))) there)
-    sorted-by Greater q ih = refl
+  sorted-once : (x e : Entry) (l : List Entry) → x .text ≡ e .text → insert (lengthened c x) (sorted l) ≡ insert (lengthened c e) (insert (lengthened c x) (sorted l))
+  sorted-once x e l q =
+      let set : List Entry = insert (lengthened c x) (sorted l) in
+      let came = insert-has (lengthened c x) (sorted l) in
+      let there : Holds set (e .text ++ c) (came .0) = subst (λ (t : Text). Holds set (t ++ c) (came .0)) q (came .1) in
+      sym (insert-there (lengthened c e) set (insert-increasing (lengthened c x) (sorted l) (sorted-increasing l)) there)
 
-    short-by : (o : Order) → orderOf (x .text) (e .text) ≡ o → allShort (long (insert e l)) ≡ pick (over e) false (allShort (long l))
-        → allShort (long (byOrder o (x ∷ insert e l) (x ∷ l) (e ∷ x ∷ l))) ≡ pick (over e) false (allShort (long (x ∷ l)))
-    unfolding allShort byOrder
-    short-by Less q ih = ap (pick (over x) false) ih ∙ either-first (over x) (over e) _
-    short-by Equal q ih = rw (← compare-same (x .text) (e .text) q) (once-more (over x) _)
-    short-by Greater q ih = refl
-
-  sorted-insert : (e : Entry) (l : List Entry) → sorted (long (insert e l)) ≡ insert (lengthened c e) (sorted (long l))
-  unfolding sorted insert
-  sorted-insert e [] = refl
-  sorted-insert e (x ∷ l) = sorted-by e x l (orderOf (x .text) (e .text)) refl (sorted-insert e l)
-
-  short-insert : (e : Entry) (l : List Entry) → allShort (long (insert e l)) ≡ pick (over e) false (allShort (long l))
-  unfolding allShort insert
-  short-insert e [] = refl
-  short-insert e (x ∷ l) = short-by e x l (orderOf (x .text) (e .text)) refl (short-insert e l)
-
-  sorted-again : (l : List Entry) → sorted (long (sorted l)) ≡ sorted (long l)
+  sorted-again : (l : List Entry) → sorted (map (lengthened c) (sorted l)) ≡ sorted (map (lengthened c) l)
   unfolding sorted
-  sorted-again [] = refl
-  sorted-again (e ∷ l) = sorted-insert e (sorted l) ∙ ap (insert (lengthened c e)) (sorted-again l)
+  sorted-again =
+      made-sorted (λ (l : List Entry). sorted (map (lengthened c) l)) (λ (e : Entry). insert (lengthened c e)) (λ e l. refl)
+      (λ x e l q. sym (insert-either (lengthened c x) (lengthened c e) (lengthened-apart c x e q) _)) (λ x e l. sorted-once x e (map (lengthened c) l))
 
-  short-again : (l : List Entry) → allShort (long (sorted l)) ≡ allShort (long l)
-  unfolding sorted allShort
-  short-again [] = refl
-  short-again (e ∷ l) = short-insert e (sorted l) ∙ ap (pick (over e) false) (short-again l)
+  short-again : (l : List Entry) → allShort (map (lengthened c) (sorted l)) ≡ allShort (map (lengthened c) l)
+  unfolding allShort
+  short-again =
+      made-sorted (λ (l : List Entry). allShort (map (lengthened c) l)) (λ (e : Entry). pick (over e) false) (λ e l. refl)
+      (λ x e l q. either-first (over x) (over e) _) (λ x e l q. once-more (over x) (over e) _ (ap (λ (t : Text). ltb 128 (length (t ++ c))) q))
 
 module _ (c d : Text) where
   long-twice : (l : List Entry) → map (lengthened d) (map (lengthened c) l) ≡ map (lengthened (c ++ d)) l

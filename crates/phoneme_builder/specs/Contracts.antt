@@ -19,7 +19,7 @@ use Rattle.refusals.specs.Numbers.{numberOf}
 use Rattle.refusals.specs.declared.Refusal.the-variants.{TextTooLong, TooManyTexts}
 use Rattle.phoneme_builder.specs.Sets.{Spelling, refusal, texts}
 use Rattle.phoneme_builder.specs.Passes.{offered, Turn, turnOn, turnsOf, Ran, tooLong, ran, flagged, afterLetter, unmatched, run, raised, finalText, finalFrom, finalPass, then, wordOf, joined}
-use Rattle.phoneme_builder.specs.BufferContracts.{MOST, TABLE, SETS, langsOf, altOf, AltIn, AltsIn, alternatives, Holds, slotTexts, part, Arena, SetAt, TextIn, entryIn, entriesAt, Stayed, Only, AppliedAt, BetweenIn, sourceOf}
+use Rattle.phoneme_builder.specs.BufferContracts.{MOST, TABLE, SETS, langsOf, altOf, AltIn, AltsIn, alternatives, Holds, slotTexts, part, Arena, SetAt, TextIn, entryIn, entriesAt, Stayed, Only, BetweenIn, sourceOf}
 use Rattle.phoneme_builder.specs.declared.pass.Turned.{Turned}
 use Rattle.phoneme_builder.specs.declared.pass.Turned.the-variants as turned
 use Rattle.phoneme_builder.specs.declared.pass.Settled.{Settled}
@@ -30,7 +30,6 @@ use Rattle.phoneme_builder.specs.declared.finals.Finished.{Finished}
 use Rattle.phoneme_builder.specs.declared.finals.Finished.the-variants as finished
 use Rattle.phoneme_builder.specs.declared.set.Target.{Target}
 use Rattle.phoneme_builder.specs.declared.set.Between.{Between}
-use Rattle.phoneme_builder.specs.declared.apply.Applied.{Applied}
 use Rattle.phoneme_builder.specs.declared.pass.Pass.{Pass}
 use Rattle.phoneme_builder.specs.declared.pass.Stage.{Stage}
 use Rattle.phoneme_builder.specs.declared.finals.FinalSets.{FinalSets}

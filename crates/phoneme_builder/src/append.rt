@@ -1,4 +1,4 @@
-// Appending a character that no rule matched (01, Spelling a name, step 8).
+// Appending characters that no rule matched (01, Spelling a name, step 8).
 ghost use Rattle.phoneme_builder.specs.BufferContracts.{arena, Lengthens, LengthenedTo, BetweenIn, AppendedTo};
 use crate::apply::Applied;
 use crate::set::Between;
