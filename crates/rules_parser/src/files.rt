@@ -75,7 +75,7 @@ fn text_end(s: &[u8], p: usize, e: usize) -> usize
 fn behind_line(s: &[u8], e: usize) -> usize
     ensures { λ r. ⌜ r ≡ behindLine (now (s .entry)) e ⌝ }
 {
-    if e < s.len() { e + 1 } else { e }
+    if s.len() <= e { e } else { e + 1 }
 }
 
 // From p to the end e of its line there are but blanks.
