@@ -10,7 +10,7 @@
 #include <stdint.h>
 
 /* The pack of a bundle of rule files. name_type: 0 Ashkenazi, 1 Generic, 2 Sephardic. tail[0]: bytes written, or the refusal's line
-   (for 9 the length needed); tail[1]: the number of the file in the bundle. It takes about 170 KB of stack. */
+   (for 9 the length needed); tail[1]: the number of the file in the bundle. It takes about 240 KB of stack. */
 uint32_t bm_load(uint32_t name_type, const uint8_t *bundle, size_t bundle_length, uint8_t *out, size_t out_length, uint64_t *tail,
                  size_t tail_length);
 

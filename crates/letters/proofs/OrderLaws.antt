@@ -3,9 +3,11 @@
 use mathlib.Core.Path.{_≡_, refl, sym, ap, ap₂, _∙_}
 use mathlib.Core.Bool.{Bool, true, false}
 use mathlib.Core.List.{List, [], _∷_}
-use Prim.Native.Nat.{ℕ, suc, _+_, _≤_, _<_, min, zero-le}
-use native.Mathlib.Numerals.{add-one, add-one-le}
+use Prim.Native.Nat.{ℕ, zero, suc, _+_, _*_, _≤_, _<_, min, zero-le}
+use native.Mathlib.Numerals.{add-one, add-one-le, unary-clauses}
 use native.Mathlib.Omega.{arith}
+use mir.Syntax.{w8}
+use mir.Val.{Fits}
 use lib.Dec.{eqb, ltb}
 use lib.ListN.{length, drop, getD, drop-of-length-le}
 use lib.Seq.{drop-cons}
@@ -13,16 +15,11 @@ use borrow.Author.Needs.{needs}
 use borrow.Author.Tests.{eqb-true, ltb-false, lt-ltb, le-ltb, eq-eqb, ne-eqb}
 use Rattle.base.specs.Pick.{pick, and}
 use Rattle.letters.specs.Order.{orderOf, sameText}
+use Rattle.letters.specs.OrderContracts.{Left, EightIs, lowFirst}
 use Rattle.letters.specs.declared.order.Order.{Order}
 use Rattle.letters.specs.declared.order.Order.the-variants.{Less, Equal, Greater}
 use Rattle.base.proofs.PickLaws.{and-no, and-inv}
 use Rattle.base.proofs.Arms.{clash}
-
--- f of what is left from index i on is f of the whole
-pub record Left (A : Type 0) (f : List ℕ → List ℕ → A) (a b : List ℕ) (i : ℕ) : Type 0 where
-  pub in-a : i ≤ length a
-  pub in-b : i ≤ length b
-  pub rest : f (drop i a) (drop i b) ≡ f a b
 
 module _ {A : Type 0} {f : List ℕ → List ℕ → A} {a b : List ℕ} where
   pub left-start : Left A f a b 0
@@ -85,7 +82,30 @@ module _ {a b : List ℕ} {i : ℕ} (c : Left Order orderOf a b i) (n : ℕ) (e 
         let hb : length b ≤ i = omega arith in
         rw (drop-of-length-le a ha, drop-of-length-le b hb) at (c .rest)
 
-pub ruleset order-laws = (left-start, order-a, order-b, order-unlike, order-next, order-long, order-short, order-end, needs)
+-- eight bytes, the numbers of which are at hand
+pub eight-is : {s : List ℕ} {i x₀ x₁ x₂ x₃ x₄ x₅ x₆ x₇ : ℕ} → ((k : ℕ) → Fits w8 (getD s k 0))
+    → x₀ ≡ getD s i 0 → x₁ ≡ getD s (i + 1) 0 → x₂ ≡ getD s (i + 2) 0 → x₃ ≡ getD s (i + 3) 0
+    → x₄ ≡ getD s (i + 4) 0 → x₅ ≡ getD s (i + 5) 0 → x₆ ≡ getD s (i + 6) 0 → x₇ ≡ getD s (i + 7) 0
+    → EightIs s i (x₀ + 256 * (x₁ + 256 * (x₂ + 256 * (x₃ + 256 * (x₄ + 256 * (x₅ + 256 * (x₆ + 256 * x₇)))))))
+unfolding lowFirst
+eight-is {s} {i} small e₀ e₁ e₂ e₃ e₄ e₅ e₆ e₇ = record { is = simp (unary-clauses, e₀, e₁, e₂, e₃, e₄, e₅, e₆, e₇); small = small }
+
+-- as many bytes as are told by one number
+alike-over : {a b : List ℕ} (n i j : ℕ) → j ≡ i + n → ((k : ℕ) → Fits w8 (getD a k 0)) → ((k : ℕ) → Fits w8 (getD b k 0))
+    → lowFirst n a i ≡ lowFirst n b i → j ≤ min (length a) (length b) → Left Order orderOf a b i → Left Order orderOf a b j
+unfolding lowFirst
+alike-over zero i j p sa sb e h c = let same : i ≡ j = omega arith in rw same at c
+alike-over {a} {b} (suc n) i j p sa sb e h c =
+    let first : getD a i 0 ≡ getD b i 0 = omega (arith, sa i, sb i) in
+    let others : lowFirst n a (suc i) ≡ lowFirst n b (suc i) = omega (arith, sa i, sb i) in
+    let one : Left Order orderOf a b (suc i) = rw add-one at (order-next c (min (length a) (length b)) refl (omega arith) first) in
+    alike-over n (suc i) j (omega arith) sa sb others h one
+
+pub order-eight : {a b : List ℕ} {n i x y : ℕ} → Left Order orderOf a b i → EightIs a i x → EightIs b i y → x ≡ y → i + 8 ≤ n
+    → n ≤ length a → n ≤ length b → Left Order orderOf a b (i + 8)
+order-eight {a} {b} {n} {i} c p q e h ha hb = alike-over 8 i (i + 8) refl (p .small) (q .small) (sym (p .is) ∙ e ∙ q .is) (omega arith) c
+
+pub ruleset order-laws = (left-start, order-a, order-b, order-unlike, order-next, eight-is, order-eight, order-long, order-short, order-end, needs)
 
 -- ---- the same text
 

@@ -14,7 +14,7 @@ use Rattle.refusals.specs.declared.Refusal.{Refusal}
 use Rattle.refusals.specs.declared.Refusal.the-variants.{SettingUnknown, NoRoom, BundleBroken, FileMissing, TooMuch}
 use Rattle.strings.specs.Reading.{stringsOf, Read, cut, got}
 use Rattle.writing.specs.Contracts.{Put}
-use Rattle.writing.proofs.Laws.{put-then, put-place}
+use Rattle.writing.proofs.Laws.{put-then, put-long, put-place, put-fits}
 use Rattle.base.proofs.Arms.{clash}
 use Rattle.prefixes.specs.declared.prefixes.NameType.{NameType}
 use Rattle.prefixes.specs.declared.prefixes.NameType.the-variants.{Ashkenazi, Generic, Sephardic}
@@ -273,18 +273,31 @@ module _ (x : Loading (List ℕ)) (o o′ : List ℕ) (w : Written) (m : Written
   unfolding answer filled loadedNumbers
   answer-refused c l f out h = rw (was-refused Same o o′ 0 w x c l f m h) (record { result = refl; buffer = refl })
 
-  pub answer-done : (n : ℕ) (out out′ : List ℕ) (w′ : Written) → w ≡ wrote.Done n → n ≤ length out → WrittenIs Same x out out′ 0 w′
-      → AnswerIs x out (loaded.Done n) out′
-  unfolding answer filled loadedNumbers
-  answer-done n out out′ w′ h l told =
-      let v = was-fine Same o o′ 0 w x n m h in
-      let u = is-written Same out out′ 0 w′ x (v .it) (v .is) told .1 in
-      let s : n ≡ length (v .it) = omega (arith, v .put .ends, u .room) in
-      let t : leb (length (v .it)) (length out) ≡ true = le-leb (length (v .it)) (length out) (omega arith) in
-      record {
-        result = rw (v .is) (ap (λ (a : ℕ). doneAt a) s ∙ sym (pick-true _ _ _ t));
-        buffer = rw (v .is) (u .wrote ∙ sym (pick-true _ _ _ t));
-      }
+  -- the bytes of the pack, put where they fit
+  module _ (n : ℕ) (out out′ : List ℕ) (h : w ≡ wrote.Done n) (l : n ≤ length out) where
+    fine-is : WasFine Same x o o′ 0 n
+    fine-is = was-fine Same o o′ 0 w x n m h
+
+    done-by : (e : ℕ) → Put out out′ 0 e (fine-is .it) → AnswerIs x out (loaded.Done n) out′
+    unfolding answer filled loadedNumbers
+    done-by e u =
+        let v = fine-is in
+        let s : n ≡ length (v .it) = omega (arith, v .put .ends, u .room) in
+        let t : leb (length (v .it)) (length out) ≡ true = le-leb (length (v .it)) (length out) (omega arith) in
+        record {
+          result = rw (v .is) (ap (λ (a : ℕ). doneAt a) s ∙ sym (pick-true _ _ _ t));
+          buffer = rw (v .is) (u .wrote ∙ sym (pick-true _ _ _ t));
+        }
+
+    pub answer-done : (w′ : Written) → WrittenIs Same x out out′ 0 w′ → AnswerIs x out (loaded.Done n) out′
+    answer-done w′ told = let v = fine-is in done-by _ (is-written Same out out′ 0 w′ x (v .it) (v .is) told .1)
+
+    pub answer-copied : (e : ℕ) → n ≤ length o′ → Put out out′ 0 e (take (n - 0) (drop 0 o′)) → AnswerIs x out (loaded.Done n) out′
+    answer-copied e k u =
+        let v = fine-is in
+        let z : n - 0 ≡ n = omega arith in
+        let f = put-fits (v .put) (omega (arith, v .put .ends, v .put .room, put-long _ _ _ _ _ (v .put))) in
+        done-by e (rw (z, f .1) at u)
 
 -- ---- the names, the guessing rules, and the pack
 
@@ -399,7 +412,7 @@ pub ruleset names-loaded = (needs, names-found, found-order, found-within, names
 
 pub ruleset packs = (needs, packed-lists, packed-refused)
 
-pub ruleset answers = (needs, answer-long, answer-refused, answer-done)
+pub ruleset answers = (needs, answer-long, answer-refused, answer-done, answer-copied)
 
 pub ruleset files = (needs, files-no-names, files-slice, files-languages, files-done)
 

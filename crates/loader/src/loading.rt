@@ -1,4 +1,4 @@
-// A bundle loaded: checked and measured first, and written only where it fits.
+// A bundle loaded: checked and made first, and written only where it fits.
 ghost use mathlib.Core.Path.{_≡_};
 ghost use mathlib.Core.List.{List, _++_};
 ghost use Prim.Native.Nat.{ℕ, _≤_, min};
@@ -15,6 +15,9 @@ use bundles::FileAt;
 use prefixes::NameType;
 use refusals::Refusal;
 use rule_lists::Written;
+
+// The length of the buffer that a pack is made in; that of the real rules takes half of it.
+const OWN: usize = 65536;
 
 // The pack's length, or the refusal: which, its line (the length needed for 9), and the file's number in the bundle.
 pub enum Loaded {
@@ -157,7 +160,8 @@ fn needed(length: usize) -> usize
     }
 }
 
-// The pack of a bundle, written where it fits.
+// The pack of a bundle, written where it fits. Most packs are made in a buffer of this call's own and copied; a larger one is
+// made once more, in `out`.
 fn load_pack(
     kind: NameType,
     bundle: &[u8],
@@ -168,8 +172,8 @@ fn load_pack(
     requires { ⌜ languages ≤ 32 ⌝ }
     ensures { λ r. ⌜ AnswerIs (packedOf kind (filesOf (now (bundle .entry))) (now (names .entry)) languages) (now (out .entry)) r (now (out .exit)) ⌝ }
 {
-    let mut none = [0u8; 1];
-    match write_pack(kind, bundle, names, languages, &mut none) {
+    let mut own = [0u8; OWN];
+    match write_pack(kind, bundle, names, languages, &mut own) {
         Written::Done { at: length } => {
             if out.len() < length {
                 return Loaded::Refused {
@@ -177,6 +181,10 @@ fn load_pack(
                     place: needed(length),
                     file: 0,
                 };
+            }
+            if length <= OWN {
+                writing::copy(&own[0..length], out, 0);
+                return Loaded::Done { length };
             }
             write_pack(kind, bundle, names, languages, out);
             Loaded::Done { length }

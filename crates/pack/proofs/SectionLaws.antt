@@ -15,7 +15,8 @@ use Rattle.base.specs.Pick.{pick, and}
 use Rattle.letters.specs.Order.{orderOf, sameText, isLess, increasing}
 use Rattle.letters.specs.declared.order.Order.{Order}
 use Rattle.letters.specs.declared.order.Order.the-variants.{Less, Equal, Greater}
-use Rattle.letters.proofs.OrderLaws.{Left, left-start, order-short}
+use Rattle.letters.specs.OrderContracts.{Left}
+use Rattle.letters.proofs.OrderLaws.{left-start, order-short}
 use Rattle.languages.specs.Names.{languageName}
 use Rattle.languages.proofs.Laws.{name-some}
 use Rattle.strings.specs.declared.Next.{Next}

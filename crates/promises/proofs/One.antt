@@ -315,6 +315,9 @@ pub «rules_parser-part» : SettledBy rules_parser.part.ended (λ κs a x v. now
 pub «rules_parser-read-item» : Settled rules_parser.read_item.ended rules_parser.read_item.Reads.Asked rules_parser.read_item.Reads.Learnt
 «rules_parser-read-item» κs a = (tt, λ x y v w p q. (item-one x y (one p q), refl))
 
+pub «rules_parser-rule-strings» : Settled rules_parser.rule_strings.ended rules_parser.rule_strings.Reads.Asked rules_parser.rule_strings.Reads.Learnt
+«rules_parser-rule-strings» κs a = (tt, λ x y v w p q. (one p q, refl))
+
 -- ---- pack_bytes
 
 pub «pack_bytes-put-text» : Settled pack_bytes.put_text.ended pack_bytes.put_text.Reads.Asked pack_bytes.put_text.Reads.Learnt

@@ -7,24 +7,20 @@ use native.Mathlib.Omega.{arith}
 use borrow.Author.Needs.{needs}
 use lib.ListN.{length, getD, take}
 use lib.Seq.{getD-take, take-suc}
-use Rattle.writing.specs.Contracts.{Put, cap}
-use Rattle.writing.proofs.Laws.{slice-room, put-none, put-then, put-long, put-place}
+use Rattle.writing.specs.Contracts.{Put}
+use Rattle.writing.proofs.Laws.{put-none, put-then, put-long, put-place}
 use Rattle.rule_lines.specs.Rules.{Rule}
 use Rattle.pack_bytes.specs.Bytes.{countBytes}
 use Rattle.held.specs.Contracts.{atPlace, keyBytes}
 use Rattle.held.proofs.Keys.{key-append}
 use Rattle.rules_parser.specs.Fields.{partOf}
-use Rattle.rules_parser.proofs.NumberLaws.{item-one}
-use Rattle.rules_parser.specs.Files.{itemAt}
+use Rattle.rules_parser.specs.Contracts.{stringsFrom}
 use Rattle.rules_parser.specs.declared.fields.Text.{Text}
-use Rattle.rules_parser.specs.declared.lines.FileKind.the-variants.{Rules}
-use Rattle.rules_parser.specs.declared.lines.Clause.{Clause}
-use Rattle.rules_parser.specs.declared.lines.Clause.the-variants as told
-use Rattle.rules_parser.specs.declared.files.Item.{Item}
-use Rattle.rules_parser.specs.declared.files.Item.the-variants as item
+use Rattle.rules_parser.specs.declared.known.Strings.{Strings}
+use Rattle.rules_parser.proofs.RuleStrings.{rule-strings}
 use Rattle.rule_lists.specs.Lines.{ruleIn}
 use Rattle.rule_lists.specs.TableContracts.{RowReads, KeptIs, keysOf, Low}
-use Rattle.rule_lists.specs.WritingContracts.{rulePut, itemPut, rowPut, SomeKept, RowFits, rowAtPut, RowsPut}
+use Rattle.rule_lists.specs.WritingContracts.{rulePut, rowPut, SomeKept, RowFits, rowAtPut, RowsPut}
 use Rattle.rule_lists.proofs.TableLaws.{rows-at, key-at, kept-low}
 use Rattle.pack_bytes.specs.Contracts.{textPut}
 
@@ -36,34 +32,21 @@ unfolding rulePut
 rule-put s a b c d o o₁ o₂ o₃ o₄ at p q r e t u v w f x g y h z k l =
     put-then (rw f at x) (put-then (rw g at y) (put-then (rw h at z) (rw k at l)))
 
--- ---- the rule of a line, or nothing
-module _ (s : List ℕ) (place : ℕ) (r : Item) (g : r ≡ itemAt Rules s place) (o : List ℕ) (at : ℕ) where
-  item-put : (x : Item) → r ≡ x → (o′ : List ℕ) (e : ℕ) → Put o o′ at e (itemPut s x) → Put o o′ at e (rowPut s place)
-  unfolding rowPut
-  item-put x q o′ e w = let same : x ≡ itemAt Rules s place = sym q ∙ g in rw same at w
-
-  pub row-rule : (t : Clause) (n : ℕ) → r ≡ item.Tells t n → (a b c d : Text) → t ≡ told.Rule a b c d → (o′ : List ℕ) (e : ℕ) → Put o o′ at e (rulePut (ruleIn s a b c d)) → Put o o′ at e (rowPut s place)
-  unfolding itemPut
-  row-rule t n q a b c d u o′ e w = item-put (item.Tells (told.Rule a b c d) n) (rw u at q) o′ e w
-
-  module _ (h : length o * 1 < cap) (k : at ≤ cap) where
-    pub row-none : (x : Item) → r ≡ x → [] ≡ itemPut s x → Put o o at at (rowPut s place)
-    row-none x q e = item-put x q o at (rw (← e) (put-none o at (slice-room o h) k))
-
-    pub row-other : (t : Clause) (n : ℕ) → r ≡ item.Tells t n → (x : Clause) → t ≡ x → [] ≡ itemPut s (item.Tells x n) → Put o o at at (rowPut s place)
-    row-other t n q x u e = row-none (item.Tells x n) (rw u at q) e
+pub row-put : (s : List ℕ) (place : ℕ) (t : Strings) → t ≡ stringsFrom s place → (o o′ : List ℕ) (at e : ℕ)
+    → Put o o′ at e (rulePut (ruleIn s (t .pattern) (t .left) (t .right) (t .expression))) → Put o o′ at e (rowPut s place)
+unfolding rowPut
+row-put s place t q o o′ at e w = rw q at w
 
 -- ---- a list: rows by keys
 
 -- what is written of a line that is a rule
 reads-put : (s : List ℕ) (place : ℕ) (r : Rule) → RowReads s place r → rowPut s place ≡ rulePut r
-unfolding rowPut itemPut
-reads-put s place r w = ap (itemPut s) (w .says) ∙ ap rulePut (w .is)
+unfolding rowPut
+reads-put s place r w = rw (← rule-strings s place _ _ _ _ _ (w .says)) (ap rulePut (w .is))
 
 -- the rules of the first i keys are written
 pub record Putting (bundle rows keys : List ℕ) (n i : ℕ) (o₀ : List ℕ) (at₀ : ℕ) (o : List ℕ) (at : ℕ) : Type 0 where
   pub within : i ≤ n
-  pub small : at ≤ cap
   pub is : (rs : List Rule) → KeptIs bundle rows n rs → Put o₀ o at₀ at (keyBytes rulePut rs (take i keys))
 
 module _ (bundle rows keys : List ℕ) (n : ℕ) (few : n ≤ 4096) (sorted : take n keys ≡ keysOf rows n 0 []) (size : length keys ≡ 4096) where
@@ -84,7 +67,6 @@ module _ (bundle rows keys : List ℕ) (n : ℕ) (few : n ≤ 4096) (sorted : ta
     unfolding keyBytes
     putting-next i o at h w o′ e v = record {
       within = omega arith;
-      small = put-place _ _ _ _ _ v;
       is = λ rs k.
           let x = rows-at k few _ (key-row i h) in
           let y : rowAtPut bundle rows (getD keys i 0 % 4096) ≡ atPlace rulePut rs (getD keys i 0 % 4096) = reads-put _ _ _ (x .spot .reads) ∙ sym (x .at rulePut) in
@@ -103,13 +85,12 @@ module _ (bundle rows keys : List ℕ) (n : ℕ) (few : n ≤ 4096) (sorted : ta
 pub putting-start : (bundle rows keys : List ℕ) (n : ℕ) (o o₀ : List ℕ) (at at₀ : ℕ) → Put o o₀ at at₀ (countBytes n) → Putting bundle rows keys n 0 o₀ at₀ o₀ at₀
 unfolding keyBytes
 putting-start bundle rows keys n o o₀ at at₀ v =
-    let small : at₀ ≤ cap = put-place _ _ _ _ _ v in
-    record { within = omega arith; small = small; is = λ rs k. put-none o₀ at₀ (omega (arith, v .room, put-long _ _ _ _ _ v)) small }
+    record { within = omega arith; is = λ rs k. put-none o₀ at₀ (omega (arith, v .room, put-long _ _ _ _ _ v)) (put-place _ _ _ _ _ v) }
 
 -- rows of some rules can be sorted
 pub some-low : (bundle rows : List ℕ) (n : ℕ) → SomeKept bundle rows n → n ≤ 4096 → Low rows n
 some-low bundle rows n w few = kept-low bundle rows n _ (w .some .1) few
 
-pub ruleset writing-laws = (item-one, rule-put, row-rule, row-none, row-other, needs)
+pub ruleset writing-laws = (rule-put, row-put, needs)
 
 pub ruleset rows-laws = (key-fits, putting-start, putting-next, putting-done, needs)

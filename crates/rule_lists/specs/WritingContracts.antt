@@ -7,11 +7,8 @@ use Rattle.writing.specs.Contracts.{Put}
 use Rattle.rule_lines.specs.Rules.{Rule}
 use Rattle.pack_bytes.specs.Bytes.{countBytes}
 use Rattle.held.specs.Contracts.{keyBytes}
-use Rattle.rules_parser.specs.Files.{itemAt}
-use Rattle.rules_parser.specs.declared.lines.FileKind.the-variants.{Rules}
-use Rattle.rules_parser.specs.declared.lines.Clause.the-variants as told
-use Rattle.rules_parser.specs.declared.files.Item.{Item}
-use Rattle.rules_parser.specs.declared.files.Item.the-variants as item
+use Rattle.rules_parser.specs.Contracts.{stringsFrom}
+use Rattle.rules_parser.specs.declared.known.Strings.{Strings}
 use Rattle.rule_lists.specs.Lines.{ruleIn}
 use Rattle.rule_lists.specs.TableContracts.{fileAround, spotAt, KeptIs, keysOf}
 use Rattle.pack_bytes.specs.Contracts.{textPut}
@@ -23,17 +20,12 @@ use Rattle.rule_lists.specs.declared.lists.ListName.{ListName}
 unfoldable pub rulePut : Rule → List ℕ
 rulePut r = textPut (r .pattern) ++ (textPut (r .left) ++ (textPut (r .right) ++ textPut (r .expression)))
 
--- the rule of a line; nothing for another
-unfoldable pub itemPut : List ℕ → Item → List ℕ
-itemPut s (item.Passed k n) = []
-itemPut s (item.Tells (told.Rule a b c d) n) = rulePut (ruleIn s a b c d)
-itemPut s (item.Tells (told.Include t) n) = []
-itemPut s (item.Tells (told.Guess a b v) n) = []
-itemPut s (item.Tells (told.Name t) n) = []
-itemPut s item.Wrong = []
-
+-- the rule of a line that is one
 unfoldable pub rowPut : List ℕ → ℕ → List ℕ
-rowPut s place = itemPut s (itemAt Rules s place)
+rowPut s place = of (stringsFrom s place)
+  where
+    of : Strings → List ℕ
+    of t = rulePut (ruleIn s (t .pattern) (t .left) (t .right) (t .expression))
 
 -- the rows are those of some rules
 pub record SomeKept (bundle rows : List ℕ) (n : ℕ) : Type 0 where

@@ -3,16 +3,13 @@ ghost use mathlib.Core.Path.{_≡_};
 ghost use mathlib.Core.List;
 ghost use Prim.Native.Nat.{_≤_, _<_};
 ghost use lib.ListN.{length, take};
-ghost use Rattle.writing.specs.Contracts.{Put, cap};
+ghost use Rattle.writing.specs.Contracts.{Put};
 ghost use Rattle.rule_lists.specs.Lines.{ruleIn};
 ghost use Rattle.rule_lists.specs.TableContracts.{keysOf};
 ghost use Rattle.rule_lists.specs.WritingContracts.{rulePut, rowPut, SomeKept, RowFits, rowAtPut, RowsPut};
 use crate::tables::PLACES;
 use crate::tables::SPOT;
 use refusals::Refusal;
-use rules_parser::Clause;
-use rules_parser::FileKind;
-use rules_parser::Item;
 use rules_parser::Text;
 
 // The place behind what was written, or the refusal.
@@ -47,33 +44,19 @@ fn put_rule(
 
 // Writes the rule of the line that begins at `place` of s.
 fn put_row(s: &[u8], place: usize, out: &mut [u8], at: usize) -> usize
-    requires { ⌜ at ≤ cap ⌝ }
     ensures { λ r. ⌜ Put (now (out .entry)) (now (out .exit)) at r (rowPut (now (s .entry)) place) ⌝ }
 {
-    match rules_parser::read_item(FileKind::Rules, s, place) {
-        Item::Passed { lines: _, next: _ } => at,
-        Item::Tells { told, next: _ } => match told {
-            Clause::Rule {
-                pattern,
-                left,
-                right,
-                expression,
-            } => put_rule(s, pattern, left, right, expression, out, at),
-            Clause::Include { name: _ } => at,
-            Clause::Guess {
-                pattern: _,
-                names: _,
-                accept: _,
-            } => at,
-            Clause::Name { name: _ } => at,
-        },
-        Item::Wrong => at,
-    }
+    let strings = rules_parser::rule_strings(s, place);
+    let pattern = strings.pattern;
+    let left = strings.left;
+    let right = strings.right;
+    let expression = strings.expression;
+    put_rule(s, pattern, left, right, expression, out, at)
 }
 
 // Writes the rule of row j.
 fn put_at(bundle: &[u8], rows: &[usize], j: usize, out: &mut [u8], at: usize) -> usize
-    requires { ⌜ (at ≤ cap) × (j < 4096) × RowFits (now bundle) (now rows) j ⌝ }
+    requires { ⌜ (j < 4096) × RowFits (now bundle) (now rows) j ⌝ }
     ensures { λ r. ⌜ Put (now (out .entry)) (now (out .exit)) at r (rowAtPut (now (bundle .entry)) (now (rows .entry)) j) ⌝ }
 {
     let row = SPOT * j;

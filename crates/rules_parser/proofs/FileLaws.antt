@@ -13,6 +13,7 @@ use Rattle.base.specs.Pick.{pick}
 use Rattle.rules_parser.specs as specs
 use specs.Fields.{passesOf, spanOf, spanEnd, pairAt}
 use specs.Lines.{lineAt}
+use specs.Contracts.{behindLine}
 use specs.Files.{countedOf, closeIn, closeAt, textEnd, nextLine, restBlank, onClose, commentAt, onLine, itemAt}
 use specs.declared.fields.Kind.{Kind}
 use specs.declared.fields.Kind.the-variants.{Blank as blanks, NotLf}
@@ -57,6 +58,10 @@ pub ruleset closes = (counted-high, close-start, close-found, close-more, close-
 
 -- ---- the ends of lines, e being the place of the LF, or the end
 module _ (s : List ℕ) (p e : ℕ) (q : e ≡ spanEnd NotLf s p) where
+  pub behind-is : (m : ℕ) → m ≡ behindLine s e → m ≡ nextLine s p
+  unfolding nextLine behindLine
+  behind-is m h = h ∙ rw q refl
+
   pub next-more : e < length s → e + 1 ≡ nextLine s p
   unfolding nextLine
   next-more h = rw (← q) (sym (pick-true _ _ _ (lt-ltb _ _ h)))
@@ -85,7 +90,7 @@ pub rest-is : (s : List ℕ) (p e b : ℕ) → e ≡ textEnd s p → b ≡ spanE
 unfolding restBlank
 rest-is s p e b x y = rw (x, y) refl
 
-pub ruleset ends = (next-more, next-none, text-cr, text-lf, text-empty, text-last, rest-is)
+pub ruleset ends = (text-cr, text-lf, text-empty, text-last, rest-is)
 
 -- ---- a comment, q being the first place from p on that is no blank
 module _ (s : List ℕ) (p q : ℕ) (sk : q ≡ spanEnd blanks s p) where
@@ -112,7 +117,7 @@ module _ (s : List ℕ) (p q : ℕ) (sk : q ≡ spanEnd blanks s p) where
   unfolding onClose
   comment-ends r a n m t h e f g i j = sym (comment-in r h e ∙ rw f (pick-true _ _ _ (sym g ∙ i) ∙ rw (← j) refl))
 
-pub ruleset comments = (comment-past, comment-open, comment-text, comment-ends)
+pub ruleset comments = (behind-is, comment-past, comment-open, comment-text, comment-ends)
 
 pub run-high : (k : Kind) (t : List ℕ) → spanOf k t ≤ length t
 unfolding spanOf
@@ -164,4 +169,4 @@ module _ (k : FileKind) (s : List ℕ) (p e : ℕ) (r : Line) (l : p < length s)
   unfolding onLine
   item-bad f = sym (item-by ∙ rw f refl)
 
-pub ruleset items = (item-past, item-blank, item-comment, item-opens, item-tells, item-bad)
+pub ruleset items = (behind-is, item-past, item-blank, item-comment, item-opens, item-tells, item-bad)

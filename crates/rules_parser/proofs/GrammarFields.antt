@@ -217,7 +217,7 @@ met k s p q n w x r e a h d m f =
     let here : partOf s (text a n) ≡ w = rw m (part-here s a w r d) in
     record { written = x; place = e; shape = rw here f; same = λ z. rw here (rw m (part-is s a w r z h d)) }
 
-stop-quote : (b : ℕ) (r l : List ℕ) → l ≡ b ∷ r → Stops NotQuote l → b ≡ 34
+pub stop-quote : (b : ℕ) (r l : List ℕ) → l ≡ b ∷ r → Stops NotQuote l → b ≡ 34
 unfolding Stops passesOf
 stop-quote b r l e h = eqb-true _ _ (not-false _ (rw e at h))
 

@@ -11,3 +11,4 @@ pub mod GrammarItems
 pub mod GrammarFiles
 pub mod LineExamples
 pub mod NumberLaws
+pub mod RuleStrings

@@ -1,7 +1,8 @@
 // The lines of a file one after the other, and comments that run over lines.
 ghost use mathlib.Core.Path.{_≡_};
 ghost use Prim.Native.Nat.{_^_, _<_};
-ghost use Rattle.rules_parser.specs.Files.{countedOf, closeAt, textEnd, nextLine, restBlank, commentAt, itemAt};
+ghost use Rattle.rules_parser.specs.Files.{countedOf, closeAt, lineEnd, textEnd, restBlank, commentAt, itemAt};
+ghost use Rattle.rules_parser.specs.Contracts.{behindLine};
 ghost use Rattle.rules_parser.specs.Numbers.{itemNumbers};
 use crate::fields::Kind;
 use crate::lines::Clause;
@@ -47,11 +48,18 @@ fn close_at(s: &[u8], p: usize) -> Close
     Close::Open
 }
 
-// Where the text of the line ends that holds p: before the LF, and before a CR that stands right before it.
-fn text_end(s: &[u8], p: usize) -> usize
+// Where the line that holds p ends: at its LF, or at the end.
+fn line_end(s: &[u8], p: usize) -> usize
+    ensures { λ r. ⌜ r ≡ lineEnd (now (s .entry)) p ⌝ }
+{
+    crate::fields::span(s, p, Kind::NotLf)
+}
+
+// Where the text of the line from p up to e ends: before the LF, and before a CR that stands right before it.
+fn text_end(s: &[u8], p: usize, e: usize) -> usize
+    requires { ⌜ e ≡ lineEnd (now s) p ⌝ }
     ensures { λ r. ⌜ r ≡ textEnd (now (s .entry)) p ⌝ }
 {
-    let e = crate::fields::span(s, p, Kind::NotLf);
     if e < s.len() {
         if p < e {
             if s[e - 1] == 13 { e - 1 } else { e }
@@ -63,19 +71,19 @@ fn text_end(s: &[u8], p: usize) -> usize
     }
 }
 
-// Where the line after p's begins; the end where there is none.
-fn next_line(s: &[u8], p: usize) -> usize
-    ensures { λ r. ⌜ r ≡ nextLine (now (s .entry)) p ⌝ }
+// Where the next line begins after one that ends at e; the end where there is none.
+fn behind_line(s: &[u8], e: usize) -> usize
+    ensures { λ r. ⌜ r ≡ behindLine (now (s .entry)) e ⌝ }
 {
-    let e = crate::fields::span(s, p, Kind::NotLf);
     if s.len() <= e { e } else { e + 1 }
 }
 
-// From p to the end of its line there are but blanks.
-fn rest_blank(s: &[u8], p: usize) -> bool
+// From p to the end e of its line there are but blanks.
+fn rest_blank(s: &[u8], p: usize, e: usize) -> bool
+    requires { ⌜ e ≡ lineEnd (now s) p ⌝ }
     ensures { λ r. ⌜ r ≡ restBlank (now (s .entry)) p ⌝ }
 {
-    text_end(s, p) <= crate::fields::span(s, p, Kind::Blank)
+    text_end(s, p, e) <= crate::fields::span(s, p, Kind::Blank)
 }
 
 // The comment that the first text from p on opens.
@@ -88,10 +96,11 @@ fn comment(s: &[u8], p: usize) -> Item
     }
     match close_at(s, q + 2) {
         Close::At { next, lines } => {
-            if rest_blank(s, next) {
+            let e = line_end(s, next);
+            if rest_blank(s, next, e) {
                 Item::Passed {
                     lines,
-                    next: next_line(s, next),
+                    next: behind_line(s, e),
                 }
             } else {
                 Item::Wrong
@@ -108,20 +117,21 @@ pub fn read_item(kind: FileKind, s: &[u8], p: usize) -> Item
     if s.len() <= p {
         return Item::Wrong;
     }
-    let e = text_end(s, p);
-    match crate::lines::read_line(kind, &s[0..e], p) {
+    let e = line_end(s, p);
+    let end = text_end(s, p, e);
+    match crate::lines::read_line(kind, &s[0..end], p) {
         Line::Blank => Item::Passed {
             lines: 1,
-            next: next_line(s, p),
+            next: behind_line(s, e),
         },
         Line::Comment => Item::Passed {
             lines: 1,
-            next: next_line(s, p),
+            next: behind_line(s, e),
         },
         Line::Opens => comment(s, p),
         Line::Tells { told } => Item::Tells {
             told,
-            next: next_line(s, p),
+            next: behind_line(s, e),
         },
         Line::Bad => Item::Wrong,
     }

@@ -2,7 +2,8 @@ use Prim.Native.Nat.{_-_}
 use Rattle.letters.specs.Order.{orderOf}
 use Rattle.letters.specs.declared.order.Order.{Order}
 use Rattle.letters.proofs
-use proofs.OrderLaws.{Left, order-laws}
+use Rattle.letters.specs.OrderContracts.{Left}
+use proofs.OrderLaws.{order-laws}
 use proofs.order.compare.Statement.{statement}
 use proofs.order.compare.Tie as tie
 
@@ -14,6 +15,7 @@ abbrev μ-loop : tie.MeasureT-loop
 
 pub compare-spec : {M : Type 1} → statement M
 compare-spec =
-    tie.close (tie.spec Inv-loop μ-loop (λ c κs. search order-laws) (λ c. search order-laws) (λ c. search order-laws) (λ c. search order-laws)
-    (λ c. search order-laws) (λ c. search order-laws) (λ c κs. search order-laws) (λ c. search order-laws) (λ c. search order-laws)
-    (λ c. search order-laws) (λ c. search order-laws) (λ c. search order-laws) (λ c. search order-laws) (λ c. search order-laws))
+    tie.close (tie.spec Inv-loop μ-loop (λ c κs. search order-laws) (λ c κs. search order-laws) (λ c. search order-laws) (λ c. search order-laws)
+    (λ c. search order-laws) (λ c. search order-laws) (λ c. search order-laws) (λ c κs. search order-laws) (λ c. search order-laws)
+    (λ c. search order-laws) (λ c. search order-laws) (λ c. search order-laws) (λ c. search order-laws) (λ c. search order-laws)
+    (λ c. search order-laws))

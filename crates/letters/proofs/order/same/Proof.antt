@@ -2,7 +2,8 @@ use Prim.Native.Nat.{_-_}
 use lib.ListN.{length}
 use mathlib.Core.Bool.{Bool}
 use Rattle.letters.specs.Order.{sameText}
-use Rattle.letters.proofs.OrderLaws.{Left, same-laws}
+use Rattle.letters.specs.OrderContracts.{Left}
+use Rattle.letters.proofs.OrderLaws.{same-laws}
 use Rattle.letters.proofs.order.same.Statement.{statement}
 use Rattle.letters.proofs.order.same.Tie as tie
 

@@ -7,4 +7,5 @@ use own.files.comment.Tie as tie
 pub comment-spec : {M : Type 1} → statement M
 comment-spec =
     tie.close (tie.spec (λ c κs. search needs) (λ c. search comments) (λ c. search needs) (λ c κs. search needs) (λ c. search needs)
-    (λ c κs. search needs) (λ c κs. search needs) (λ c. search needs) (λ c. search comments) (λ c. search comments) (λ c. search comments))
+    (λ c κs. search needs) (λ c κs. search needs) (λ c κs. search needs) (λ c. search needs) (λ c. search comments) (λ c. search comments)
+    (λ c. search comments))

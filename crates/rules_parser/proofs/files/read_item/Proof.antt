@@ -7,7 +7,7 @@ use own.files.read_item.Tie as tie
 
 pub read-item-spec : {M : Type 1} → statement M
 read-item-spec =
-    tie.close (tie.spec (λ c. search (item-told, items)) (λ c κs. search needs) (λ c. search needs) (λ c. search needs) (λ c. search (text-in, needs))
-    (λ c κs. search needs) (λ c. search needs) (λ c κs. search needs) (λ c. search needs) (λ c κs. search needs) (λ c. search needs)
-    (λ c κs. search needs) (λ c. search needs) (λ c κs. search needs) (λ c. search needs) (λ c. search (item-told, items))
+    tie.close (tie.spec (λ c. search (item-told, items)) (λ c κs. search needs) (λ c κs. search needs) (λ c. search needs) (λ c. search needs)
+    (λ c. search (text-in, needs)) (λ c κs. search needs) (λ c. search needs) (λ c κs. search needs) (λ c. search needs) (λ c κs. search needs)
+    (λ c. search needs) (λ c κs. search needs) (λ c. search needs) (λ c κs. search needs) (λ c. search needs) (λ c. search (item-told, items))
     (λ c. search (item-told, items)) (λ c. search (item-told, items)) (λ c. search (item-told, items)) (λ c. search (item-told, items)))

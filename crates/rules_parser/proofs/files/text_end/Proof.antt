@@ -5,6 +5,4 @@ use own.files.text_end.Statement.{statement}
 use own.files.text_end.Tie as tie
 
 pub text-end-spec : {M : Type 1} → statement M
-text-end-spec =
-    tie.close (tie.spec (λ c κs. search needs) (λ c. search needs) (λ c. search needs) (λ c. search needs) (λ c. search ends) (λ c. search ends)
-    (λ c. search ends) (λ c. search ends))
+text-end-spec = tie.close (tie.spec (λ c. search needs) (λ c. search needs) (λ c. search needs) (λ c. search ends) (λ c. search ends) (λ c. search ends) (λ c. search ends))
