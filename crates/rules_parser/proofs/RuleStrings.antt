@@ -1,12 +1,10 @@
 -- The strings of a line that is a rule stand between its quotes, the next ones in the file. Assumes nothing.
 use mathlib.Core.Path.{_≡_, refl, sym, ap, subst, _∙_}
-use mathlib.Core.Bool.{Bool, true, false}
+use mathlib.Core.Bool.{Bool}
 use mathlib.Core.List.{List, [], _∷_, _++_, append-assoc}
-use mathlib.Core.Logic.{inl, inr}
 use Prim.Native.Nat.{ℕ, _+_, _-_, _≤_, _<_}
 use native.Mathlib.Omega.{arith}
-use lib.Dec.{ltb}
-use lib.ListN.{length, getD, take, drop, length-append, length-drop, take-append-drop}
+use lib.ListN.{length, getD, take, drop, length-append, take-append-drop}
 use lib.Seq.{drop-append-le}
 use borrow.Author.Needs.{needs}
 use borrow.Author.Tests.{lt-ltb, le-ltb, ltb-true, eqb-true}
@@ -24,7 +22,6 @@ use specs.declared.fields.FieldKind.the-variants.{Quoted}
 use specs.declared.fields.Text.{Text}
 use specs.declared.fields.Field.{Field}
 use specs.declared.fields.Field.the-variants.{Is, No}
-use specs.declared.known.Strings.{Strings}
 use specs.declared.lines.FileKind.the-variants.{Rules}
 use specs.declared.lines.Clause.the-variants.{Rule, Include, Guess, Name}
 use specs.declared.lines.Line.{Line}
