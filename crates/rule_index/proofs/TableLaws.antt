@@ -28,9 +28,9 @@ use Rattle.rule_index.specs
 use specs.Matching.{none, Matcher, firstMatch}
 use specs.Rows.{requiredRow, rows, Roomy}
 use specs.GuessContracts.{guesser, guesserBy, GuessesReady, GuessesNoted}
-use specs.Contracts.{packBy, packIn, foundIn, matcher, Blank, ListPlaced, RowPlaces, Agree, RowFinds, ListReady, ListStands, ListIndexed, ListsReady, Finds, ListsFound, SurveyLeft, AcceptedIs, IndexIs}
+use specs.Contracts.{packBy, packIn, foundIn, matcher, Blank, ListPlaced, RowPlaces, Cleared, Agree, RowFinds, ListReady, ListStands, ListIndexed, ListsReady, Finds, ListsFound, SurveyLeft, AcceptedIs, IndexIs}
 use Rattle.rule_index.proofs
-use proofs.CellLaws.{set-here, set-room}
+use proofs.CellLaws.{row-within, set-here, set-room}
 use proofs.NumberLaws.{agree-same, agree-then, agree-row}
 use proofs.RowLaws.{never-past, clear-found, row-places}
 use proofs.GuessLaws.{guesser-kept}
@@ -75,6 +75,65 @@ module _ (s : List ℕ) (table : List (List ℕ)) (n : ℕ) (rows : (k : ℕ) �
 
   finds : Finds s table
   finds k = λ i word place. finds-by k word place _ _ refl refl i
+
+-- ---- each row has its numbers
+
+pub record Seen (table : List (List ℕ)) (k : ℕ) : Type 0 where
+  pub long : (j : ℕ) → j < k → length (getD table j []) ≡ 128
+
+pub seen-start : (table : List (List ℕ)) → Seen table 0
+seen-start table = record { long = λ j h. let no-way : ⊥ = omega arith in absurd no-way }
+
+seen-by : {table : List (List ℕ)} {k : ℕ} → Seen table k → length (getD table k []) ≡ 128 → (j : ℕ) → j < k + 1 → (z : Bool) → ltb j k ≡ z → length (getD table j []) ≡ 128
+seen-by w e j h true l = w .long j (ltb-true _ _ l)
+seen-by {table} {k} w e j h false l =
+    let least : k ≤ j = ltb-false _ _ l in
+    let same : j ≡ k = omega arith in
+    rw same e
+
+pub seen-next : (table : List (List ℕ)) (k : ℕ) → Seen table k → length (getD table k []) ≡ 128 → Seen table (k + 1)
+seen-next table k w e = record { long = λ j h. seen-by w e j h _ refl }
+
+pub seen-all : (table : List (List ℕ)) (k : ℕ) → Seen table k → rows ≤ k → Roomy table
+seen-all table k w h = record { wide = λ j l. w .long j (omega arith) }
+
+pub ruleset seen-laws = (seen-start, seen-next, seen-all, needs)
+
+-- ---- rows made blank
+
+pub record Clearing (from : ℕ) (t u : List (List ℕ)) (k : ℕ) : Type 0 where
+  pub room : Roomy u
+  pub least : from ≤ k
+  pub blank : (j : ℕ) → from ≤ j → j < k → Blank (getD u j [])
+  pub same : (j : ℕ) → j < from → getD u j [] ≡ getD t j []
+
+pub clearing-start : (from : ℕ) (t : List (List ℕ)) → Roomy t → Clearing from t t from
+clearing-start from t room = record { room = room; least = omega arith; blank = λ j h l. let no-way : ⊥ = omega arith in absurd no-way; same = λ j h. refl }
+
+module _ {from k : ℕ} {t u : List (List ℕ)} (w : Clearing from t u k) where
+  module _ (h : k < 98) (row : List ℕ) (e : row ≡ replicate 128 0) where
+    cleared-by : (j : ℕ) → from ≤ j → j < k + 1 → (z : Bool) → ltb j k ≡ z → Blank (getD (set u k row) j [])
+    cleared-by j l m true q = let less : j < k = ltb-true _ _ q in rw (getD-set-other u k j row [] (λ n. omega arith)) (w .blank j l less)
+    cleared-by j l m false q =
+        let more : k ≤ j = ltb-false _ _ q in
+        let same : j ≡ k = omega arith in
+        rw (same, set-here (w .room) k (omega arith) row, e) zeros-row
+
+    pub clearing-next : Clearing from t (set u k row) (k + 1)
+    clearing-next = record {
+      room = set-room (w .room) k (omega arith) row (ap length e ∙ length-replicate {A = ℕ} 128 0);
+      least = omega (arith, w .least);
+      blank = λ j l m. cleared-by j l m _ refl;
+      same = λ j l. getD-set-other u k j row [] (λ n. omega (arith, w .least)) ∙ w .same j l;
+    }
+
+  pub clearing-done : 98 ≤ k → Cleared from t u
+  clearing-done h = record { blank = λ j l m. w .blank j l (omega arith); before = w .same; room = w .room }
+
+  pub clearing-row : k < 98 → k < rows
+  clearing-row h = omega arith
+
+pub ruleset clearing-laws = (clearing-start, clearing-next, clearing-done, clearing-row, needs)
 
 -- ---- one list
 
@@ -252,14 +311,14 @@ module _ {s t t′ : List ℕ} {u u′ : List (List ℕ)} {r : Surveyed} (w : Su
   refused-by place (refused k) e q = ap (λ (x : Verdict). packBy x .lists) e
 
   -- a refused pack has no list
-  pub index-refused : {table : List (List ℕ)} → ((k : ℕ) → k < 98 → Blank (getD table k [])) → (place : ℕ) → r ≡ surveyed.Refused place → IndexIs s (surveyed.Refused place) table
+  pub index-refused : {table : List (List ℕ)} → Cleared 0 u′ table → (place : ℕ) → r ≡ surveyed.Refused place → IndexIs s (surveyed.Refused place) table
   unfolding firstMatch guesserBy
-  index-refused {table} blank place q =
+  index-refused {table} v place q =
       let none-there : packIn s .lists ≡ [] = refused-by place _ refl (sym (surveyed-one _ _ (w .result)) ∙ q) in
       let empty : (k : ℕ) → getD (packIn s .lists) k [] ≡ [] = λ k. ap (λ (l : List (List Rule)). getD l k []) none-there in
       record {
         result = ap surveyedNumbers (sym q) ∙ w .result;
-        found = finds s table 0 (λ k h. subst (λ (l : List Rule). RowFinds s table 0 (getD table k []) l) (sym (empty k)) (blank-finds (blank k h)))
+        found = finds s table 0 (λ k h. subst (λ (l : List Rule). RowFinds s table 0 (getD table k []) l) (sym (empty k)) (blank-finds (v .blank k (omega arith) h)))
             (λ k word place h. ap (λ (l : List Rule). firstMatch l word place) (empty k)) (omega (arith, ap length none-there));
         guessed = refl;
       }
@@ -299,70 +358,55 @@ module _ {s places : List ℕ} {table : List (List ℕ)} {n g : ℕ} (w : Survey
   list-placed : (k : ℕ) → k < 3 * n + 2 → ListPlaced s (getD (placesOf s) k 0)
   list-placed k h = record { is = is-accepted; list = k; known = rw (← lists-many) h; held = refl }
 
-  -- the rows that it noted, and those behind
-  row-noted : (k : ℕ) → k < 3 * n + 2 → getD table k [] ≡ rowAt s (getD (placesOf s) k 0)
-  row-noted k h =
-      ap (λ (x : List (List ℕ)). getD x k []) (w .survey .stored .noted)
-      ∙ sets-map (rowAt s) (placesOf s) (w .blanks) 0 k k 0 [] (omega arith) (omega (arith, counted)) (omega (arith, w .many, few, counted))
+  module _ (room : Roomy table) {cleared : List (List ℕ)} (v : Cleared (3 * n + 2) table cleared) where
+    wide : rows ≤ length (w .before)
+    wide = omega (arith, row-within table (rows - 1) (room .wide (rows - 1) (omega arith)), ap length (w .survey .stored .noted), length-sets (w .before) 0 (map (rowAt s) (placesOf s)))
 
-  row-behind : (k : ℕ) → 3 * n + 2 ≤ k → getD table k [] ≡ getD (w .blanks) k []
-  row-behind k h =
-      ap (λ (x : List (List ℕ)). getD x k []) (w .survey .stored .noted)
-      ∙ sets-above (map (rowAt s) (placesOf s)) (w .blanks) 0 k [] (omega (arith, length-map (placesOf s) (rowAt s), counted))
+    row-noted : (k : ℕ) → k < 3 * n + 2 → getD cleared k [] ≡ rowAt s (getD (placesOf s) k 0)
+    row-noted k h =
+        v .before k h ∙ ap (λ (x : List (List ℕ)). getD x k []) (w .survey .stored .noted)
+        ∙ sets-map (rowAt s) (placesOf s) (w .before) 0 k k 0 [] (omega arith) (omega (arith, counted)) (omega (arith, wide, few, counted))
 
-  row-long : (k : ℕ) → k < rows → (z : Bool) → ltb k (3 * n + 2) ≡ z → length (getD table k []) ≡ 128
-  row-long k h true e = let l : k < 3 * n + 2 = ltb-true _ _ e in ap length (row-noted k l) ∙ row-places (list-placed k l) .long
-  row-long k h false e = ap length (row-behind k (ltb-false _ _ e)) ∙ w .room .wide k h
+    pub left-guesses : GuessesReady s g cleared
+    left-guesses = record { pack = there .pack; is = there .is; held = there .guesses; room = v .room }
 
-  pub left-guesses : GuessesReady s g table
-  left-guesses = record { pack = there .pack; is = there .is; held = there .guesses; room = record { wide = λ k h. row-long k h _ refl } }
+    module _ {noted : List (List ℕ)} (x : GuessesNoted s g cleared noted) where
+      pub left-ready : ListsReady s places (3 * n + 2) noted
+      left-ready = record {
+        is = is-accepted;
+        counted = lists-many;
+        long = ap length (w .survey .stored .placed) ∙ length-sets (w .empty) 0 (placesOf s) ∙ w .long;
+        held = place-held;
+        room = x .room;
+        noted = λ k h. rw (x .kept k (omega (arith, few)), row-noted k h, place-held k h) (row-places (list-placed k h));
+        blank = λ k l h. subst Blank (sym (x .kept k (omega arith))) (v .blank k l h);
+      }
 
-  module _ {noted : List (List ℕ)} (v : GuessesNoted s g table noted) where
-    pub left-ready : ListsReady s places (3 * n + 2) noted
-    left-ready = record {
-      is = is-accepted;
-      counted = lists-many;
-      long = ap length (w .survey .stored .placed) ∙ length-sets (w .empty) 0 (placesOf s) ∙ w .long;
-      held = place-held;
-      room = v .room;
-      noted = λ k h. rw (v .kept k (omega (arith, few)), row-noted k h, place-held k h) (row-places (list-placed k h));
-      blank = λ k l h. subst Blank (sym (v .kept k (omega arith) ∙ row-behind k l)) (w .blank k h);
-    }
-
-    pub left-found : {done : List (List ℕ)} → ListsFound s noted done → AcceptedIs s done n g
-    unfolding guesserBy
-    left-found {done} f = record {
-      result = w .survey .result;
-      found = f .found;
-      guessed = ap (λ (a : ℕ → List ℕ → LanguageSet). a n) (guesser-kept s noted done g (f .kept) ∙ v .guessed);
-    }
+  pub left-found : {noted done cleared : List (List ℕ)} → GuessesNoted s g cleared noted → ListsFound s noted done → AcceptedIs s done n g
+  unfolding guesserBy
+  left-found {noted} {done} x f = record {
+    result = w .survey .result;
+    found = f .found;
+    guessed = ap (λ (a : ℕ → List ℕ → LanguageSet). a n) (guesser-kept s noted done g (f .kept) ∙ x .guessed);
+  }
 
 pub ruleset left-laws = (left-thrice, left-lists, left-guesses, left-ready, left-found, needs)
 
--- ---- a new table
-
-zeros-row-of : (n m : ℕ) → n ≡ rows → m ≡ 128 → (k : ℕ) → k < rows → getD (replicate n (replicate {A = ℕ} m 0)) k [] ≡ replicate 128 0
-zeros-row-of n m en em k h = getD-replicate n k _ [] (omega arith) ∙ ap (λ (i : ℕ). replicate i 0) em
+-- ---- the survey
 
 pub zeros-long : length (replicate {A = ℕ} 98 0) ≡ 98
 zeros-long = length-replicate {A = ℕ} 98 0
 
-pub zeros-blank : (n m : ℕ) → n ≡ rows → m ≡ 128 → (k : ℕ) → k < 98 → Blank (getD (replicate n (replicate m 0)) k [])
-zeros-blank n m en em k h = rw (zeros-row-of n m en em k (omega arith)) zeros-row
-
-pub zeros-left : (s places : List ℕ) (table : List (List ℕ)) (n m languages guesses : ℕ) (r : Surveyed) → n ≡ rows → m ≡ 128
-    → SurveyIs s (replicate 98 0) (replicate n (replicate m 0)) r places table → r ≡ surveyed.Accepted languages guesses → SurveyLeft s places table languages guesses
-zeros-left s places table n m languages guesses r en em w q = record {
+pub survey-left : (s places : List ℕ) (before table : List (List ℕ)) (languages guesses : ℕ) (r : Surveyed) → SurveyIs s (replicate 98 0) before r places table
+    → r ≡ surveyed.Accepted languages guesses → SurveyLeft s places table languages guesses
+survey-left s places before table languages guesses r w q = record {
   empty = replicate {A = ℕ} 98 0;
-  blanks = replicate n (replicate {A = ℕ} m 0);
-  survey = subst (λ (x : Surveyed). SurveyIs s (replicate {A = ℕ} 98 0) (replicate n (replicate {A = ℕ} m 0)) x places table) q w;
+  before = before;
+  survey = subst (λ (x : Surveyed). SurveyIs s (replicate {A = ℕ} 98 0) before x places table) q w;
   long = zeros-long;
-  many = length-replicate n (replicate {A = ℕ} m 0) ∙ en;
-  room = record { wide = λ k h. ap length (zeros-row-of n m en em k h) ∙ length-replicate {A = ℕ} 128 0 };
-  blank = zeros-blank n m en em;
 }
 
-pub ruleset survey-laws = (index-refused, zeros-left, zeros-long, zeros-blank, needs)
+pub ruleset survey-laws = (index-refused, survey-left, zeros-long, needs)
 
 -- the promise of `index` allows one answer, and one table as far as it is looked at
 pub index-one : (s : List ℕ) (r r′ : Surveyed) (t t′ : List (List ℕ)) → IndexIs s r t → IndexIs s r′ t′

@@ -149,6 +149,12 @@ pub record Blank (row : List ℕ) : Type 0 where
   pub long : length row ≡ 128
   pub clear : (kind : ℕ) → kind < 64 → getD row (kind + 64) 0 ≡ 0
 
+-- the rows of lists from a number on are blank, and the others as they were
+pub record Cleared (from : ℕ) (t u : List (List ℕ)) : Type 0 where
+  pub blank : (k : ℕ) → from ≤ k → k < 98 → Blank (getD u k [])
+  pub before : (k : ℕ) → k < from → getD u k [] ≡ getD t k []
+  pub room : Roomy u
+
 -- the list of an accepted pack that stands at a place
 pub record ListPlaced (s : List ℕ) (place : ℕ) : Type 0 where
   pub is : packOf s ≡ accepted (packIn s)
@@ -232,15 +238,12 @@ pub record IndexIs (s : List ℕ) (r : Surveyed) (table : List (List ℕ)) : Typ
   pub found : Finds s table
   pub guessed : guesserBy (guesser s table) r ≡ guesserBy (guessedAt s) r
 
--- what the survey of an accepted pack leaves in a table of blank rows
+-- what the survey of an accepted pack leaves in a table, whatever it held before
 pub record SurveyLeft (s places : List ℕ) (table : List (List ℕ)) (n g : ℕ) : Type 0 where
   pub empty : List ℕ
-  pub blanks : List (List ℕ)
-  pub survey : SurveyIs s empty blanks (Accepted n g) places table
+  pub before : List (List ℕ)
+  pub survey : SurveyIs s empty before (Accepted n g) places table
   pub long : length empty ≡ 98
-  pub many : length blanks ≡ rows
-  pub room : Roomy blanks
-  pub blank : (k : ℕ) → k < 98 → Blank (getD blanks k [])
 
 abbrev pub AcceptedIs : List ℕ → List (List ℕ) → ℕ → ℕ → Type 0
 AcceptedIs s table n g = IndexIs s (Accepted n g) table

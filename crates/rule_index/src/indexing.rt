@@ -7,8 +7,9 @@ use crate::numbers::marks_of;
 use crate::numbers::number_rule;
 use crate::rows::COLUMNS;
 use crate::rows::LISTS;
-use crate::rows::ROWS;
 use crate::rows::Table;
+use crate::rows::clear_rows;
+use crate::rows::see_rows;
 use pack::NUMBERS;
 use pack::RuleAt;
 use pack::Surveyed;
@@ -89,7 +90,8 @@ fn first_free(numbered: bool) -> usize
     if numbered { 0 } else { NUMBERS }
 }
 
-// The table of an accepted pack, in which its survey noted its lists: its guessing rules are noted too, and its rules numbered.
+// The table of an accepted pack, in which its survey noted its lists: the rows behind are made blank, its guessing rules noted and its
+// rules numbered.
 fn index_accepted(
     pack: &[u8],
     places: &[usize],
@@ -102,8 +104,11 @@ fn index_accepted(
     requires { ⌜ first ≤ 4096 ⌝ }
     ensures { λ r. ⌜ AcceptedIs (now (pack .entry)) (now (table .exit)) languages guesses ⌝ }
 {
+    let lists = 3 * languages + 2;
+    see_rows(table);
+    clear_rows(table, lists);
     note_guesses(pack, guesses, table);
-    index_lists(pack, places, 3 * languages + 2, table, first);
+    index_lists(pack, places, lists, table, first);
 }
 
 // The verdict on a pack, and the table by which its rules are found, whatever the table held before. A refused pack has none.
@@ -111,7 +116,6 @@ fn index_accepted(
 pub fn index(pack: &[u8], table: &mut Table, numbered: bool) -> Surveyed
     ensures { λ r. ⌜ IndexIs (now (pack .entry)) r (now (table .exit)) ⌝ }
 {
-    *table = [[0usize; COLUMNS]; ROWS];
     let mut places = [0usize; LISTS];
     match pack::survey(pack, &mut places, table) {
         Surveyed::Accepted { languages, guesses } => {
@@ -120,7 +124,8 @@ pub fn index(pack: &[u8], table: &mut Table, numbered: bool) -> Surveyed
             Surveyed::Accepted { languages, guesses }
         }
         Surveyed::Refused(place) => {
-            *table = [[0usize; COLUMNS]; ROWS];
+            see_rows(table);
+            clear_rows(table, 0);
             Surveyed::Refused(place)
         }
     }

@@ -1,7 +1,9 @@
 // The rows of the table, and the numbers that those behind the lists' hold.
 ghost use mathlib.Core.Path.{_≡_};
 ghost use Prim.Native.Nat.{_≤_, _<_};
-ghost use Rattle.rule_index.specs.Rows.{guessRow, notedAt, putAt};
+ghost use lib.ListN.{length};
+ghost use Rattle.rule_index.specs.Rows.{guessRow, Roomy, notedAt, putAt};
+ghost use Rattle.rule_index.specs.Contracts.{Cleared};
 use pack::NUMBERS;
 
 // A pack has 3 lists for each of at most 32 languages, and 2 more.
@@ -46,4 +48,33 @@ pub(crate) fn noted_at(table: &Table, row: usize, i: usize) -> usize
     ensures { λ r. ⌜ r ≡ notedAt (now (table .entry)) row i ⌝ }
 {
     table[row + i / COLUMNS][i % COLUMNS]
+}
+
+fn numbers_in(row: &[usize]) -> usize
+    ensures { λ r. ⌜ r ≡ length (now (row .entry)) ⌝ }
+{
+    row.len()
+}
+
+// That each row has its numbers, which the type says of a row that is lent, and only of that one: no work is done here.
+pub(crate) fn see_rows(table: &Table)
+    ensures { λ r. ⌜ Roomy (now (table .entry)) ⌝ }
+{
+    let mut k: usize = 0;
+    while k < ROWS {
+        numbers_in(&table[k]);
+        k += 1;
+    }
+}
+
+// The rows of lists from number `from` on made blank.
+pub(crate) fn clear_rows(table: &mut Table, from: usize)
+    requires { ⌜ Roomy (now table) ⌝ }
+    ensures { λ r. ⌜ Cleared from (now (table .entry)) (now (table .exit)) ⌝ }
+{
+    let mut k = from;
+    while k < LISTS {
+        table[k] = [0usize; COLUMNS];
+        k += 1;
+    }
 }
