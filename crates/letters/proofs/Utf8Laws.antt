@@ -41,7 +41,12 @@ pub decode-none : (s : List ℕ) (p : ℕ) → length s ≤ p → End ≡ decode
 unfolding decodeAt
 decode-none s p h = pick-no _ _ _ _ (le-ltb _ _ h) refl
 
-pub ruleset decode-laws = (decode-one, decode-none, needs)
+pub decode-two : (s : List ℕ) (p a b : ℕ) (t : Bool) (r : Step) → p < length s → a ≡ getD s p 0 → 0x7F < a → t ≡ within 0xC2 0xDF a → t ≡ true → b ≡ getD s (p + 1) 0 → r ≡ decode2 a b → r ≡ decodeAt s p
+unfolding decodeBytes
+decode-two s p a b t r h e l w q f g =
+    g ∙ decodeAt-in s p a b _ _ _ h e f refl refl (sym (pick-false _ _ _ (lt-leb _ _ l) ∙ pick-true _ _ _ (sym w ∙ q)))
+
+pub ruleset decode-laws = (decode-one, decode-two, decode-none, needs)
 
 -- ---- the shapes
 

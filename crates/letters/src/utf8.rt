@@ -161,7 +161,7 @@ fn decode_long(s: &[u8], p: usize) -> Step
     }
 }
 
-// What stands at p of s. Most characters are one byte, which is told without looking at more.
+// What stands at p of s. Most characters are of one or two bytes, which are told without looking at more.
 pub fn decode(s: &[u8], p: usize) -> Step
     ensures { λ r. ⌜ r ≡ decodeAt (now (s .entry)) p ⌝ }
 {
@@ -172,6 +172,8 @@ pub fn decode(s: &[u8], p: usize) -> Step
                 code: a as u32,
                 len: 1,
             }
+        } else if is_within(0xC2, 0xDF, a) {
+            decode_2(a, byte_at(s, p + 1))
         } else {
             decode_long(s, p)
         }

@@ -4,5 +4,4 @@ use Rattle.letters.proofs.utf8.decode.Tie as tie
 
 pub decode-spec : {M : Type 1} → statement M
 decode-spec =
-    tie.close (tie.spec (λ c. search decode-laws) (λ c. search decode-laws) (λ c κs. search decode-laws) (λ c. search decode-laws)
-    (λ c. search decode-laws) (λ c. search decode-laws))
+    tie.close (tie.spec (λ c. search decode-laws) (λ c. search decode-laws) (λ c κs. search decode-laws) (λ c. search decode-laws) (λ c κs. search decode-laws) (λ c κs. search decode-laws) (λ c κs. search decode-laws) (λ c. search decode-laws) (λ c. search decode-laws) (λ c. search decode-laws) (λ c. search decode-laws))
