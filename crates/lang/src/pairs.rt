@@ -1,4 +1,4 @@
-// The pairs of neighbouring characters of a name, its ends among them, and those that a pattern requires: by them most patterns that do not match are passed over.
+// The pairs of characters that stand side by side in a name, its ends among them, and those that a pattern requires: by them patterns are passed over.
 ghost use mathlib.Core.Path.{_≡_};
 ghost use Rattle.lang.specs.Contracts.{pairBit, pairWhere, frontChar, pairsOf, pairsNeeded, pairsRequired};
 ghost use Rattle.lang.specs.Patterns.{patternPieces};

@@ -13,4 +13,7 @@ abbrev μ-loop : tie.MeasureT-loop
 
 pub find-pairs-spec : {M : Type 1} → statement M
 find-pairs-spec =
-    tie.close (tie.spec Inv-loop μ-loop (λ c. search pairing-laws) (λ c κs. search pairing-laws) (λ c. search pairing-laws) (λ c κs. search pairing-laws) (λ c. search pairing-laws) (λ c. search pairing-laws) (λ c. search pairing-laws) (λ c. search pairing-laws) (λ c. search pairing-laws) (λ c. search pairing-laws) (λ c. search pairing-laws) (λ c. search pairing-laws) (λ c κs. search pairing-laws) (λ c. search pairing-laws))
+    tie.close (tie.spec Inv-loop μ-loop (λ c. search pairing-laws) (λ c κs. search pairing-laws) (λ c. search pairing-laws)
+    (λ c κs. search pairing-laws) (λ c. search pairing-laws) (λ c. search pairing-laws) (λ c. search pairing-laws) (λ c. search pairing-laws)
+    (λ c. search pairing-laws) (λ c. search pairing-laws) (λ c. search pairing-laws) (λ c. search pairing-laws) (λ c κs. search pairing-laws)
+    (λ c. search pairing-laws))

@@ -13,4 +13,8 @@ abbrev μ-loop : tie.MeasureT-loop
 
 pub pairs-in-spec : {M : Type 1} → statement M
 pairs-in-spec =
-    tie.close (tie.spec Inv-loop μ-loop (λ c. search chaining-laws) (λ c. search chaining-laws) (λ c. search chaining-laws) (λ c. search chaining-laws) (λ c κs. search chaining-laws) (λ c. search chaining-laws) (λ c κs. search chaining-laws) (λ c. search chaining-laws) (λ c κs. search chaining-laws) (λ c. search chaining-laws) (λ c. search chaining-laws) (λ c. search chaining-laws) (λ c. search chaining-laws) (λ c. search chaining-laws) (λ c. search chaining-laws) (λ c. search chaining-laws) (λ c. search chaining-laws) (λ c κs. search chaining-laws) (λ c. search chaining-laws) (λ c. search chaining-laws))
+    tie.close (tie.spec Inv-loop μ-loop (λ c. search chaining-laws) (λ c. search chaining-laws) (λ c. search chaining-laws)
+    (λ c. search chaining-laws) (λ c κs. search chaining-laws) (λ c. search chaining-laws) (λ c κs. search chaining-laws) (λ c. search chaining-laws)
+    (λ c κs. search chaining-laws) (λ c. search chaining-laws) (λ c. search chaining-laws) (λ c. search chaining-laws) (λ c. search chaining-laws)
+    (λ c. search chaining-laws) (λ c. search chaining-laws) (λ c. search chaining-laws) (λ c. search chaining-laws) (λ c κs. search chaining-laws)
+    (λ c. search chaining-laws) (λ c. search chaining-laws))

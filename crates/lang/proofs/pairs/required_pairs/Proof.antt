@@ -5,4 +5,5 @@ use proofs.pairs.required_pairs.Tie as tie
 
 pub required-pairs-spec : {M : Type 1} → statement M
 required-pairs-spec =
-    tie.close (tie.spec (λ c κs. search chaining-laws) (λ c κs. search chaining-laws) (λ c κs. search chaining-laws) (λ c κs. search chaining-laws) (λ c. search chaining-laws))
+    tie.close (tie.spec (λ c κs. search chaining-laws) (λ c κs. search chaining-laws) (λ c κs. search chaining-laws) (λ c κs. search chaining-laws)
+    (λ c. search chaining-laws))
