@@ -177,14 +177,15 @@ unfolding matchesIn pick
 has-by bits true t end cs a e = fits-has (length t) bits t (omega arith) end cs a e
 has-by bits false t end cs a e = anywhere-has bits t end cs a e
 
+-- what cannot be true without bits that are lacking
+pub not-lacking : (bits n : ℕ) (t : Bool) → hasBits bits n ≡ false → (t ≡ true → Has bits n) → t ≡ false
+not-lacking bits n true h f = absurd (false≢true (sym h ∙ has-yes bits n (f refl)))
+not-lacking bits n false h f = refl
+
 -- a pattern that requires a bit which the name's signature has not does not match it
 pub lacking-not : (p name : List ℕ) → hasBits (signatureOf name) (requiredOf p) ≡ false → matchesOf p name ≡ false
 unfolding requiredOf matchesOf
-lacking-not p name h = by (matchesIn _ _ _ _) refl
-  where
-    by : (t : Bool) → matchesIn (firstIs caret p) (patternPieces (middle p)) (lastIs dollar p) (codesOf name) ≡ t → matchesIn (firstIs caret p) (patternPieces (middle p)) (lastIs dollar p) (codesOf name) ≡ false
-    by true e = absurd (false≢true (sym h ∙ has-yes _ _ (has-by (signatureOf name) _ (middle p) _ (codesOf name) (signature-covers name) e)))
-    by false e = e
+lacking-not p name h = not-lacking _ _ _ h (has-by (signatureOf name) _ (middle p) _ (codesOf name) (signature-covers name))
 
 -- ---- the loop over a pattern
 

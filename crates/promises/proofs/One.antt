@@ -251,6 +251,12 @@ lang-check-pattern κs a = (tt, λ x y v w p q. (one p q, refl))
 pub lang-matches : Settled lang.matches.ended lang.matches.Reads.Asked lang.matches.Reads.Learnt
 lang-matches κs a = (tt, λ x y v w p q. (one p q, refl))
 
+pub lang-find-pairs : Settled lang.find_pairs.ended lang.find_pairs.Reads.Asked lang.find_pairs.Reads.Learnt
+lang-find-pairs κs a = (tt, λ x y v w p q. (one p q, refl))
+
+pub lang-required-pairs : Settled lang.required_pairs.ended lang.required_pairs.Reads.Asked lang.required_pairs.Reads.Learnt
+lang-required-pairs κs a = (tt, λ x y v w p q. (one p q, refl))
+
 pub lang-required-bits : Settled lang.required_bits.ended lang.required_bits.Reads.Asked lang.required_bits.Reads.Learnt
 lang-required-bits κs a = (tt, λ x y v w p q. (one p q, refl))
 

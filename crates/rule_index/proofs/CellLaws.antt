@@ -64,12 +64,16 @@ module _ (table : List (List ℕ)) (row i x : ℕ) (room : Roomy table) (low : r
 pub put-on : (table t t′ : List (List ℕ)) (row i x : ℕ) → t ≡ table → t′ ≡ putAt t row i x → t′ ≡ putAt table row i x
 put-on table t t′ row i x e f = f ∙ ap (λ (u : List (List ℕ)). putAt u row i x) e
 
+pub put-three : (t t₁ t₂ t₃ : List (List ℕ)) (row i a b c : ℕ) → t₁ ≡ putAt t row i a → t₂ ≡ putAt t₁ (row + 32) i b → t₃ ≡ putAt t₂ (row + 32 + 32) i c → t₃ ≡ putAll t row i (a ∷ b ∷ c ∷ [])
+unfolding putAll
+put-three t t₁ t₂ t₃ row i a b c e f g = put-on _ _ _ _ _ _ (put-on _ _ _ _ _ _ e f) g
+
 pub put-four : (t t₁ t₂ t₃ t₄ : List (List ℕ)) (row i a b c d : ℕ) → t₁ ≡ putAt t row i a → t₂ ≡ putAt t₁ (row + 32) i b → t₃ ≡ putAt t₂ (row + 32 + 32) i c → t₄ ≡ putAt t₃ (row + 32 + 32 + 32) i d
     → t₄ ≡ putAll t row i (a ∷ b ∷ c ∷ d ∷ [])
 unfolding putAll
-put-four t t₁ t₂ t₃ t₄ row i a b c d e f g h = put-on _ _ _ _ _ _ (put-on _ _ _ _ _ _ (put-on _ _ _ _ _ _ e f) g) h
+put-four t t₁ t₂ t₃ t₄ row i a b c d e f g h = put-on _ _ _ _ _ _ (put-three t t₁ t₂ t₃ row i a b c e f g) h
 
-pub ruleset put-laws = (put-on, put-four, needs)
+pub ruleset put-laws = (put-on, put-three, put-four, needs)
 
 -- ---- numbers in rows one behind the other
 

@@ -3,7 +3,7 @@ use borrow.Author.Needs.{needs}
 use mathlib.Core.Path.{_≡_, refl, sym, ap, ap₂, subst, _∙_}
 use mathlib.Core.Bool.{Bool, true, false}
 use mathlib.Core.List.{List, [], _∷_}
-use Prim.Native.Nat.{ℕ, zero, suc, _+_, _-_, _/_, _%_, _≤_, _<_, zero-le, min}
+use Prim.Native.Nat.{ℕ, zero, suc, _+_, _-_, _*_, _/_, _%_, _≤_, _<_, zero-le, min}
 use native.Mathlib.Numerals.{add-one}
 use native.Mathlib.Omega.{arith}
 use lib.Bits.{bitAnd}
@@ -11,11 +11,12 @@ use lib.Dec.{eqb}
 use lib.ListN.{length, getD, take, drop}
 use Rattle.base.specs.Pick.{pick}
 use Rattle.base.proofs.Arms.{clash}
-use Rattle.base.proofs.PickLaws.{pick-true, pick-false, pick-all}
+use Rattle.base.proofs.PickLaws.{pick-true, pick-false, pick-all, pick-and, and-first, and-rest}
 use Rattle.lang.specs.Patterns.{matchesOf}
-use Rattle.lang.specs.Contracts.{requiredOf}
+use Rattle.lang.specs.Contracts.{requiredOf, pairsOf, pairsRequired}
 use Rattle.texts.specs.Signatures.{signatureOf, hasBits}
 use Rattle.lang.proofs.Shortcuts.{lacking-not}
+use Rattle.lang.proofs.PairLaws.{pairs-lacking-not}
 use Rattle.languages.specs.Sets.{without}
 use Rattle.languages.specs.declared.sets.LanguageSet.{LanguageSet}
 use Rattle.strings.specs.Reading.{Read, got, readMany}
@@ -29,31 +30,27 @@ use Rattle.pack.specs.declared.guessing.GuessAt.the-variants as guesses
 use Rattle.pack.proofs.GuessLaws.{GuessIs, guess-is, guess-cut, guess-order, guess-fits}
 use Rattle.pack.proofs.Laws.{GuessSection, guesses-whole}
 use Rattle.rule_index.specs
-use specs.Rows.{requiredRow, guessRow, Roomy, notedAt, putAt}
-use specs.GuessContracts.{narrowedIn, narrowedNoted, narrowedByFirst, guesser, GuessesReady, GuessesNoted}
-use Rattle.rule_index.proofs.CellLaws.{put-same, put-other, put-room, put-before}
+use specs.Rows.{requiredRow, pairsRow, guessRow, Roomy, notedAt, putAll}
+use specs.GuessContracts.{narrowedIn, hasRequired, narrowedNoted, narrowedByFirst, guesser, GuessesReady, GuessesNoted}
+use Rattle.rule_index.proofs.CellLaws.{all-room, all-other, all-here, all-away}
 
 -- ---- what is noted of the first rules decides what they narrow
 
 module _ (s : List ℕ) (t t′ : List (List ℕ)) (name : List ℕ) where
-  noted-as : (j m : ℕ) → notedAt t′ requiredRow j ≡ notedAt t requiredRow j → notedAt t′ guessRow j ≡ notedAt t guessRow j
-      → narrowedNoted s t′ name j m ≡ narrowedNoted s t name j m
-  unfolding narrowedNoted
-  noted-as j m e f = ap₂ (λ (a b : ℕ). pick (hasBits (signatureOf name) a) (narrowedIn name (readGuess (drop b s)) m) m) e f
+  noted-as : (j m : ℕ) → ((k : ℕ) → k < 3 → notedAt t′ (requiredRow + 32 * k) j ≡ notedAt t (requiredRow + 32 * k) j) → narrowedNoted s t′ name j m ≡ narrowedNoted s t name j m
+  unfolding narrowedNoted hasRequired
+  noted-as j m e = rw (e 0 (omega arith), e 1 (omega arith), e 2 (omega arith)) refl
 
-  first-as : (n m : ℕ) → ((j : ℕ) → j < n → notedAt t′ requiredRow j ≡ notedAt t requiredRow j) → ((j : ℕ) → j < n → notedAt t′ guessRow j ≡ notedAt t guessRow j)
-      → narrowedByFirst s t′ name n m ≡ narrowedByFirst s t name n m
+  first-as : (n m : ℕ) → ((j k : ℕ) → j < n → k < 3 → notedAt t′ (requiredRow + 32 * k) j ≡ notedAt t (requiredRow + 32 * k) j) → narrowedByFirst s t′ name n m ≡ narrowedByFirst s t name n m
   unfolding narrowedByFirst
-  first-as zero m e f = refl
-  first-as (suc n) m e f =
-      noted-as n _ (e n (omega arith)) (f n (omega arith)) ∙ ap (narrowedNoted s t name n) (first-as n m (λ j h. e j (omega arith)) (λ j h. f j (omega arith)))
+  first-as zero m e = refl
+  first-as (suc n) m e = noted-as n _ (λ k l. e n k (omega arith) l) ∙ ap (narrowedNoted s t name n) (first-as n m (λ j k h l. e j k (omega arith) l))
 
 -- a table whose rows for guessing are as they were guesses as it did
 pub guesser-kept : (s : List ℕ) (t t′ : List (List ℕ)) (place : ℕ) → ((k : ℕ) → requiredRow ≤ k → getD t′ k [] ≡ getD t k []) → guesser s t′ place ≡ guesser s t place
 unfolding guesser notedAt
 guesser-kept s t t′ place kept = λ i n name.
-    leftOver (first-as s t t′ name (min 4096 (ruleCount s place)) (allListed (min 32 n)) (λ j h. ap (λ (l : List ℕ). getD l (j % 128) 0) (kept (requiredRow + j / 128) (omega arith)))
-    (λ j h. ap (λ (l : List ℕ). getD l (j % 128) 0) (kept (guessRow + j / 128) (omega arith))) i)
+    leftOver (first-as s t t′ name (min 4096 (ruleCount s place)) (allListed (min 32 n)) (λ j k h l. ap (λ (r : List ℕ). getD r (j % 128) 0) (kept (requiredRow + 32 * k + j / 128) (omega arith))) i)
 
 -- ---- one rule
 
@@ -85,10 +82,19 @@ module _ (s name : List ℕ) (at left : ℕ) (x : GuessAt) (g : x ≡ guessStand
 
 pub ruleset narrow-at-laws = (guess-order, guess-fits, narrow-at-cut, narrow-at-whole, needs)
 
-module _ (s name : List ℕ) (table : List (List ℕ)) (i left signature k : ℕ) (t : Bool) (is : signature ≡ signatureOf name) (e : k ≡ notedAt table requiredRow i)
-    (h : t ≡ hasBits signature k) where
-  test : t ≡ hasBits (signatureOf name) (notedAt table requiredRow i)
-  test = h ∙ ap₂ hasBits is e
+module _ (table : List (List ℕ)) (i signature pairs k : ℕ) (t : Bool) (e : k ≡ notedAt table requiredRow i) (h : t ≡ hasBits signature k) where
+  pub required-lacking : t ≡ false → false ≡ hasRequired table i signature pairs
+  unfolding hasRequired
+  required-lacking q = sym (and-first _ _ (ap (hasBits signature) (sym e) ∙ sym h ∙ q))
+
+  pub required-there : (l : ℕ) (r : Bool) → t ≡ true → l ≡ notedAt table pairsRow i → r ≡ hasBits pairs l → r ≡ hasRequired table i signature pairs
+  unfolding hasRequired
+  required-there l r q f g = and-rest _ _ _ (ap (hasBits signature) (sym e) ∙ sym h ∙ q) (g ∙ ap (hasBits pairs) f)
+
+module _ (s name : List ℕ) (table : List (List ℕ)) (i left signature pairs : ℕ) (t : Bool) (is : signature ≡ signatureOf name) (are : pairs ≡ pairsOf name)
+    (h : t ≡ hasRequired table i signature pairs) where
+  test : t ≡ hasRequired table i (signatureOf name) (pairsOf name)
+  test = h ∙ ap₂ (hasRequired table i) is are
 
   pub noted-passed : t ≡ false → left ≡ narrowedNoted s table name i left
   unfolding narrowedNoted
@@ -98,7 +104,7 @@ module _ (s name : List ℕ) (table : List (List ℕ)) (i left signature k : ℕ
   unfolding narrowedNoted
   noted-tried at r q p f = f ∙ ap (λ (a : ℕ). narrowedIn name (readGuess (drop a s)) left) p ∙ sym (pick-true _ _ _ (sym test ∙ q))
 
-pub ruleset noted-laws = (noted-passed, noted-tried, needs)
+pub ruleset noted-laws = (required-lacking, required-there, noted-passed, noted-tried, needs)
 
 -- ---- the first rules
 
@@ -192,16 +198,20 @@ first-read n l gs q e =
     let end : j .1 ≡ q = cc in
     record { one = i .0; others = j .0; behind = i .1; are = sym whole; here = i .2; then = j .2 ∙ ap (λ (r : List ℕ). got (j .0) r) end }
 
--- a rule noted by what its pattern requires narrows as it does when it is read
-module _ (s : List ℕ) (table : List (List ℕ)) (i at : ℕ) (g : Guess) (r : List ℕ) (e : readGuess (drop at s) ≡ got g r)
-    (bits : notedAt table requiredRow i ≡ requiredOf (g .pattern)) (there : notedAt table guessRow i ≡ at) (name : List ℕ) (m : ℕ) where
-  noted-by : (t : Bool) → hasBits (signatureOf name) (requiredOf (g .pattern)) ≡ t → narrowedNoted s table name i m ≡ narrowedBy name g m
-  unfolding narrowedNoted narrowedIn narrowedBy
-  noted-by true q = pick-true _ _ _ (ap (hasBits (signatureOf name)) bits ∙ q) ∙ ap (λ (k : ℕ). narrowedIn name (readGuess (drop k s)) m) there ∙ ap (λ (y : Read Guess). narrowedIn name y m) e
-  noted-by false q = pick-false _ _ _ (ap (hasBits (signatureOf name)) bits ∙ q) ∙ sym (pick-false (matchesOf (g .pattern) name) _ m (lacking-not (g .pattern) name q))
+unread : (t : Bool) (x m : ℕ) → (t ≡ false → x ≡ m) → pick t x m ≡ x
+unfolding pick
+unread true x m h = refl
+unread false x m h = sym (h refl)
 
+-- a rule noted by what its pattern requires narrows as it does when it is read
+module _ (s : List ℕ) (table : List (List ℕ)) (i at : ℕ) (g : Guess) (r : List ℕ) (e : readGuess (drop at s) ≡ got g r) (bits : notedAt table requiredRow i ≡ requiredOf (g .pattern))
+    (pairs : notedAt table pairsRow i ≡ pairsRequired (g .pattern)) (there : notedAt table guessRow i ≡ at) (name : List ℕ) (m : ℕ) where
   noted-narrows : narrowedNoted s table name i m ≡ narrowedBy name g m
-  noted-narrows = noted-by _ refl
+  unfolding narrowedNoted hasRequired narrowedIn narrowedBy
+  noted-narrows =
+      let first = unread (hasBits (signatureOf name) (requiredOf (g .pattern))) (narrowedBy name g m) m (λ q. pick-false (matchesOf (g .pattern) name) _ m (lacking-not (g .pattern) name q)) in
+      let second = unread (hasBits (pairsOf name) (pairsRequired (g .pattern))) (narrowedBy name g m) m (λ q. pick-false (matchesOf (g .pattern) name) _ m (pairs-lacking-not (g .pattern) name q)) in
+      rw (bits, pairs, there, e) (pick-and _ _ _ _ ∙ ap (λ (x : ℕ). pick (hasBits (signatureOf name) (requiredOf (g .pattern))) x m) second ∙ first)
 
 module _ {s : List ℕ} {place count : ℕ} {table₀ table : List (List ℕ)} {i at : ℕ} (w : Noting s place count table₀ table i at) where
   pub noting-room : i < count → i < 4096
@@ -234,7 +244,7 @@ module _ {s : List ℕ} {place count : ℕ} {table₀ table : List (List ℕ)} {
       pub noting-cut : x ≡ guesses.Cut → GuessesNoted s place table₀ table
       noting-cut q = let o = sym (here .here) ∙ guess-cut s at x g q in clash (cc)
 
-      module _ (b m a e : ℕ) (q : x ≡ guesses.At b m a e) (k : ℕ) (f : k ≡ requiredOf (take (e - a) (drop a s))) where
+      module _ (b m a e : ℕ) (q : x ≡ guesses.At b m a e) (k p : ℕ) (f : k ≡ requiredOf (take (e - a) (drop a s))) (f′ : p ≡ pairsRequired (take (e - a) (drop a s))) where
         it : GuessIs s at b m a e
         it = guess-is s at x g b m a e q
 
@@ -247,54 +257,41 @@ module _ {s : List ℕ} {place count : ℕ} {table₀ table : List (List ℕ)} {
         small : i < 4096
         small = noting-room h
 
-        first : List (List ℕ)
-        first = putAt table requiredRow i k
+        noted : List (List ℕ)
+        noted = putAll table requiredRow i (k ∷ p ∷ at ∷ [])
 
-        second : List (List ℕ)
-        second = putAt first guessRow i at
+        there : (j : ℕ) → j < 3 → notedAt noted (requiredRow + 32 * j) i ≡ getD (k ∷ p ∷ at ∷ []) j 0
+        unfolding noted
+        there j l = all-here i small _ requiredRow table (omega arith) (w .room) j l
 
-        roomy : Roomy first
-        unfolding first
-        roomy = put-room table requiredRow i k (w .room) (omega arith) small
+        others : (j n : ℕ) → j < i → n < 3 → notedAt noted (requiredRow + 32 * n) j ≡ notedAt table (requiredRow + 32 * n) j
+        unfolding noted
+        others j n l v = all-other i small _ requiredRow table (omega arith) (w .room) (requiredRow + 32 * n) j (λ k′ v′ y z. omega arith)
 
-        bits-there : notedAt second requiredRow i ≡ requiredOf (here .one .pattern)
-        unfolding first second
-        bits-there =
-            put-other first guessRow i at roomy (omega arith) small requiredRow i (λ u v. omega arith)
-            ∙ put-same table requiredRow i k (w .room) (omega arith) small
-            ∙ f ∙ ap (λ (y : Guess). requiredOf (y .pattern)) (sym the)
+        narrows : (name : List ℕ) (n : ℕ) → narrowedNoted s noted name i n ≡ narrowedBy name (here .one) n
+        narrows name n =
+            noted-narrows s noted i at (here .one) (here .behind) (here .here) (there 0 (omega arith) ∙ f ∙ ap (λ (y : Guess). requiredOf (y .pattern)) (sym the))
+            (there 1 (omega arith) ∙ f′ ∙ ap (λ (y : Guess). pairsRequired (y .pattern)) (sym the)) (there 2 (omega arith)) name n
 
-        place-there : notedAt second guessRow i ≡ at
-        unfolding second
-        place-there = put-same first guessRow i at roomy (omega arith) small
-
-        -- a number that is neither
-        other : (row j : ℕ) → (guessRow + i / 128 ≡ row + j / 128 → i % 128 ≡ j % 128 → ⊥) → (requiredRow + i / 128 ≡ row + j / 128 → i % 128 ≡ j % 128 → ⊥)
-            → notedAt second row j ≡ notedAt table row j
-        unfolding first second
-        other row j u v = put-other first guessRow i at roomy (omega arith) small row j u ∙ put-other table requiredRow i k (w .room) (omega arith) small row j v
-
-        turned : Noting s place count table₀ second (i + 1) e
-        unfolding first second narrowedByFirst narrowedByAll
+        turned : Noting s place count table₀ noted (i + 1) e
+        unfolding noted narrowedByFirst narrowedByAll
         turned = record {
           counted = w .counted;
           few = w .few;
           within = omega arith;
-          room = put-room first guessRow i at roomy (omega arith) small;
-          kept = λ j l. put-before first guessRow i at roomy (omega arith) small j (omega arith) ∙ put-before table requiredRow i k (w .room) (omega arith) small j l ∙ w .kept j l;
+          room = all-room i small _ requiredRow table (omega arith) (w .room);
+          kept = λ j l. all-away i small _ requiredRow table j (λ n v y. omega arith) ∙ w .kept j l;
           rules = here .others;
           rest = w .rest;
           reads = ap (readMany readGuess (count - (i + 1))) (sym behind-it) ∙ here .then;
           narrowed = λ name n.
               w .narrowed name n ∙ ap (λ (gs : List Guess). narrowedByAll name gs (narrowedByFirst s table name i n)) (here .are)
-              ∙ ap (narrowedByAll name (here .others)) (
-              ap (narrowedBy name (here .one)) (sym (first-as s table second name i n (λ j l. other requiredRow j (λ u v. omega arith) (λ u v. omega arith)) (λ j l. other guessRow j (λ u v. omega arith) (λ u v. omega arith))))
-              ∙ sym (noted-narrows s second i at (here .one) (here .behind) (here .here) bits-there place-there name (narrowedByFirst s second name i n))
-              ∙ ap (λ (c : ℕ). narrowedByFirst s second name c n) (sym (add-one i)));
+              ∙ ap (narrowedByAll name (here .others)) (ap (narrowedBy name (here .one)) (sym (first-as s table noted name i n others))
+              ∙ sym (narrows name (narrowedByFirst s noted name i n)) ∙ ap (λ (c : ℕ). narrowedByFirst s noted name c n) (sym (add-one i)));
         }
 
-        pub noting-turn : {t : List (List ℕ)} → t ≡ putAt (putAt table requiredRow i k) guessRow i at → Noting s place count table₀ t (i + 1) e
-        unfolding first second
-        noting-turn p = subst (λ (y : List (List ℕ)). Noting s place count table₀ y (i + 1) e) (sym p) turned
+        pub noting-turn : {t : List (List ℕ)} → t ≡ putAll table requiredRow i (k ∷ p ∷ at ∷ []) → Noting s place count table₀ t (i + 1) e
+        unfolding noted
+        noting-turn u = subst (λ (y : List (List ℕ)). Noting s place count table₀ y (i + 1) e) (sym u) turned
 
 pub ruleset noting-laws = (guess-order, guess-fits, noting-start, noting-room, noting-done, noting-cut, noting-turn, needs)

@@ -1,9 +1,11 @@
--- What the table has of the guessing rules, of each the bits that it requires of a name's signature and its place in the pack; and guessing by it.
+-- What the table has of the guessing rules, of each what it requires of a name's signature and of its pairs, and its place in the pack; and guessing by it.
 use Prim.Native.Nat.{ℕ, zero, suc, _+_, _<_, min}
 use mathlib.Core.Path.{_≡_}
+use mathlib.Core.Bool.{Bool}
 use mathlib.Core.List.{List, []}
 use lib.ListN.{getD, drop}
-use Rattle.base.specs.Pick.{pick}
+use Rattle.base.specs.Pick.{pick, and}
+use Rattle.lang.specs.Contracts.{pairsOf}
 use Rattle.texts.specs.Signatures.{signatureOf, hasBits}
 use Rattle.languages.specs.declared.sets.LanguageSet.{LanguageSet}
 use Rattle.languages.specs.declared.sets.LanguageSet.the-variants.{Any}
@@ -14,7 +16,7 @@ use Rattle.pack.specs.Guessing.{narrowedBy, leftOver, allListed}
 use Rattle.pack.specs.Contracts.{guessedAt}
 use Rattle.pack.specs.declared.sections.Surveyed.{Surveyed}
 use Rattle.pack.specs.declared.sections.Surveyed.the-variants.{Accepted, Refused}
-use Rattle.rule_index.specs.Rows.{requiredRow, guessRow, Roomy, notedAt}
+use Rattle.rule_index.specs.Rows.{requiredRow, pairsRow, guessRow, Roomy, notedAt}
 
 -- ---- guessing
 
@@ -23,10 +25,14 @@ unfoldable pub narrowedIn : List ℕ → Read Guess → ℕ → ℕ
 narrowedIn name cut m = m
 narrowedIn name (got g r) m = narrowedBy name g m
 
--- by the i-th rule: it is not read where the name's signature has not what it requires
+-- a signature and pairs have what the i-th rule requires
+unfoldable pub hasRequired : List (List ℕ) → ℕ → ℕ → ℕ → Bool
+hasRequired table i signature pairs = and (hasBits signature (notedAt table requiredRow i)) (hasBits pairs (notedAt table pairsRow i))
+
+-- by the i-th rule: it is not read where the name has not what it requires
 unfoldable pub narrowedNoted : List ℕ → List (List ℕ) → List ℕ → ℕ → ℕ → ℕ
 narrowedNoted s table name i m =
-    pick (hasBits (signatureOf name) (notedAt table requiredRow i)) (narrowedIn name (readGuess (drop (notedAt table guessRow i) s)) m) m
+    pick (hasRequired table i (signatureOf name) (pairsOf name)) (narrowedIn name (readGuess (drop (notedAt table guessRow i) s)) m) m
 
 -- by the first n rules, in order
 unfoldable pub narrowedByFirst : List ℕ → List (List ℕ) → List ℕ → ℕ → ℕ → ℕ

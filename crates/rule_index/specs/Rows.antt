@@ -5,7 +5,7 @@ use mathlib.Core.List.{List, [], _∷_}
 use lib.ListN.{length, getD, set}
 
 -- the first row of the rules' places, of the first two bytes of their patterns, of the bytes that may stand before a place and behind its first byte,
--- of what guessing rules require, and of their places
+-- of what guessing rules require of a signature and of pairs, and of their places
 abbrev pub placesRow : ℕ
 placesRow = 98
 
@@ -21,8 +21,11 @@ behindRow = beforeRow + 32
 abbrev pub requiredRow : ℕ
 requiredRow = behindRow + 32
 
+abbrev pub pairsRow : ℕ
+pairsRow = requiredRow + 32
+
 abbrev pub guessRow : ℕ
-guessRow = requiredRow + 32
+guessRow = pairsRow + 32
 
 -- the rows of the whole table
 abbrev pub rows : ℕ

@@ -1,19 +1,22 @@
-// Guessing the languages of a name by what the table has of the guessing rules: the bits that each requires, and where it stands.
+// Guessing the languages of a name by what the table has of the guessing rules: the bits and the pairs that each requires, and where it stands.
 ghost use mathlib.Core.Path.{_≡_};
 ghost use Prim.Native.Nat.{_≤_, _<_, min};
+ghost use mathlib.Core.List.{[], _∷_};
 ghost use lib.Bits.{bitAnd};
 ghost use lib.Dec.{eqb};
 ghost use lib.ListN.{drop};
 ghost use Rattle.base.specs.Pick.{pick};
+ghost use Rattle.lang.specs.Contracts.{pairsOf};
 ghost use Rattle.languages.specs.Sets.{without};
 ghost use Rattle.texts.specs.Signatures.{signatureOf};
 ghost use Rattle.languages.specs.Numbers.{setNumbers};
 ghost use Rattle.pack.specs.Packs.{guess, readGuess};
 ghost use Rattle.pack.specs.PlaceContracts.{ruleCount};
 ghost use Rattle.pack.specs.Guessing.{narrowedBy, leftOver};
-ghost use Rattle.rule_index.specs.Rows.{requiredRow, guessRow, putAt};
-ghost use Rattle.rule_index.specs.GuessContracts.{narrowedIn, narrowedNoted, narrowedByFirst, guesser, GuessesReady, GuessesNoted};
+ghost use Rattle.rule_index.specs.Rows.{requiredRow, putAll};
+ghost use Rattle.rule_index.specs.GuessContracts.{narrowedIn, hasRequired, narrowedNoted, narrowedByFirst, guesser, GuessesReady, GuessesNoted};
 use crate::rows::GUESSES;
+use crate::rows::PAIRS;
 use crate::rows::REQUIRED;
 use crate::rows::Table;
 use crate::rows::noted_at;
@@ -23,11 +26,12 @@ use pack::GuessAt;
 use pack::NUMBERS;
 
 // The i-th guessing rule noted: what it requires, and its place.
-fn note_guess(table: &mut Table, i: usize, required: u64, place: usize)
+fn note_guess(table: &mut Table, i: usize, required: u64, pairs: u64, place: usize)
     requires { ⌜ i < 4096 ⌝ }
-    ensures { λ r. ⌜ now (table .exit) ≡ putAt (putAt (now (table .entry)) requiredRow i required) guessRow i place ⌝ }
+    ensures { λ r. ⌜ now (table .exit) ≡ putAll (now (table .entry)) requiredRow i (required ∷ pairs ∷ place ∷ []) ⌝ }
 {
     put_at(table, REQUIRED, i, required as usize);
+    put_at(table, PAIRS, i, pairs as usize);
     put_at(table, GUESSES, i, place);
 }
 
@@ -47,7 +51,9 @@ pub(crate) fn note_guesses(pack: &[u8], guesses: usize, table: &mut Table)
                 start,
                 end,
             } => {
-                note_guess(table, i, lang::required_bits(&pack[start..end]), at);
+                let pattern = &pack[start..end];
+                let pairs = lang::required_pairs(pattern);
+                note_guess(table, i, lang::required_bits(pattern), pairs, at);
                 at = end;
                 i += 1;
             }
@@ -99,13 +105,33 @@ fn narrow_at(pack: &[u8], at: usize, left: u32, name: &[u8]) -> u32
     }
 }
 
-// The same by the i-th guessing rule, for a name of this signature: it is not read where the name lacks what it requires.
-fn narrow_noted(pack: &[u8], table: &Table, i: usize, left: u32, name: &[u8], signature: u64) -> u32
+// Whether a signature and pairs have what the i-th guessing rule requires.
+fn has_required(table: &Table, i: usize, signature: u64, pairs: u64) -> bool
     requires { ⌜ i < 4096 ⌝ }
-    requires { ⌜ signature ≡ signatureOf (now name) ⌝ }
-    ensures { λ r. ⌜ r ≡ narrowedNoted (now (pack .entry)) (now (table .entry)) (now (name .entry)) i left ⌝ }
+    ensures { λ r. ⌜ r ≡ hasRequired (now (table .entry)) i signature pairs ⌝ }
 {
     if texts::has_bits(signature, noted_at(table, REQUIRED, i) as u64) {
+        texts::has_bits(pairs, noted_at(table, PAIRS, i) as u64)
+    } else {
+        false
+    }
+}
+
+// The same by the i-th guessing rule, for a name of this signature and these pairs: it is not read where they lack what it requires.
+fn narrow_noted(
+    pack: &[u8],
+    table: &Table,
+    i: usize,
+    left: u32,
+    name: &[u8],
+    signature: u64,
+    pairs: u64,
+) -> u32
+    requires { ⌜ i < 4096 ⌝ }
+    requires { ⌜ (signature ≡ signatureOf (now name)) × (pairs ≡ pairsOf (now name)) ⌝ }
+    ensures { λ r. ⌜ r ≡ narrowedNoted (now (pack .entry)) (now (table .entry)) (now (name .entry)) i left ⌝ }
+{
+    if has_required(table, i, signature, pairs) {
         narrow_at(pack, noted_at(table, GUESSES, i), left, name)
     } else {
         left
@@ -118,10 +144,11 @@ fn narrow_all(pack: &[u8], table: &Table, count: usize, all: u32, name: &[u8]) -
     ensures { λ r. ⌜ r ≡ narrowedByFirst (now (pack .entry)) (now (table .entry)) (now (name .entry)) count all ⌝ }
 {
     let signature = texts::signature(name);
+    let pairs = lang::find_pairs(name);
     let mut left = all;
     let mut i: usize = 0;
     while i < count {
-        left = narrow_noted(pack, table, i, left, name, signature);
+        left = narrow_noted(pack, table, i, left, name, signature, pairs);
         i += 1;
     }
     left

@@ -13,7 +13,7 @@ pub(crate) const LISTS: usize = 98;
 pub const COLUMNS: usize = pack::COLUMNS;
 
 // So many numbers are held of a kind: a pack has no more guessing rules, and no more rules of its lists are numbered. The first rows of the rules' places, of the first two bytes of their patterns, of the bytes that may stand before a place and behind its
-// first byte, of what guessing rules require, and of their places.
+// first byte, of what guessing rules require of a signature and of pairs, and of their places.
 pub(crate) const PLACES: usize = LISTS;
 
 pub(crate) const LEADS: usize = PLACES + NUMBERS / COLUMNS;
@@ -24,7 +24,9 @@ pub(crate) const BEHIND: usize = BEFORE + NUMBERS / COLUMNS;
 
 pub(crate) const REQUIRED: usize = BEHIND + NUMBERS / COLUMNS;
 
-pub(crate) const GUESSES: usize = REQUIRED + NUMBERS / COLUMNS;
+pub(crate) const PAIRS: usize = REQUIRED + NUMBERS / COLUMNS;
+
+pub(crate) const GUESSES: usize = PAIRS + NUMBERS / COLUMNS;
 
 // The rows of the whole table.
 pub const ROWS: usize = GUESSES + NUMBERS / COLUMNS;

@@ -14,7 +14,7 @@ use lib.Pow.{shl-exact}
 use lib.Seq.{drop-cons, getD-take, getD-drop}
 use borrow.Author.Needs.{needs}
 use borrow.Author.Tests.{eq-eqb, eqb-true}
-use Rattle.base.proofs.Bits.{bit, bits-ext, and-bit, or-bit, or-assoc, and-or, and-over-or}
+use Rattle.base.proofs.Bits.{bit, bits-ext, and-bit, or-bit, and-assoc, or-assoc, and-or, and-over-or}
 use Rattle.base.proofs.PickLaws.{pick-inv}
 use Rattle.letters.specs.Utf8.{decodeAt, encode}
 use Rattle.letters.specs.Reading.{codesOf}
@@ -72,8 +72,21 @@ own a m = and-comm (bitOr a m) a ∙ and-or a m
 others : (a m n : ℕ) → Has m n → Has (bitOr a m) n
 others a m n h = bits-ext _ _ (λ k. simp (and-bit, or-bit) (omega (arith, sym (and-bit m n k) ∙ ap (λ (x : ℕ). bit x k) h)))
 
+pub has-self : (n : ℕ) → Has n n
+has-self n = bits-ext _ _ (λ k. simp (and-bit) (omega arith))
+
+part : (bits m n : ℕ) → Has bits m → Has m n → Has bits n
+part bits m n h g = ap (bitAnd bits) (sym g) ∙ sym (and-assoc bits m n) ∙ ap (λ (x : ℕ). bitAnd x n) h ∙ g
+
 pub both : (bits a b : ℕ) → Has bits a → Has bits b → Has bits (bitOr a b)
 both bits a b h g = and-over-or bits a b ∙ ap₂ bitOr h g
+
+-- what has both has each
+pub has-first : (bits a b : ℕ) → Has bits (bitOr a b) → Has bits a
+has-first bits a b h = part bits (bitOr a b) a h (own a b)
+
+pub has-second : (bits a b : ℕ) → Has bits (bitOr a b) → Has bits b
+has-second bits a b h = part bits (bitOr a b) b h (others a b b (has-self b))
 
 -- each of l has its bit
 unfoldable pub In : ℕ → List ℕ → Type 0

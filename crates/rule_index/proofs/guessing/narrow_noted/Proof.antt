@@ -5,5 +5,5 @@ use proofs.guessing.narrow_noted.Tie as tie
 
 pub narrow-noted-spec : {M : Type 1} → statement M
 narrow-noted-spec =
-    tie.close (tie.spec (λ c κs. search noted-laws) (λ c κs. search noted-laws) (λ c κs. search noted-laws) (λ c κs. search noted-laws)
-    (λ c. search noted-laws) (λ c. search noted-laws))
+    tie.close (tie.spec (λ c κs. search noted-laws) (λ c κs. search noted-laws) (λ c κs. search noted-laws) (λ c. search noted-laws)
+    (λ c. search noted-laws))

@@ -4,4 +4,5 @@ use proofs.guessing.note_guess.Statement.{statement}
 use proofs.guessing.note_guess.Tie as tie
 
 pub note-guess-spec : {M : Type 1} → statement M
-note-guess-spec = tie.close (tie.spec (λ c κs. search put-laws) (λ c κs. search put-laws) (λ c. search put-laws))
+note-guess-spec =
+    tie.close (tie.spec (λ c κs. search put-laws) (λ c κs. search put-laws) (λ c κs. search put-laws) (λ c. search put-laws))

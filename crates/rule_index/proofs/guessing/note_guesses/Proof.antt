@@ -15,5 +15,5 @@ pub note-guesses-spec : {M : Type 1} → statement M
 note-guesses-spec =
     tie.close (tie.spec Inv-loop μ-loop (λ c κs. search noting-laws) (λ c. omega (arith, section-within (c .before .before .pre)))
     (λ c. search noting-laws) (λ c κs. search noting-laws) (λ c. search noting-laws) (λ c. search noting-laws) (λ c. search noting-laws)
-    (λ c. search noting-laws) (λ c κs. search noting-laws) (λ c κs. search noting-laws) (λ c. search noting-laws) (λ c. search noting-laws)
-    (λ c. search noting-laws) (λ c. search noting-laws) (λ c. search noting-laws) (λ c. search noting-laws))
+    (λ c. search noting-laws) (λ c κs. search noting-laws) (λ c κs. search noting-laws) (λ c κs. search noting-laws) (λ c. search noting-laws)
+    (λ c. search noting-laws) (λ c. search noting-laws) (λ c. search noting-laws) (λ c. search noting-laws) (λ c. search noting-laws))
