@@ -6,8 +6,9 @@ use mathlib.Core.List.{List, [], _∷_}
 use Prim.Native.Nat.{ℕ, zero, suc, _+_, _-_, _*_, _/_, _%_, _≤_, _<_, zero-le, min}
 use native.Mathlib.Numerals.{add-one}
 use native.Mathlib.Omega.{arith}
-use lib.Bits.{bitAnd}
+use lib.Bits.{bitAnd, and-zero-r}
 use lib.Dec.{eqb}
+use borrow.Author.Tests.{eq-eqb}
 use lib.ListN.{length, getD, take, drop}
 use Rattle.base.specs.Pick.{pick}
 use Rattle.base.proofs.Arms.{clash}
@@ -31,7 +32,7 @@ use Rattle.pack.proofs.GuessLaws.{GuessIs, guess-is, guess-cut, guess-order, gu
 use Rattle.pack.proofs.Laws.{GuessSection, guesses-whole}
 use Rattle.rule_index.specs
 use specs.Rows.{requiredRow, pairsRow, guessRow, Roomy, notedAt, putAll}
-use specs.GuessContracts.{narrowedIn, hasRequired, narrowedNoted, narrowedByFirst, guesser, GuessesReady, GuessesNoted}
+use specs.GuessContracts.{narrowedIn, hasRequired, narrowedNoted, narrowedByFirst, guesser, PairsAsked, GuessesReady, GuessesNoted}
 use Rattle.rule_index.proofs.CellLaws.{all-room, all-other, all-here, all-away}
 
 -- ---- what is noted of the first rules decides what they narrow
@@ -203,15 +204,22 @@ unfolding pick
 unread true x m h = refl
 unread false x m h = sym (h refl)
 
+pub asked-all : (p : List ℕ) (r : ℕ) → r ≡ pairsRequired p → PairsAsked p r
+asked-all p r e = record { lacking = λ name h. pairs-lacking-not p name (ap (hasBits (pairsOf name)) (sym e) ∙ h) }
+
+pub asked-none : (p : List ℕ) → PairsAsked p 0
+unfolding hasBits
+asked-none p = record { lacking = λ name h. let no = sym (eq-eqb (bitAnd (pairsOf name) 0) 0 (and-zero-r (pairsOf name))) ∙ h in clash (cc) }
+
 -- a rule noted by what its pattern requires narrows as it does when it is read
 module _ (s : List ℕ) (table : List (List ℕ)) (i at : ℕ) (g : Guess) (r : List ℕ) (e : readGuess (drop at s) ≡ got g r) (bits : notedAt table requiredRow i ≡ requiredOf (g .pattern))
-    (pairs : notedAt table pairsRow i ≡ pairsRequired (g .pattern)) (there : notedAt table guessRow i ≡ at) (name : List ℕ) (m : ℕ) where
+    (pairs : PairsAsked (g .pattern) (notedAt table pairsRow i)) (there : notedAt table guessRow i ≡ at) (name : List ℕ) (m : ℕ) where
   noted-narrows : narrowedNoted s table name i m ≡ narrowedBy name g m
   unfolding narrowedNoted hasRequired narrowedIn narrowedBy
   noted-narrows =
       let first = unread (hasBits (signatureOf name) (requiredOf (g .pattern))) (narrowedBy name g m) m (λ q. pick-false (matchesOf (g .pattern) name) _ m (lacking-not (g .pattern) name q)) in
-      let second = unread (hasBits (pairsOf name) (pairsRequired (g .pattern))) (narrowedBy name g m) m (λ q. pick-false (matchesOf (g .pattern) name) _ m (pairs-lacking-not (g .pattern) name q)) in
-      rw (bits, pairs, there, e) (pick-and _ _ _ _ ∙ ap (λ (x : ℕ). pick (hasBits (signatureOf name) (requiredOf (g .pattern))) x m) second ∙ first)
+      let second = unread (hasBits (pairsOf name) (notedAt table pairsRow i)) (narrowedBy name g m) m (λ q. pick-false (matchesOf (g .pattern) name) _ m (pairs .lacking name q)) in
+      rw (bits, there, e) (pick-and _ _ _ _ ∙ ap (λ (x : ℕ). pick (hasBits (signatureOf name) (requiredOf (g .pattern))) x m) second ∙ first)
 
 module _ {s : List ℕ} {place count : ℕ} {table₀ table : List (List ℕ)} {i at : ℕ} (w : Noting s place count table₀ table i at) where
   pub noting-room : i < count → i < 4096
@@ -244,7 +252,7 @@ module _ {s : List ℕ} {place count : ℕ} {table₀ table : List (List ℕ)} {
       pub noting-cut : x ≡ guesses.Cut → GuessesNoted s place table₀ table
       noting-cut q = let o = sym (here .here) ∙ guess-cut s at x g q in clash (cc)
 
-      module _ (b m a e : ℕ) (q : x ≡ guesses.At b m a e) (k p : ℕ) (f : k ≡ requiredOf (take (e - a) (drop a s))) (f′ : p ≡ pairsRequired (take (e - a) (drop a s))) where
+      module _ (b m a e : ℕ) (q : x ≡ guesses.At b m a e) (k p : ℕ) (f : k ≡ requiredOf (take (e - a) (drop a s))) (f′ : PairsAsked (take (e - a) (drop a s)) p) where
         it : GuessIs s at b m a e
         it = guess-is s at x g b m a e q
 
@@ -271,7 +279,7 @@ module _ {s : List ℕ} {place count : ℕ} {table₀ table : List (List ℕ)} {
         narrows : (name : List ℕ) (n : ℕ) → narrowedNoted s noted name i n ≡ narrowedBy name (here .one) n
         narrows name n =
             noted-narrows s noted i at (here .one) (here .behind) (here .here) (there 0 (omega arith) ∙ f ∙ ap (λ (y : Guess). requiredOf (y .pattern)) (sym the))
-            (there 1 (omega arith) ∙ f′ ∙ ap (λ (y : Guess). pairsRequired (y .pattern)) (sym the)) (there 2 (omega arith)) name n
+            (rw (there 1 (omega arith), the) f′) (there 2 (omega arith)) name n
 
         turned : Noting s place count table₀ noted (i + 1) e
         unfolding noted narrowedByFirst narrowedByAll
@@ -293,5 +301,7 @@ module _ {s : List ℕ} {place count : ℕ} {table₀ table : List (List ℕ)} {
         pub noting-turn : {t : List (List ℕ)} → t ≡ putAll table requiredRow i (k ∷ p ∷ at ∷ []) → Noting s place count table₀ t (i + 1) e
         unfolding noted
         noting-turn u = subst (λ (y : List (List ℕ)). Noting s place count table₀ y (i + 1) e) (sym u) turned
+
+pub ruleset asked-laws = (asked-all, asked-none, needs)
 
 pub ruleset noting-laws = (guess-order, guess-fits, noting-start, noting-room, noting-done, noting-cut, noting-turn, needs)

@@ -1,11 +1,12 @@
 -- What the table has of the guessing rules, of each what it requires of a name's signature and of its pairs, and its place in the pack; and guessing by it.
 use Prim.Native.Nat.{ℕ, zero, suc, _+_, _<_, min}
 use mathlib.Core.Path.{_≡_}
-use mathlib.Core.Bool.{Bool}
+use mathlib.Core.Bool.{Bool, false}
 use mathlib.Core.List.{List, []}
 use lib.ListN.{getD, drop}
 use Rattle.base.specs.Pick.{pick, and}
 use Rattle.lang.specs.Contracts.{pairsOf}
+use Rattle.lang.specs.Patterns.{matchesOf}
 use Rattle.texts.specs.Signatures.{signatureOf, hasBits}
 use Rattle.languages.specs.declared.sets.LanguageSet.{LanguageSet}
 use Rattle.languages.specs.declared.sets.LanguageSet.the-variants.{Any}
@@ -49,6 +50,10 @@ guesserBy f (Accepted languages guesses) = f guesses languages
 guesserBy f (Refused place) = λ name. Any
 
 -- ---- noting
+
+-- pairs that a name lacks only where a pattern does not match it
+pub record PairsAsked (p : List ℕ) (pairs : ℕ) : Type 0 where
+  pub lacking : (name : List ℕ) → hasBits (pairsOf name) pairs ≡ false → matchesOf p name ≡ false
 
 -- the guessing section of an accepted pack, and a table with room
 pub record GuessesReady (s : List ℕ) (place : ℕ) (table : List (List ℕ)) : Type 0 where

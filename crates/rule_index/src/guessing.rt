@@ -14,7 +14,7 @@ ghost use Rattle.pack.specs.Packs.{guess, readGuess};
 ghost use Rattle.pack.specs.PlaceContracts.{ruleCount};
 ghost use Rattle.pack.specs.Guessing.{narrowedBy, leftOver};
 ghost use Rattle.rule_index.specs.Rows.{requiredRow, putAll};
-ghost use Rattle.rule_index.specs.GuessContracts.{narrowedIn, hasRequired, narrowedNoted, narrowedByFirst, guesser, GuessesReady, GuessesNoted};
+ghost use Rattle.rule_index.specs.GuessContracts.{narrowedIn, hasRequired, narrowedNoted, narrowedByFirst, guesser, PairsAsked, GuessesReady, GuessesNoted};
 use crate::rows::GUESSES;
 use crate::rows::PAIRS;
 use crate::rows::REQUIRED;
@@ -35,8 +35,20 @@ fn note_guess(table: &mut Table, i: usize, required: u64, pairs: u64, place: usi
     put_at(table, GUESSES, i, place);
 }
 
-// The guessing rules of the section at a place noted in a table.
-pub(crate) fn note_guesses(pack: &[u8], guesses: usize, table: &mut Table)
+// The pairs that are asked for a pattern: those that it requires where many names are guessed; for a single one they take longer to find
+// than they save.
+fn pairs_asked(many: bool, pattern: &[u8]) -> u64
+    ensures { λ r. ⌜ PairsAsked (now (pattern .entry)) r ⌝ }
+{
+    if many {
+        lang::required_pairs(pattern)
+    } else {
+        0
+    }
+}
+
+// The guessing rules of the section at a place noted in a table, with their pairs where many names are guessed.
+pub(crate) fn note_guesses(pack: &[u8], guesses: usize, table: &mut Table, many: bool)
     requires { ⌜ GuessesReady (now pack) guesses (now table) ⌝ }
     ensures { λ r. ⌜ GuessesNoted (now (pack .entry)) guesses (now (table .entry)) (now (table .exit)) ⌝ }
 {
@@ -52,7 +64,7 @@ pub(crate) fn note_guesses(pack: &[u8], guesses: usize, table: &mut Table)
                 end,
             } => {
                 let pattern = &pack[start..end];
-                let pairs = lang::required_pairs(pattern);
+                let pairs = pairs_asked(many, pattern);
                 note_guess(table, i, lang::required_bits(pattern), pairs, at);
                 at = end;
                 i += 1;

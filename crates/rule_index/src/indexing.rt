@@ -83,11 +83,11 @@ fn index_lists(pack: &[u8], places: &[usize], lists: usize, table: &mut Table, f
     }
 }
 
-// The first number that is free: none is where no rule is to be numbered.
-fn first_free(numbered: bool) -> usize
+// The first number that is free: none is where a single name is spelled, for which rules are not numbered.
+fn first_free(many: bool) -> usize
     ensures { λ r. ⌜ r ≤ 4096 ⌝ }
 {
-    if numbered { 0 } else { NUMBERS }
+    if many { 0 } else { NUMBERS }
 }
 
 // The table of an accepted pack, in which its survey noted its lists: the rows behind are made blank, its guessing rules noted and its
@@ -98,29 +98,28 @@ fn index_accepted(
     table: &mut Table,
     languages: usize,
     guesses: usize,
-    first: usize,
+    many: bool,
 )
     requires { ⌜ SurveyLeft (now pack) (now places) (now table) languages guesses ⌝ }
-    requires { ⌜ first ≤ 4096 ⌝ }
     ensures { λ r. ⌜ AcceptedIs (now (pack .entry)) (now (table .exit)) languages guesses ⌝ }
 {
     let lists = 3 * languages + 2;
     see_rows(table);
     clear_rows(table, lists);
-    note_guesses(pack, guesses, table);
-    index_lists(pack, places, lists, table, first);
+    note_guesses(pack, guesses, table, many);
+    index_lists(pack, places, lists, table, first_free(many));
 }
 
 // The verdict on a pack, and the table by which its rules are found, whatever the table held before. A refused pack has none.
-// A survey notes the places of the rules; numbering them is a second walk, which pays from the second name on.
-pub fn index(pack: &[u8], table: &mut Table, numbered: bool) -> Surveyed
+// A survey notes the places of the rules. Where many names are spelled by the table they are numbered too, and the pairs of guessing
+// rules are found: a second walk, which pays from the second name on.
+pub fn index(pack: &[u8], table: &mut Table, many: bool) -> Surveyed
     ensures { λ r. ⌜ IndexIs (now (pack .entry)) r (now (table .exit)) ⌝ }
 {
     let mut places = [0usize; LISTS];
     match pack::survey(pack, &mut places, table) {
         Surveyed::Accepted { languages, guesses } => {
-            let first = first_free(numbered);
-            index_accepted(pack, &places, table, languages, guesses, first);
+            index_accepted(pack, &places, table, languages, guesses, many);
             Surveyed::Accepted { languages, guesses }
         }
         Surveyed::Refused(place) => {

@@ -4,4 +4,4 @@ use Rattle.rule_index.proofs.indexing.index.Tie as tie
 
 pub index-spec : {M : Type 1} → statement M
 index-spec =
-    tie.close (tie.spec (λ c. search survey-laws) (λ c κs. search survey-laws) (λ c. search survey-laws) (λ c κs. search survey-laws) (λ c. search survey-laws) (λ c κs. (search survey-laws, search survey-laws)) (λ c. search survey-laws) (λ c κs. search survey-laws) (λ c κs. search survey-laws) (λ c. search survey-laws) (λ c. search survey-laws))
+    tie.close (tie.spec (λ c. search survey-laws) (λ c κs. search survey-laws) (λ c. search survey-laws) (λ c. search survey-laws) (λ c κs. search survey-laws) (λ c. search survey-laws) (λ c κs. search survey-laws) (λ c κs. search survey-laws) (λ c. search survey-laws) (λ c. search survey-laws))
