@@ -307,8 +307,11 @@ pack-guess-at κs a = (tt, λ x y v w p q. (one p q, refl))
 pub pack-listed-mask : Settled pack.listed_mask.ended pack.listed_mask.Reads.Asked pack.listed_mask.Reads.Learnt
 pack-listed-mask κs a = (tt, λ x y v w p q. (one p q, refl))
 
+pub pack-note-rule : Settled pack.note_rule.ended pack.note_rule.Reads.Asked pack.note_rule.Reads.Learnt
+pack-note-rule κs a = (tt, λ x y v w p q. (refl, ap (λ o. (o, (tt, (tt, (tt, tt))))) (one p q)))
+
 pub pack-survey : Settled pack.survey.ended pack.survey.Reads.Asked pack.survey.Reads.Learnt
-pack-survey κs a = (tt, λ x y v w p q. content (λ o. (tt, (o, tt))) (survey-one p q))
+pack-survey κs a = (tt, λ x y v w p q. contents (λ o r. (tt, (o, (r, tt)))) (survey-one p q))
 
 pub pack-check-pack : Settled pack.check_pack.ended pack.check_pack.Reads.Asked pack.check_pack.Reads.Learnt
 pack-check-pack κs a = (tt, λ x y v w p q. (checked-one x y (one p q), refl))
