@@ -3,17 +3,14 @@ use mathlib.Core.Path.{_≡_, refl, sym, ap, subst, _∙_}
 use mathlib.Core.Bool.{Bool, true, false, false≢true}
 use mathlib.Core.List.{List, [], _∷_}
 use mathlib.Core.Logic.{⊎-elim}
-use Prim.Native.Nat.{ℕ, _+_, _-_, _*_, _^_, _≤_, _<_}
-use native.Mathlib.Omega.{arith}
-use mir.Syntax.{w64}
-use mir.Val.{Fits}
+use Prim.Native.Nat.{ℕ, _+_, _-_, _≤_, _<_}
 use lib.Bits.{bitOr, and-zero-r, or-zero-l, or-zero-r}
 use lib.ListN.{length, take, drop}
 use borrow.Author.Needs.{needs}
 use borrow.Author.Tests.{eqb-true}
 use Rattle.base.specs.Pick.{pick}
 use Rattle.base.proofs.Bits.{or-assoc}
-use Rattle.base.proofs.PickLaws.{pick-true, pick-false, pick-inv, and-inv, cases}
+use Rattle.base.proofs.PickLaws.{pick-true, pick-false, pick-inv, and-inv}
 use Rattle.letters.specs.Utf8.{decodeAt}
 use Rattle.letters.specs.Reading.{codesOf}
 use Rattle.letters.specs.declared.utf8.Step.{Step}
@@ -22,9 +19,9 @@ use Rattle.letters.proofs.CodesLaws.{codes-char, codes-ill, codes-end}
 use Rattle.letters.proofs.ReadingLaws.{step-laws}
 use Rattle.texts.specs.Parts.{firstIs, lastIs, caret, dollar, opening}
 use Rattle.texts.specs.Signatures.{hasBits}
-use Rattle.texts.proofs.SignatureLaws.{Has, both, has-self, has-first, has-second, bit-of}
+use Rattle.texts.proofs.SignatureLaws.{Has, both, has-self, has-first, has-second}
 use Rattle.lang.specs
-use specs.Patterns.{Piece, exactly, box, stray, middle, insideOf, boxPiece, charPiece, pieceAt, lengthAt, patternPieces, takes, fitsAt, fitsAnywhere, matchesIn, matchesOf}
+use specs.Patterns.{Piece, exactly, box, stray, middle, boxPiece, charPiece, pieceAt, lengthAt, patternPieces, takes, fitsAt, fitsAnywhere, matchesIn, matchesOf}
 use specs.Contracts.{pairBit, pairWhere, pairsFrom, pairsOf, pairsNeeded, pairsRequired, frontChar}
 use Rattle.lang.proofs
 use proofs.PieceLaws.{next-fits, next-less, next-pieces, pieces-none}
@@ -70,15 +67,7 @@ pub pairs-lacking-not : (p name : List ℕ) → hasBits (pairsOf name) (pairsReq
 unfolding pairsOf pairsRequired matchesOf
 pairs-lacking-not p name h = not-lacking _ _ _ h (match-pairs (pairsFrom 0 (codesOf name)) _ _ _ (codesOf name) (has-self _))
 
--- ---- the code: a pair, the loop over a name
-
-pub pair-fits : (x : ℕ) → x < 2 ^ 32 → Fits w64 (x * 5)
-pair-fits x h = record { fits = omega arith }
-
-pub pair-sum-fits : (x y : ℕ) → x < 2 ^ 32 → y < 2 ^ 32 → Fits w64 (x * 5 + y)
-pair-sum-fits x y h g = record { fits = omega arith }
-
-pub ruleset pair-laws = (bit-of, pair-fits, pair-sum-fits, needs)
+-- ---- the loop over a name
 
 pub record Pairing (name : List ℕ) (prev bits at : ℕ) : Type 0 where
   pub is : bitOr bits (pairsFrom prev (codesOf (drop at name))) ≡ pairsOf name

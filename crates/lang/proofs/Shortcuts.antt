@@ -25,7 +25,7 @@ use Rattle.letters.proofs.Utf8Laws.{decode-one, char-at, char-drop, encode-one,
 use Rattle.letters.proofs.CodesLaws.{codes-char}
 use Rattle.texts.specs.Signatures.{bitOf, signatureOf, hasBits}
 use Rattle.texts.proofs.SignatureLaws.{Has, In, Covers, more, has-yes, both, char-byte, signature-covers}
-use Rattle.texts.specs.Parts.{firstIs, lastIs, placeOf, has, caret, dollar, opening, closing}
+use Rattle.texts.specs.Parts.{firstIs, placeOf, has, opening, closing}
 use Rattle.lang.specs
 use specs.Patterns.{Piece, boxLength, charPiece, pieceAt, lengthAt, charLength, patternPieces, middle, takes, fitsAt, fitsAnywhere, matchesIn, matchesOf}
 use specs.Contracts.{beginsWithOther, bitsIn, requiredOf}
