@@ -31,7 +31,7 @@ use Rattle.pack.specs.PlaceContracts.{surveyedOf}
 use Rattle.pack.specs.Contracts.{guessedAt}
 use Rattle.rule_index.specs.Contracts.{packIn, IndexIs}
 use Rattle.rule_index.specs.GuessContracts.{guesser, guesserBy}
-use Rattle.rule_index.proofs.TableLaws.{pack-in}
+use Rattle.rule_index.proofs.IndexLaws.{pack-in}
 use Rattle.pack.specs.declared.sections.Surveyed.{Surveyed}
 use Rattle.pack.specs.declared.sections.Surveyed.the-variants as surveyed
 use Rattle.pack.proofs.Laws.{is-pack, languages-few, guesses-within, names-strings, SurveyedPack, surveyed-pack}

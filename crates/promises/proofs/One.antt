@@ -26,7 +26,7 @@ use Rattle.rules_parser.proofs.NumberLaws.{item-one}
 use Rattle.pack.proofs.NumberLaws.{checked-one}
 use Rattle.pack.proofs.Laws.{survey-one}
 use Rattle.loader.proofs.Accepted.{load-one}
-use Rattle.rule_index.proofs.TableLaws.{index-one}
+use Rattle.rule_index.proofs.IndexLaws.{index-one}
 use Rattle.rule_index.proofs.MatchLaws.{match-one}
 use Rattle.phoneme_builder.proofs.WordLaws.{word-one}
 use Rattle.engine.proofs.AnswerLaws.{spell-one}

@@ -1,6 +1,6 @@
 pub mod CellLaws
-pub mod NumberLaws
+pub mod NumberedLaws
 pub mod RowLaws
 pub mod GuessLaws
-pub mod TableLaws
+pub mod IndexLaws
 pub mod MatchLaws

@@ -38,7 +38,7 @@ use specs.Rows.{placesRow, leadsRow, beforeRow, behindRow, requiredRow, rows, Ro
 use specs.Contracts.{packIn, rulesBetween, leadOf, behindBits, triedBy, triedAt, ruleIn, ruleOf, numbered, foundIn, ListPlaced, RowPlaces, MarksAre, numberedIn, Agree, ListReady, ListIndexed}
 use Rattle.rule_index.proofs
 use proofs.CellLaws.{set-here, set-room}
-use proofs.NumberLaws.{numbered-room, numbered-here, numbered-before, numbered-behind, numbered-agree, agree-same, agree-then, agree-row}
+use proofs.NumberedLaws.{numbered-room, numbered-here, numbered-before, numbered-behind, numbered-agree, agree-same, agree-then, agree-row}
 
 -- ---- a rule whose pattern begins with a byte of another kind does not match
 

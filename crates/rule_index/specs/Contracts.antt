@@ -129,6 +129,10 @@ pub record FrontIs (word : List ℕ) (place : ℕ) (front : Front) : Type 0 wher
 abbrev pub FirstNumbered : List ℕ → List (List ℕ) → ℕ → ℕ → List ℕ → ℕ → Matched → Type 0
 FirstNumbered s table start stop word place r = MatchIs s word place (firstMatch (numbered s table word place start (stop - start)) word place) r
 
+-- the first that matches of those that a row has between two numbers or places
+abbrev pub FirstFound : List ℕ → List (List ℕ) → ℕ → ℕ → List ℕ → ℕ → Matched → Type 0
+FirstFound s table start stop word place r = MatchIs s word place (foundIn s table start stop word place) r
+
 -- the promise of `first_match`
 abbrev pub FirstMatch : List ℕ → List (List ℕ) → ℕ → List ℕ → ℕ → Matched → Type 0
 FirstMatch s table list word place r = MatchIs s word place (matcher s table list word place) r

@@ -2,7 +2,7 @@
 ghost use mathlib.Core.Path.{_≡_};
 ghost use Prim.Native.Nat.{_≤_, _<_, _-_, max};
 ghost use lib.ListN.{length};
-ghost use Rattle.rule_index.specs.Contracts.{foundIn, MatchIs, FrontIs, OneMatch, NumberMatch, FirstNumbered, FirstBetween, FirstMatch};
+ghost use Rattle.rule_index.specs.Contracts.{FrontIs, OneMatch, NumberMatch, FirstNumbered, FirstBetween, FirstFound, FirstMatch};
 use crate::numbers::Front;
 use crate::numbers::front_of;
 use crate::numbers::is_tried;
@@ -190,7 +190,7 @@ fn first_found(
     place: usize,
 ) -> Matched
     requires { ⌜ place < length (now word) ⌝ }
-    ensures { λ r. ⌜ MatchIs (now (pack .entry)) (now (word .entry)) place (foundIn (now (pack .entry)) (now (table .entry)) start stop (now (word .entry)) place) r ⌝ }
+    ensures { λ r. ⌜ FirstFound (now (pack .entry)) (now (table .entry)) start stop (now (word .entry)) place r ⌝ }
 {
     if NUMBERS < stop {
         first_between(pack, place_of(start), place_of(stop), word, place)

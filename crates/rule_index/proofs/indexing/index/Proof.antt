@@ -1,4 +1,4 @@
-use Rattle.rule_index.proofs.TableLaws.{survey-laws}
+use Rattle.rule_index.proofs.IndexLaws.{survey-laws}
 use Rattle.rule_index.proofs.indexing.index.Statement.{statement}
 use Rattle.rule_index.proofs.indexing.index.Tie as tie
 

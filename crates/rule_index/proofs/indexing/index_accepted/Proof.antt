@@ -1,4 +1,4 @@
-use Rattle.rule_index.proofs.TableLaws.{left-laws}
+use Rattle.rule_index.proofs.IndexLaws.{left-laws}
 use Rattle.rule_index.proofs.indexing.index_accepted.Statement.{statement}
 use Rattle.rule_index.proofs.indexing.index_accepted.Tie as tie
 

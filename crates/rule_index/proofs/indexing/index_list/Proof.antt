@@ -1,4 +1,4 @@
-use Rattle.rule_index.proofs.TableLaws.{indexing-laws}
+use Rattle.rule_index.proofs.IndexLaws.{indexing-laws}
 use Rattle.rule_index.proofs.indexing.index_list.Statement.{statement}
 use Rattle.rule_index.proofs.indexing.index_list.Tie as tie
 

@@ -1,5 +1,5 @@
 use Prim.Native.Nat.{_-_}
-use Rattle.rule_index.proofs.TableLaws.{Listing, listing-laws}
+use Rattle.rule_index.proofs.IndexLaws.{Listing, listing-laws}
 use Rattle.rule_index.proofs.indexing.index_lists.Statement.{statement}
 use Rattle.rule_index.proofs.indexing.index_lists.Tie as tie
 

@@ -1,5 +1,5 @@
 use Prim.Native.Nat.{_-_}
-use Rattle.rule_index.proofs.TableLaws.{Clearing, clearing-laws}
+use Rattle.rule_index.proofs.IndexLaws.{Clearing, clearing-laws}
 use Rattle.rule_index.proofs.rows.clear_rows.Statement.{statement}
 use Rattle.rule_index.proofs.rows.clear_rows.Tie as tie
 

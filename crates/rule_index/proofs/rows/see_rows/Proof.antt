@@ -1,6 +1,6 @@
 use Prim.Native.Nat.{_-_}
 use Rattle.rule_index.specs.Rows.{rows}
-use Rattle.rule_index.proofs.TableLaws.{Seen, seen-laws}
+use Rattle.rule_index.proofs.IndexLaws.{Seen, seen-laws}
 use Rattle.rule_index.proofs.rows.see_rows.Statement.{statement}
 use Rattle.rule_index.proofs.rows.see_rows.Tie as tie
 

@@ -31,7 +31,7 @@ use specs.GuessContracts.{guesser, guesserBy, GuessesReady, GuessesNoted}
 use specs.Contracts.{packBy, packIn, foundIn, matcher, Blank, ListPlaced, RowPlaces, Cleared, Agree, RowFinds, ListReady, ListStands, ListIndexed, ListsReady, Finds, ListsFound, SurveyLeft, AcceptedIs, IndexIs}
 use Rattle.rule_index.proofs
 use proofs.CellLaws.{row-within, set-here, set-room}
-use proofs.NumberLaws.{agree-same, agree-then, agree-row}
+use proofs.NumberedLaws.{agree-same, agree-then, agree-row}
 use proofs.RowLaws.{never-past, clear-found, row-places}
 use proofs.GuessLaws.{guesser-kept}
 
