@@ -19,7 +19,7 @@ uint32_t bm_check(const uint8_t *pack, size_t pack_length, uint64_t *tail, size_
 
 /* A name's key, its languages guessed. name_type: 0 Ashkenazi, 1 Generic, 2 Sephardic; rule_type: 0 approx, 1 exact;
    concat: 0 or 1; limit: at most 256. tail[0]: bytes written, or the refusal's place; tail[1]: the flag. This and the two calls below
-   take about 400 KB of stack. */
+   take about 500 KB of stack. */
 uint32_t bm_spell(uint32_t name_type, uint32_t rule_type, uint32_t concat, uint32_t limit, const uint8_t *pack, size_t pack_length,
                   const uint8_t *name, size_t name_length, uint8_t *out, size_t out_length, uint64_t *tail, size_t tail_length);
 
