@@ -15,6 +15,8 @@ PORT, ORIGINAL, CHECKED = "port", "original", "port, checked call"
 # colour, dashes, marker: to be told apart in grey and without colour too
 Style = namedtuple("Style", "colour dashes marker")
 STYLES = {PORT: Style("#12356f", "", "disc"), ORIGINAL: Style("#d9730d", "7 4", "box"), CHECKED: Style("#5b8fc9", "2 3", "ring")}
+# what is drawn for a time that the tables round to 0.000 seconds
+SHORTEST = 0.0005
 INK, FAINT, GRID, PAPER = "#1d2530", "#5a6472", "#dde2e8", "#fbfbf9"
 
 # a table: the cells of its head, and those of each row
@@ -98,7 +100,7 @@ def bars_of(table, unit, scale):
     """A row for each of a table, without what a side has no time for."""
     for place, words in enumerate(column(table, table.head[0])):
         told = {side: seconds_in(column(table, "%s, %s" % (side, unit))[place], scale) for side in (PORT, ORIGINAL)}
-        seconds = {side: value for side, (value, _) in told.items() if value is not None}
+        seconds = {side: max(value, SHORTEST * scale) for side, (value, _) in told.items() if value is not None}
         yield Bar(words, seconds, [side for side, (_, cut) in told.items() if cut])
 
 
