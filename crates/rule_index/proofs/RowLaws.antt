@@ -419,9 +419,6 @@ module _ {s : List ℕ} {whole before : List Rule} {at left : ℕ} (w : Midway s
     some-pattern : 0 < length (rule-here .value .pattern)
     some-pattern = rw (← rule-here .pattern) some-bytes
 
-    midway-pattern : pattern < length s
-    midway-pattern = omega (arith, some-bytes, length-take (b - pattern) (drop pattern s), length-drop pattern s)
-
     first-byte : getD (rule-here .value .pattern) 0 0 ≡ getD s pattern 0
     first-byte =
         sym (ap (λ (l : List ℕ). getD l 0 0) (rule-here .pattern))
