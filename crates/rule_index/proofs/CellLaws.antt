@@ -52,10 +52,6 @@ module _ (table : List (List ℕ)) (row i x : ℕ) (room : Roomy table) (low : r
   pub put-room : Roomy (putAt table row i x)
   put-room = record { wide = put-wide }
 
-  pub put-before : (k : ℕ) → k < row → getD (putAt table row i x) k [] ≡ getD table k []
-  unfolding putAt
-  put-before k l = getD-set-other table (row + i / 128) k _ [] (λ q. omega arith)
-
 -- one more stored
 pub put-on : (table t t′ : List (List ℕ)) (row i x : ℕ) → t ≡ table → t′ ≡ putAt t row i x → t′ ≡ putAt table row i x
 put-on table t t′ row i x e f = f ∙ ap (λ (u : List (List ℕ)). putAt u row i x) e
