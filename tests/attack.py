@@ -42,7 +42,7 @@ import programs  # noqa: E402
 import real  # noqa: E402
 import second  # noqa: E402
 
-CODES = range(1, 20)
+CODES = range(1, 21)
 SHOWN = 40                      # differences that are printed whole
 LINES, BYTES = 2000, 8 << 20    # what one process of ask is given at most
 REAL_NAMES, RANDOM_NAMES = 1500, 200            # most names for one process of keys, by the real rules and by a random pack
@@ -380,7 +380,8 @@ def try_random_names(rng, count, names):
 
 # ---- damage
 
-Parts = collections.namedtuple("Parts", "numbers strings")      # where counts and lengths stand, and strings with their lengths
+# where counts and lengths stand, strings with their lengths, and those of them that are contexts
+Parts = collections.namedtuple("Parts", "numbers strings contexts")
 
 ODD_STRINGS = cases.WORDS + [text.encode() for text in cases.EXPRESSIONS + cases.CONTEXTS] + [
     b"a" * 255, b"\xff", b"\x00", b'"', b"(a|b)", b"^", b"$", b"[ab]", b"[^a]", b"b", b"zz", b"\x7f", b" ", b"/", b"#", b".", b"\xc3"]
@@ -391,7 +392,7 @@ class Walk:
     """Notes where numbers and strings stand that follow one another."""
 
     def __init__(self):
-        self.at, self.parts = 0, Parts([], [])
+        self.at, self.parts = 0, Parts([], [], [])
 
     def number(self, width):
         self.parts.numbers.append((self.at, self.at + width))
@@ -420,6 +421,7 @@ def parts_of_pack(pack):
         for rule in rules:
             for text in rule[:4]:
                 walk.string(len(text.encode()))
+            walk.parts.contexts.extend(walk.parts.strings[-3:-1])
     return walk.parts
 
 
@@ -488,6 +490,15 @@ def replaced(rng, data, parts, odd):
     return data[:start] + len(other).to_bytes(width, "big") + other + data[end:]
 
 
+def boxed(rng, data, parts, odd):
+    """A context that is a box of any kind, with its length; of a pack with rules."""
+    if not parts.contexts:
+        return changed(rng, data, parts, odd)
+    start, middle, end = rng.choice(parts.contexts)
+    box = cases.a_box(rng).encode()
+    return data[:start] + bytes([len(box)]) + box + data[end:]
+
+
 ANYWHERE = (changed, removed, put_in, doubled, cut)
 
 
@@ -519,13 +530,14 @@ def odd_line(rng, odd):
     """A rule of which a string is odd, or any odd line."""
     strings = [b"a", b"", b"", b"o"]
     place, string = rng.choice((
-        (0, b""), (rng.randrange(4), b"a" * 256), (rng.randrange(1, 3), rng.choice(cases.CONTEXTS).encode()), (3, b"o[zz]"),
+        (0, b""), (rng.randrange(4), b"a" * 256), (rng.randrange(1, 3), rng.choice(cases.CONTEXTS).encode()),
+        (rng.randrange(1, 3), cases.a_box(rng).encode()), (3, b"o[zz]"),
         (3, rng.choice(cases.EXPRESSIONS).encode()), (rng.randrange(4), rng.choice(ODD_STRINGS))))
     strings[place] = string
     return rng.choice((cases.rule_line(*strings), cases.rule_line(*strings), rng.choice(odd)))
 
 
-DAMAGES = ANYWHERE + (changed, counted, counted, swapped, swapped, replaced, replaced, within, within, within)
+DAMAGES = ANYWHERE + (changed, counted, counted, swapped, swapped, replaced, replaced, within, within, within, boxed, boxed)
 FILE_DAMAGES = DAMAGES + (swapped, replaced) + (lined,) * 10
 
 

@@ -163,6 +163,12 @@ def contexts_all():
 LETTERS = ["a", "b", "c", "é", "ł", "ω", "😀", "-", "^", "$", "]", "'", " "]
 
 
+def a_box(rng, letters=tuple(LETTERS)):
+    """02, ticket 11: a box of any kind, empty or not, negated or not, with each anchor or none, now and then closed twice or never."""
+    listed = "".join(rng.choice(letters) for _ in range(rng.choice((0, 0, 1, 2))))
+    return rng.choice(("", "", "^")) + "[" + rng.choice(("", "", "^")) + listed + rng.choice(("]", "]", "]", "]", "]]", "")) + rng.choice(("", "", "$"))
+
+
 def contexts_random(rng, count):
     for _ in range(count):
         context = "".join(rng.choice(LETTERS) for _ in range(rng.randrange(7)))
@@ -264,8 +270,8 @@ def rules_random(rng, count):
         pattern = text[place:place + rng.randrange(1, 3)] if rng.randrange(3) else rng.choice("abéł")
         if not pattern:
             continue
-        left = rng.choice(("", "^", "a", "[ab]", "[^ab]", "é", "^b", "[é]", text[max(0, place - 1):place], "[ab]c"))
-        right = rng.choice(("", "$", "a", "[ab]", "[^ab]", "é", "b$", "[é]$", "[ab]$"))
+        left = rng.choice(("", "^", "a", "[ab]", "[^ab]", "é", "^b", "[é]", text[max(0, place - 1):place], "[ab]c", a_box(rng, "abéł")))
+        right = rng.choice(("", "$", "a", "[ab]", "[^ab]", "é", "b$", "[é]$", "[ab]$", a_box(rng, "abéł")))
         line = "rule %s %d" % (" ".join(hex_of(x.encode()) for x in (pattern, left, right, text)), len(text[:place].encode()))
         yield case(line, allowed=by_rule)
 
@@ -320,6 +326,18 @@ def bounds():
         yield bytes([len(some)]) + strings(some) + bytes(2) + bytes([3 * len(some) + 2]) + bytes(2 * (3 * len(some) + 2))
 
 
+def packs_with(contexts, places):
+    """Each context on each side, in each of these lists."""
+    for text, place in itertools.product(contexts, places):
+        for rule in (("a", text, "", "o"), ("a", "", text, "o")):
+            yield second.pack_bytes(["any"], [], [[("a", "", "", "o")] + [rule] * (number == place) for number in range(5)])
+
+
+def packs_boxes():
+    for data in packs_with(BOXES, (2,)):
+        yield from pack_cases(data)
+
+
 def packs_all():
     rng = random.Random("packs")
     good = [PAPER_PACK, PAPER_PACK + bytes(1)] + [small_pack(rng) for _ in range(4)]
@@ -329,7 +347,7 @@ def packs_all():
     for data in good[:3]:
         for place, value in itertools.product(range(len(data)), range(256)):
             yield from pack_cases(data[:place] + bytes([value]) + data[place + 1:])
-    for data in bounds():
+    for data in itertools.chain(bounds(), packs_with(CONTEXTS, (0, 2, 4))):
         yield from pack_cases(data)
 
 
@@ -714,6 +732,9 @@ EXPRESSIONS = ["(", ")", "()", "(|)", "(a|)", "((a|b))", "a]", "[any]", "a[", "a
                "a[any+any]", "a[Any]", "[", "(a|b[any]|)", "a[any]|b", "a[any", "a[zz"]
 CONTEXTS = ["^", "$", "^$", "a$", "^^a", "]", "[a]b]", "[^^]", "[a^]", "[a-c]", "^[]", "[^]", "[abc]$", "^[abc]$", "[", "a[b]", "[a]b", "[a][b]", "[[a]", "^a", "$$", "^[abc]", "[]$", "[]",
             "é[", "[é]", "(a|b)", "a.b", "\\"]
+# 02, ticket 11: boxes of every kind
+BOXES = ["[]", "^[]", "[]$", "^[]$", "[^]", "^[^]", "[^]$", "^[^]$", "[]]", "^[]]", "[]]$", "[^]]", "[ ]", "[-]", "[é]", "[^é]", "[[]", "[][]", "a[]", "[]a", "[^^]"]
+CONTEXTS += [box for box in BOXES if box not in CONTEXTS]
 STRINGS += [rule_line(b"a", b"", b"", text.encode()) for text in EXPRESSIONS]
 STRINGS += [rule_line(b"a", *pair, b"") for text in CONTEXTS for pair in ((text.encode(), b""), (b"", text.encode()))]
 GUESSES = [b"a any true", b"a any false", b"a any True", b"a any truex", b"a any", b"a", b"a any true x", b"a any true // c", b"a any true//c", b"a any+any true",
@@ -759,7 +780,8 @@ def loading_lines():
 
 def loading_orders():
     """Faults that meet: in a line, in a guessing line, in several files."""
-    patterns, lefts, rights = [b"a", b"", b"a" * 256, b"\x01"], [b"", b"[", b"a" * 256, b"\x7f"], [b"", b"[", b"a" * 256, b"\xff"]
+    patterns = [b"a", b"", b"a" * 256, b"\x01"]
+    lefts, rights = [b"", b"[", b"[]", b"^[]", b"[^]", b"a" * 256, b"\x7f"], [b"", b"[", b"[]", b"[]$", b"[^]$", b"a" * 256, b"\xff"]
     expressions = [b"o", b"(", b"a[", b"a[zz]", b"(b[zz]|a[)", b"o" * 256, b"\x00"]
     for strings_ in itertools.product(patterns, lefts, rights, expressions):
         yield from loads_with({"gen_approx_any": rule_line(*strings_)}, rooms=(0,))
@@ -791,7 +813,8 @@ def chain(depth, last=b""):
 def loading_places():
     """Each number of a line at its first and its last possible place, and far lines and files."""
     faults = {11: b"#include no", 12: b"?", 13: rule_line(b"", b"", b"", b""), 14: rule_line(b"a", b"", b"", b"("), 15: rule_line(b"a", b"[", b"", b""),
-              16: rule_line(b"a", b"", b"", b"[b]"), 17: b"#include gen_rules_any", 18: rule_line(b"a", b"", b"a" * 256, b"")}
+              16: rule_line(b"a", b"", b"", b"[b]"), 17: b"#include gen_rules_any", 18: rule_line(b"a", b"", b"a" * 256, b""),
+              20: rule_line(b"a", b"", b"[]$", b"[b]")}
     for line in faults.values():
         yield from loads_with({"gen_rules_any": line})
         yield from loads_with({"gen_rules_any": line + b"\n?"})
@@ -891,7 +914,18 @@ def loading_bundles():
     yield from loads((3000).to_bytes(2, "big") + b"".join(entry(b"%04d" % n, b"") for n in range(3000)))
 
 
+def loading_boxes():
+    """02, ticket 11: each box on each side, and 20 between 15 and 14."""
+    faults = [(box, b"", b"o") for box in BOXES] + [(b"", box, b"o") for box in BOXES]
+    faults += [(b"[]", b"[", b"("), (b"[", b"[]", b"("), (b"[]", b"", b"("), (b"", b"[]$", b"a[zz]"), (b"[^]", b"[^]$", b"("), (b"[^]", b"", b"a[zz]"),
+               (b"[]", b"[]", b"o"), (b"[]", b"a" * 256, b"o"), (b"[]", b"\x01", b"o")]
+    for fault in faults:
+        strings_ = [text if isinstance(text, bytes) else text.encode() for text in fault]
+        yield from loads_with({"gen_rules_any": LINE + b"\n" + rule_line(b"a", *strings_)}, rooms=(0,))
+
+
 def loading_all():
+    yield from loading_boxes()
     yield from loading_lines()
     yield from loading_orders()
     yield from loading_places()
@@ -902,6 +936,7 @@ def loading_all():
 
 def loading_stored():
     """Some of each kind, none of them long."""
+    yield from loading_boxes()
     rng = random.Random("loading")
     kinds = ((loading_places, 80), (loading_lines, 260), (loading_orders, 90), (loading_bounds, 140), (loading_bundles, 90))
     for every, count in kinds:

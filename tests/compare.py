@@ -76,8 +76,8 @@ def sampled(layer, seed, count, sample):
 
 
 def stored(layer):
-    """Some cases of each kind, by the last line's word; of spelling, blocks and sets those of some packs, all of them; of loading as
-    cases.py says; of narrowing all."""
+    """Some cases of each kind, by the last line's word, and those that are wanted by name; of spelling, blocks and sets those of some packs,
+    all of them; of loading as cases.py says; of narrowing all."""
     if layer in ("spelling", "blocks", "sets"):
         return list(cases.cases_of(layer, 1, 40 if layer == "spelling" else 10))
     if layer == "loading":
@@ -88,8 +88,8 @@ def stored(layer):
     for case in cases.cases_of(layer, 1, 2000):
         kinds.setdefault(case[0].split("\n")[-1].split(" ")[0], []).append(case)
     rng = random.Random(layer)
-    named = list(cases.guessing_blanks()) if layer == "guessing" else []
-    return [case for word, kind in kinds.items() for case in rng.sample(kind, min(700 if word == "lower" else STORED, len(kind)))] + named
+    named = {"guessing": cases.guessing_blanks, "packs": cases.packs_boxes}.get(layer, tuple)()
+    return [case for word, kind in kinds.items() for case in rng.sample(kind, min(700 if word == "lower" else STORED, len(kind)))] + list(named)
 
 
 def store(layers):

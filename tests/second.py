@@ -302,6 +302,11 @@ def right_context(written):
     return context_of("^" + written)
 
 
+def is_empty_box(context):
+    """02, ticket 11: "an empty box that isn't negated"; its form is one of a box, its list is empty."""
+    return context.form.endswith("Char") and context.text == "" and not context.negated
+
+
 def fits(context, text):
     """Whether a context fits the text on its side."""
     return FITS[context.form](context, text)
@@ -316,14 +321,16 @@ Rule = namedtuple("Rule", "pattern left right expression left_context right_cont
 
 def rule_of(strings, names):
     """The rule of four strings given as bytes, or what is wrong with it, in the order 12, 13, 18, 15
-    (left, then right), 14, 16 (01, What the desk gets; reading 17)."""
+    (left, then right), 20, 14, 16 (01, What the desk gets; reading 17; 02, ticket 11)."""
     pattern, left, right, expression = (readable_text(string) for string in strings)
     if pattern == "":
         raise Refusal(13)
     if any(len(string) > LONGEST_STRING for string in strings):
         raise Refusal(18)
-    return Rule(pattern, left, right, expression, left_context(left), right_context(right),
-                alternatives_of(expression, names))
+    before, behind = left_context(left), right_context(right)
+    if is_empty_box(before) or is_empty_box(behind):
+        raise Refusal(20)
+    return Rule(pattern, left, right, expression, before, behind, alternatives_of(expression, names))
 
 
 def rule_matches(rule, word, place):

@@ -490,6 +490,10 @@ class Lines(Case):
                 ('"" "\x01" "" ""', 12), ('"" "%s" "[" "("' % ("a" * 256), 13),
                 ('"%s" "" "" ""' % ("é" * 128), 18),
                 ('"a" "[" "" "%s"' % ("(" * 256), 18), ('"a" "[" "" "("', 15), ('"a" "" "[" "("', 15),
+                ('"a" "[]" "[" "("', 15), ('"a" "[" "[]" "("', 15), ('"%s" "[]" "" "("' % ("é" * 128), 18), ('"" "[]" "" "("', 13),
+                ('"a" "[]" "" "("', 20), ('"a" "^[]" "$" "x[xx]"', 20), ('"a" "" "[]$" "o"', 20), ('"a" "a" "[]" "o"', 20),
+                ('"a" "[^]" "[^]$" "("', 14), ('"a" "[^]" "[^]$" "x[xx]"', 16), ('"a" "^[^]" "[^]" "o"', None), ('"a" "[]]" "[]]$" "o"', None),
+                ('"a" "[]$" "" "o"', 15), ('"a" "" "^[]" "o"', 15), ('"a" "^[]$" "" "o"', 15),
                 ('"a" "" "" "(x[xx]|["', 14), ('"a" "" "" "x[xx]"', 16),
                 ('"a" "" "" "%s"' % ("é" * 127), None)):
             wanted = (code, 2, "gen_rules_any")
@@ -670,8 +674,10 @@ class Packs(Case):
 
     def test_22_rules(self):
         for rule in (four(""), four("a\x7f"), four("a", "["), four("a", "", "^[a]"), four("a", "", "", "("),
-                     four("a", "", "", "a[de]"), four('"'), four("a", "\n"), four("a", "", "", "a[]")):
+                     four("a", "", "", "a[de]"), four('"'), four("a", "\n"), four("a", "", "", "a[]"),
+                     four("a", "[]"), four("a", "^[]"), four("a", "", "[]"), four("a", "", "[]$")):
             self.assertEqual(second.check_pack(pack_of([four("a"), rule])), (5, 8), rule)
+        self.accepts(second.check_pack(pack_of([four("a", "[^]", "[^]$"), four("a", "^[^]", "[^]"), four("a", "[]]", "[]]$")])))
         ill = PACK[:11] + b"\xff" + PACK[12:]
         self.assertEqual(second.check_pack(ill), (5, 8))
         self.accepts(second.check_pack(pack_of([four("a")] * 4096)))

@@ -10,16 +10,17 @@
 #include <stdint.h>
 
 /* The pack of a bundle of rule files. name_type: 0 Ashkenazi, 1 Generic, 2 Sephardic. tail[0]: bytes written, or the refusal's line
-   (for 9 the length needed); tail[1]: the number of the file in the bundle. It takes about 240 KB of stack. */
+   (for 9 the length needed); tail[1]: the number of the file in the bundle. Refusals: 4, 9 to 20 (README.md has their table; 20: a
+   context is an empty box, which nothing fits). It takes about 240 KB of stack. */
 uint32_t bm_load(uint32_t name_type, const uint8_t *bundle, size_t bundle_length, uint8_t *out, size_t out_length, uint64_t *tail,
                  size_t tail_length);
 
-/* Is this a pack? 0, or 5. tail[0]: the first byte of the section at fault. */
+/* Is this a pack? 0, or 5: what bm_load refuses in a rule is no rule of a pack. tail[0]: the first byte of the section at fault. */
 uint32_t bm_check(const uint8_t *pack, size_t pack_length, uint64_t *tail, size_t tail_length);
 
 /* A name's key, its languages guessed. name_type: 0 Ashkenazi, 1 Generic, 2 Sephardic; rule_type: 0 approx, 1 exact;
-   concat: 0 or 1; limit: at most 256. tail[0]: bytes written, or the refusal's place; tail[1]: the flag. This and the two calls below
-   take about 500 KB of stack. */
+   concat: 0 or 1; limit: at most 256. tail[0]: bytes written, or the refusal's place; tail[1]: the flag. Refusals: 1 to 9. This and the
+   two calls below take about 500 KB of stack. */
 uint32_t bm_spell(uint32_t name_type, uint32_t rule_type, uint32_t concat, uint32_t limit, const uint8_t *pack, size_t pack_length,
                   const uint8_t *name, size_t name_length, uint8_t *out, size_t out_length, uint64_t *tail, size_t tail_length);
 

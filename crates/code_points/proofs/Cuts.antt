@@ -83,6 +83,13 @@ module _ (b : ℕ) (h : leb b 0x7F ≡ true) where
   front-formed q (x ∷ []) e f = sign-at q b x [] h e f .0
   front-formed q (x ∷ y ∷ s) e f = front-formed (step q x) (y ∷ s) e f
 
+-- between a sign at its front and one at its end
+pub between-formed : (b c : ℕ) → leb b 0x7F ≡ true → leb c 0x7F ≡ true → (e : Text) → firstIs b e ≡ true → lastIs c e ≡ true → Formed e → Formed (front (tail e))
+unfolding tail lastIs front after
+between-formed b c h g [] p q f = f
+between-formed b c h g (x ∷ []) p q f = refl
+between-formed b c h g (x ∷ y ∷ l) p q f = front-formed c g border (y ∷ l) q (tail-formed b h (x ∷ y ∷ l) p f)
+
 -- ---- a prefix
 
 pub prefix-split : (p s : Text) → prefixOf p s ≡ true → p ++ drop (length p) s ≡ s
@@ -99,12 +106,6 @@ behind-formed p s e f g = formed-rest p (drop (length p) s) f (rw (prefix-split 
 
 -- ---- expressions
 
-inside-formed : (e : Text) → firstIs round e ≡ true → lastIs unround e ≡ true → Formed e → Formed (inside e)
-unfolding inside tail lastIs front after
-inside-formed [] a b f = f
-inside-formed (x ∷ []) a b f = refl
-inside-formed (x ∷ y ∷ l) a b f = front-formed unround refl border (y ∷ l) b (tail-formed round refl (x ∷ y ∷ l) a f)
-
 extra-formed : (t : Text) → Every Formed (extra t)
 unfolding extra after
 extra-formed t =
@@ -113,8 +114,8 @@ extra-formed t =
 
 pieces-by : (e : Text) (t : Bool) → firstIs round e ≡ t → pick t (lastIs unround e) true ≡ true → Formed e
     → Every Formed (pick t (cutAt bar (inside e) ++ extra (inside e)) (e ∷ []))
-unfolding pick
-pieces-by e true a b f = every-append (cut-formed bar refl (inside e) (inside-formed e a b f)) (extra-formed (inside e))
+unfolding pick inside
+pieces-by e true a b f = every-append (cut-formed bar refl (inside e) (between-formed round unround refl refl e a b f)) (extra-formed (inside e))
 pieces-by e false a b f = more f none
 
 -- the alternatives of a well-formed expression whose round bracket is closed

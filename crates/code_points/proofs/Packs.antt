@@ -64,7 +64,7 @@ sound-rules names (r ∷ rs) g word place x e =
 
 -- ---- an accepted pack
 
-rules-good : (names : List ℕ) (rs : List Rule) → listGood names rs ≡ true → all (ruleGood names) rs ≡ true
+pub rules-good : (names : List ℕ) (rs : List Rule) → listGood names rs ≡ true → all (ruleGood names) rs ≡ true
 unfolding listGood
 rules-good names rs g = and-inv _ _ (and-inv _ _ g .1) .0
 

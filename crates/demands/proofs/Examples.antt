@@ -14,11 +14,11 @@ use Rattle.languages.specs.Names.{isLetter, allLetters, languageName, namePlace
 use Rattle.strings.specs.Reading.{strings, stringsOf, andRead, readByte, readMore, readNumber, readText, readMany, placeIn, isNil}
 use Rattle.languages.specs.declared.sets.LanguageSet.{LanguageSet}
 use Rattle.languages.specs.declared.sets.LanguageSet.the-variants.{Any, SomeLanguages}
-use Rattle.regex_optim.specs.Contexts.{literalForm, formIn, formOf, leftForm, rightForm, kindOf, fits}
+use Rattle.regex_optim.specs.Contexts.{literalForm, formIn, formOf, leftForm, rightForm, kindOf, takesNone, emptyBox, fits}
 use Rattle.phonemes.specs.Expressions.{onFirst, cutAt, inside, extra, piecesIn, allOf, formedPiece, formed, boxOf, withBits, namesMask, pieceMask, isListed, textOf, maskSet, setOf, checkedOf}
 use Rattle.rule.specs.Matching.{plainCode, plainIn, ruleText, codeIn, firstCode, ruleMatches}
 use Rattle.pack.specs.Packs.{Pack, readNames, readGuesses, readRule, readList, all, holds, namesGood, guessesGood, orderedByCode, listGood, accepted, section, namesIn, listCount, listSections, endSection, packOf}
-use Rattle.rule_lines.specs.Rules.{Rule, rule, lengthFault, contextFault, expressionFault, faultElse, ruleFault, ruleTexts, faultless, ruleGood}
+use Rattle.rule_lines.specs.Rules.{Rule, rule, lengthFault, contextFault, boxFault, contextsFault, expressionFault, faultElse, ruleFault, ruleTexts, faultless, ruleGood}
 use Rattle.choices.specs.Texts.{Text, byOrder}
 use Rattle.choices.specs.Apply.{Alternative, Places, Entry, insert, under, candidates, enter, apply, start}
 use Rattle.choices.specs.Choices.{here, there, Choice, end, choose, spelt, leaves, times}
@@ -34,10 +34,10 @@ computing : Unit {0}
 unfolding
     pick and within decodeBytes decodeAt symbolsOn symbolsFrom symbolsOf orderOf sameText tail front firstIs lastIs placeOf has prefixOf suffixOf
     narrowed isEmpty isLetter allLetters languageName strings stringsOf namePlace bitAt languageBit
-    literalForm withoutCaret withoutDollar formIn formOf leftForm rightForm kindOf fits
+    literalForm withoutCaret withoutDollar formIn formOf leftForm rightForm kindOf takesNone emptyBox fits
     onFirst cutAt inside extra piecesIn allOf formedPiece formed boxOf withBits namesMask pieceMask isListed textOf maskSet setOf checkedOf
     plainCode plainIn ruleText codeIn firstCode ruleMatches andRead readByte readMore readNumber readText readMany
-    readNames readGuesses readRule readList all isLess increasing holds namesGood guessesGood lengthFault contextFault expressionFault faultElse ruleFault ruleTexts faultless ruleGood orderedByCode listGood
+    readNames readGuesses readRule readList all isLess increasing holds namesGood guessesGood lengthFault contextFault boxFault contextsFault expressionFault faultElse ruleFault ruleTexts faultless ruleGood orderedByCode listGood
     section placeIn namesIn listCount listSections isNil endSection packOf
     byOrder insert under candidates enter apply sameSet agrees agreeing allAgree
     offered firstMatch stepLength turnOn turnsFrom turnsOf flagged applied afterLetter unmatched run rulePlaces

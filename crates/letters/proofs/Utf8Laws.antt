@@ -17,7 +17,7 @@ use Rattle.base.specs.Pick.{pick}
 use Rattle.letters.specs.Utf8.{within, lowSecond, highSecond, code2, code3, code4, decode2, decode3, decode4, decodeBytes, decodeAt, encode}
 use Rattle.letters.specs.declared.utf8.Step.{Step}
 use Rattle.letters.specs.declared.utf8.Step.the-variants.{Char, Ill, End}
-use Rattle.base.proofs.PickLaws.{pick-inv, pick-all, and-inv, and-yes, and-no, pick-yes, pick-no, pick-true, pick-false}
+use Rattle.base.proofs.PickLaws.{pick-inv, pick-all, and-inv, and-yes, and-first, and-no, pick-yes, pick-no, pick-true, pick-false}
 
 -- ---- as the code goes
 
@@ -203,9 +203,12 @@ four-part s p n h e =
 differ-end : {A : Type 0} {k n : ℕ} → End ≡ Char k n → A
 differ-end e = let z : _≡_ {A = ℕ} 0 1 = cc in absurd (omega arith)
 
-pub char-at : (s : List ℕ) (p k n : ℕ) → decodeAt s p ≡ Char k n → CharAt s p k n
+pub shape-at : (s : List ℕ) (p k n : ℕ) → decodeAt s p ≡ Char k n → (p < length s) × Shape (getD s p 0) (getD s (p + 1) 0) (getD s (p + 2) 0) (getD s (p + 3) 0) k n
 unfolding decodeAt
-char-at s p k n e = ⊎-elim (λ w. here (ltb-true p (length s) (w .0)) (shape-of _ _ _ _ k n (w .1))) (λ w. differ-end (w .1)) (pick-inv _ _ _ _ e)
+shape-at s p k n e = ⊎-elim (λ w. (ltb-true p (length s) (w .0), shape-of _ _ _ _ k n (w .1))) (λ w. differ-end (w .1)) (pick-inv _ _ _ _ e)
+
+pub char-at : (s : List ℕ) (p k n : ℕ) → decodeAt s p ≡ Char k n → CharAt s p k n
+char-at s p k n e = let w = shape-at s p k n e in here (w .0) (w .1)
   where
     here : p < length s → Shape (getD s p 0) (getD s (p + 1) 0) (getD s (p + 2) 0) (getD s (p + 3) 0) k n → CharAt s p k n
     here i h =
@@ -241,6 +244,10 @@ past-within : (lo hi b : ℕ) → hi < b → within lo hi b ≡ false
 unfolding within
 past-within lo hi b h = sym (and-no (leb lo b) (leb b hi) (sym (lt-leb b hi h)))
 
+under-within : (lo hi b : ℕ) → b < lo → within lo hi b ≡ false
+unfolding within
+under-within lo hi b h = and-first _ _ (lt-leb lo b h)
+
 low-up : (a b : ℕ) (t u : Bool) → eqb a 0xE0 ≡ t → eqb a 0xF0 ≡ u → 0x80 ≤ b → (a ≡ 0xE0 → 0xA0 ≤ b) → (a ≡ 0xF0 → 0x90 ≤ b) → pick t 0xA0 (pick u 0x90 0x80) ≤ b
 unfolding pick
 low-up a b true u p q h f g = f (eqb-true a 0xE0 p)
@@ -261,15 +268,32 @@ decode-front : (a : ℕ) (l : List ℕ) → decodeAt (a ∷ l) 0 ≡ decodeBytes
 decode-front a l = sym (decodeAt-in (a ∷ l) 0 a (getD l 0 0) (getD l 1 0) (getD l 2 0) _ (omega arith) refl refl refl refl refl)
 
 module _ (a b c d : ℕ) where
+  is-one : a ≤ 0x7F → decodeBytes a b c d ≡ Char a 1
+  unfolding decodeBytes
+  is-one h = pick-true _ _ _ (le-leb a 0x7F h)
+
+  is-two : Within 0xC2 0xDF a → decodeBytes a b c d ≡ decode2 a b
+  unfolding decodeBytes
+  is-two v = pick-false _ _ _ (lt-leb a 0x7F (omega arith)) ∙ pick-true _ _ _ (is-within v)
+
+  is-three : Within 0xE0 0xEF a → decodeBytes a b c d ≡ decode3 a b c
+  unfolding decodeBytes
+  is-three v = pick-false _ _ _ (lt-leb a 0x7F (omega arith)) ∙ pick-false _ _ _ (past-within _ _ a (omega arith)) ∙ pick-true _ _ _ (is-within v)
+
+  -- a byte that goes on within a character begins none
+  is-tail : Within 0x80 0xBF a → decodeBytes a b c d ≡ Ill
+  unfolding decodeBytes
+  is-tail v =
+      pick-false _ _ _ (lt-leb a 0x7F (omega arith)) ∙ pick-false _ _ _ (under-within _ _ a (omega arith)) ∙ pick-false _ _ _ (under-within _ _ a (omega arith))
+      ∙ pick-false _ _ _ (under-within _ _ a (omega arith))
+
   read-two : Within 0xC2 0xDF a → Within 0x80 0xBF b → decodeBytes a b c d ≡ Char (code2 a b) 2
-  unfolding decodeBytes decode2
-  read-two v w = pick-false _ _ _ (lt-leb a 0x7F (omega arith)) ∙ pick-true _ _ _ (is-within v) ∙ pick-true _ _ _ (is-within w)
+  unfolding decode2
+  read-two v w = is-two v ∙ pick-true _ _ _ (is-within w)
 
   read-three : Within 0xE0 0xEF a → Within (lowSecond a) (highSecond a) b → Within 0x80 0xBF c → decodeBytes a b c d ≡ Char (code3 a b c) 3
-  unfolding decodeBytes decode3
-  read-three v w x =
-      pick-false _ _ _ (lt-leb a 0x7F (omega arith)) ∙ pick-false _ _ _ (past-within _ _ a (omega arith)) ∙ pick-true _ _ _ (is-within v)
-      ∙ pick-true _ _ _ (is-within w) ∙ pick-true _ _ _ (is-within x)
+  unfolding decode3
+  read-three v w x = is-three v ∙ pick-true _ _ _ (is-within w) ∙ pick-true _ _ _ (is-within x)
 
   read-four : Within 0xF0 0xF4 a → Within (lowSecond a) (highSecond a) b → Within 0x80 0xBF c → Within 0x80 0xBF d → decodeBytes a b c d ≡ Char (code4 a b c d) 4
   unfolding decodeBytes decode4
@@ -333,6 +357,25 @@ module _ (k : ℕ) (l : List ℕ) where
       | no f ↦ elim (decLt k 0x10000) [ yes h ↦ back-three (omega arith) h (s .apart) | no e ↦ back-four (omega arith) (s .most) ]
     ]
   ]
+
+pub tail-ill : (s : List ℕ) (p : ℕ) → p < length s → Within 0x80 0xBF (getD s p 0) → decodeAt s p ≡ Ill
+tail-ill s p h w = sym (decodeAt-in s p _ _ _ _ Ill h refl refl refl refl (sym (is-tail _ _ _ _ w)))
+
+-- a character needs no byte behind its own
+part-by : {a b c d k n : ℕ} (x y z : ℕ) → (2 ≤ n → x ≡ b) → (3 ≤ n → y ≡ c) → (4 ≤ n → z ≡ d) → Shape a b c d k n → decodeBytes a x y z ≡ decodeBytes a b c d
+part-by {a} {b} {c} {d} x y z p q r (of-one h e) = is-one a x y z h ∙ sym (is-one a b c d h)
+part-by {a} {b} {c} {d} x y z p q r (of-two g h e) = is-two a x y z g ∙ ap (decode2 a) (p (omega arith)) ∙ sym (is-two a b c d g)
+part-by {a} {b} {c} {d} x y z p q r (of-three g h i l e) = is-three a x y z g ∙ ap₂ (decode3 a) (p (omega arith)) (q (omega arith)) ∙ sym (is-three a b c d g)
+part-by {a} {b} {c} {d} x y z p q r (of-four g h i j l e) = rw (p (omega arith), q (omega arith), r (omega arith)) refl
+
+pub decode-part : (s : List ℕ) (k n : ℕ) → decodeAt s 0 ≡ Char k n → decodeAt (take n s) 0 ≡ Char k n
+decode-part s k n e =
+    let w = shape-at s 0 k n e in
+    let c = char-at s 0 k n e in
+    let long : length (take n s) ≡ n = length-take-le n s (omega (arith, c .end)) in
+    sym (decodeAt-in (take n s) 0 (getD s 0 0) _ _ _ _ (rw long (c .some)) (sym (getD-take n s 0 0 (c .some))) refl refl refl
+    (sym (part-by _ _ _ (λ h. getD-take n s 1 0 h) (λ h. getD-take n s 2 0 h) (λ h. getD-take n s 3 0 h) (w .1))))
+    ∙ decodeAt-in s 0 _ _ _ _ _ (w .0) refl refl refl refl refl ∙ e
 
 pub ill-in : (s : List ℕ) (p : ℕ) → decodeAt s p ≡ Ill → p < length s
 unfolding decodeAt

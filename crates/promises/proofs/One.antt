@@ -231,6 +231,12 @@ pub «regex_optim-left-form» : Settled regex_optim.left_form.ended regex_optim.
 pub «regex_optim-right-form» : Settled regex_optim.right_form.ended regex_optim.right_form.Reads.Asked regex_optim.right_form.Reads.Learnt
 «regex_optim-right-form» κs a = (tt, λ x y v w p q. (form-one x y (one p q), refl))
 
+pub «regex_optim-left-is-empty-box» : Settled regex_optim.left_is_empty_box.ended regex_optim.left_is_empty_box.Reads.Asked regex_optim.left_is_empty_box.Reads.Learnt
+«regex_optim-left-is-empty-box» κs a = (tt, λ x y v w p q. (one p q, refl))
+
+pub «regex_optim-right-is-empty-box» : Settled regex_optim.right_is_empty_box.ended regex_optim.right_is_empty_box.Reads.Asked regex_optim.right_is_empty_box.Reads.Learnt
+«regex_optim-right-is-empty-box» κs a = (tt, λ x y v w p q. (one p q, refl))
+
 pub «regex_optim-left-fits» : Settled regex_optim.left_fits.ended regex_optim.left_fits.Reads.Asked regex_optim.left_fits.Reads.Learnt
 «regex_optim-left-fits» κs a = (tt, λ x y v w p q. (one p q, refl))
 

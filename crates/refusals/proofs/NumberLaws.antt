@@ -6,11 +6,11 @@ use native.Mathlib.Omega.{arith}
 use lib.ListN.{getD}
 use Rattle.refusals.specs.Numbers.{numberOf}
 use Rattle.refusals.specs.declared.Refusal.{Refusal}
-use Rattle.refusals.specs.declared.Refusal.the-variants.{NotUtf8, OutsideRange, NameTooLong, SettingUnknown, PackBroken, NoSuchLanguage, TextTooLong, TooManyTexts, NoRoom, BundleBroken, FileMissing, LineUnreadable, PatternEmpty, ExpressionWrong, OutsideForms, NameUnlisted, IncludeTooDeep, TooMuch, AnyMissing}
+use Rattle.refusals.specs.declared.Refusal.the-variants.{NotUtf8, OutsideRange, NameTooLong, SettingUnknown, PackBroken, NoSuchLanguage, TextTooLong, TooManyTexts, NoRoom, BundleBroken, FileMissing, LineUnreadable, PatternEmpty, ExpressionWrong, OutsideForms, NameUnlisted, IncludeTooDeep, TooMuch, AnyMissing, BoxEmpty}
 
 -- the table's rows in order
 unfoldable table : List Refusal
-table = AnyMissing ∷ NotUtf8 ∷ OutsideRange ∷ NameTooLong ∷ SettingUnknown ∷ PackBroken ∷ NoSuchLanguage ∷ TextTooLong ∷ TooManyTexts ∷ NoRoom ∷ BundleBroken ∷ FileMissing ∷ LineUnreadable ∷ PatternEmpty ∷ ExpressionWrong ∷ OutsideForms ∷ NameUnlisted ∷ IncludeTooDeep ∷ TooMuch ∷ AnyMissing ∷ []
+table = AnyMissing ∷ NotUtf8 ∷ OutsideRange ∷ NameTooLong ∷ SettingUnknown ∷ PackBroken ∷ NoSuchLanguage ∷ TextTooLong ∷ TooManyTexts ∷ NoRoom ∷ BundleBroken ∷ FileMissing ∷ LineUnreadable ∷ PatternEmpty ∷ ExpressionWrong ∷ OutsideForms ∷ NameUnlisted ∷ IncludeTooDeep ∷ TooMuch ∷ AnyMissing ∷ BoxEmpty ∷ []
 
 back : (r : Refusal) → getD table (numberOf r) AnyMissing ≡ r
 unfolding numberOf table
@@ -33,6 +33,7 @@ back NameUnlisted = refl
 back IncludeTooDeep = refl
 back TooMuch = refl
 back AnyMissing = refl
+back BoxEmpty = refl
 
 pub number-one : (a b : Refusal) → numberOf a ≡ numberOf b → a ≡ b
 number-one a b e = sym (back a) ∙ (ap (λ (n : ℕ). getD table n AnyMissing) e ∙ back b)
@@ -58,3 +59,4 @@ number-some NameUnlisted = omega arith
 number-some IncludeTooDeep = omega arith
 number-some TooMuch = omega arith
 number-some AnyMissing = omega arith
+number-some BoxEmpty = omega arith

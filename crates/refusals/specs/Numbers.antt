@@ -1,7 +1,7 @@
--- The paper's number of each refusal (01, What the desk gets: the table).
+-- The paper's number of each refusal (01, What the desk gets: the table; 02, the tickets).
 use Prim.Native.Nat.{ℕ}
 use Rattle.refusals.specs.declared.Refusal.{Refusal}
-use Rattle.refusals.specs.declared.Refusal.the-variants.{NotUtf8, OutsideRange, NameTooLong, SettingUnknown, PackBroken, NoSuchLanguage, TextTooLong, TooManyTexts, NoRoom, BundleBroken, FileMissing, LineUnreadable, PatternEmpty, ExpressionWrong, OutsideForms, NameUnlisted, IncludeTooDeep, TooMuch, AnyMissing}
+use Rattle.refusals.specs.declared.Refusal.the-variants.{NotUtf8, OutsideRange, NameTooLong, SettingUnknown, PackBroken, NoSuchLanguage, TextTooLong, TooManyTexts, NoRoom, BundleBroken, FileMissing, LineUnreadable, PatternEmpty, ExpressionWrong, OutsideForms, NameUnlisted, IncludeTooDeep, TooMuch, AnyMissing, BoxEmpty}
 
 -- "Given exactly when", row by row
 unfoldable pub numberOf : Refusal → ℕ
@@ -43,3 +43,5 @@ numberOf IncludeTooDeep = 17
 numberOf TooMuch = 18
 -- "language list lacks `any`"
 numberOf AnyMissing = 19
+-- 02, ticket 11: "a rule with an empty box that isn't negated, as left or right context"
+numberOf BoxEmpty = 20

@@ -1,4 +1,4 @@
-// The refusals of document 01's table, a name for each number.
+// The refusals of document 01's table and of the requests of document 02, a name for each number.
 ghost use mathlib.Core.Path.{_≡_};
 ghost use Rattle.refusals.specs.Numbers.{numberOf};
 
@@ -22,6 +22,7 @@ pub enum Refusal {
     IncludeTooDeep,
     TooMuch,
     AnyMissing,
+    BoxEmpty,
 }
 
 // The paper's number of a refusal.
@@ -48,5 +49,6 @@ pub fn number_of(refusal: Refusal) -> u8
         Refusal::IncludeTooDeep => 17,
         Refusal::TooMuch => 18,
         Refusal::AnyMissing => 19,
+        Refusal::BoxEmpty => 20,
     }
 }

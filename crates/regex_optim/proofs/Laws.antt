@@ -16,14 +16,14 @@ use Rattle.letters.specs.declared.utf8.Step.{Step}
 use Rattle.letters.specs.declared.utf8.Step.the-variants.{Char, Ill, End}
 use Rattle.texts.specs.Parts.{tail, front, firstIs, lastIs, placeOf, has, prefixOf, suffixOf, caret, dollar, opening, closing, withoutCaret, withoutDollar}
 use Rattle.texts.proofs.Laws.{front-is}
-use Rattle.regex_optim.specs.Contexts.{Form, outside, literalForm, boxForm, boxInner, boxed, formIn, formOf, leftForm, rightForm, kindOf, codeAt, firstChar, codeOf, backChar, wholeChar, orElse, charFits, fits}
-use Rattle.regex_optim.specs.Contracts.{boxChar, boxFits, literalFits, boxKind, literalKind}
+use Rattle.regex_optim.specs.Contexts.{Form, outside, literalForm, boxForm, boxInner, boxed, formIn, formOf, leftForm, rightForm, kindOf, takesNone, emptyBox, codeAt, firstChar, codeOf, backChar, wholeChar, orElse, charFits, fits}
+use Rattle.regex_optim.specs.Contracts.{boxChar, boxFits, literalFits, boxKind, literalKind, emptyRest}
 use Rattle.regex_optim.specs.declared.Letter.{Letter}
 use Rattle.regex_optim.specs.declared.Letter.the-variants.{Code, Absent}
 use Rattle.regex_optim.specs.declared.OptimizedRegex.{OptimizedRegex}
 use Rattle.regex_optim.specs.declared.OptimizedRegex.the-variants.{Outside}
 use Rattle.base.proofs.Arms.{clash}
-use Rattle.base.proofs.PickLaws.{pick-true, pick-false, pick-all}
+use Rattle.base.proofs.PickLaws.{pick-true, pick-false, pick-all, and-first, and-rest, and-inv}
 
 -- ---- one character
 
@@ -148,7 +148,7 @@ fits-literal false true [] x = sym (suffix-nil x)
 fits-literal false true (y ∷ t) x = refl
 fits-literal false false t x = refl
 
-fits-box : (s e hit : Bool) (l x : List ℕ) → fits (boxForm s e hit l) x ≡ charFits hit l (boxChar s e x)
+pub fits-box : (s e hit : Bool) (l x : List ℕ) → fits (boxForm s e hit l) x ≡ charFits hit l (boxChar s e x)
 unfolding fits boxForm boxChar pick charFits
 fits-box true true hit l x = refl
 fits-box true false hit l x = refl
@@ -156,7 +156,7 @@ fits-box false true hit l x = refl
 fits-box false false hit l x = refl
 
 module _ (s e : Bool) (t : List ℕ) (h : Bool) (g : h ≡ has opening t) where
-  in-literal : h ≡ false → formIn s e t ≡ literalForm s e t
+  pub in-literal : h ≡ false → formIn s e t ≡ literalForm s e t
   unfolding formIn
   in-literal q = pick-false _ _ _ (sym g ∙ q)
 
@@ -164,11 +164,11 @@ module _ (s e : Bool) (t : List ℕ) (h : Bool) (g : h ≡ has opening t) where
   kind-by-literal r q f = f ∙ sym (ap kindOf (in-literal q) ∙ kind-literal s e t)
 
   module _ (u : Bool) (b : u ≡ boxed t) where
-    in-box : h ≡ true → u ≡ true → formIn s e t ≡ boxForm s e (not (firstIs caret (boxInner t))) (withoutCaret (boxInner t))
+    pub in-box : h ≡ true → u ≡ true → formIn s e t ≡ boxForm s e (not (firstIs caret (boxInner t))) (withoutCaret (boxInner t))
     unfolding formIn
     in-box q v = pick-true _ _ _ (sym g ∙ q) ∙ pick-true _ _ _ (sym b ∙ v)
 
-    in-none : h ≡ true → u ≡ false → formIn s e t ≡ outside
+    pub in-none : h ≡ true → u ≡ false → formIn s e t ≡ outside
     unfolding formIn
     in-none q v = pick-true _ _ _ (sym g ∙ q) ∙ pick-false _ _ _ (sym b ∙ v)
 
@@ -291,7 +291,85 @@ module _ (c : List ℕ) (b : Bool) (l : List ℕ) where
   pub right-fit : (x : List ℕ) (r : Bool) → b ≡ lastIs dollar c → l ≡ withoutDollar c → r ≡ fits (formIn true b l) x → r ≡ fits (rightForm c) x
   right-fit x r p q e = e ∙ ap₂ (λ (z : Bool) (y : List ℕ). fits (formIn true z y) x) p q ∙ sym (ap (λ (f : Form). fits f x) (right-is c))
 
--- an empty context always fits
+-- ---- a box that nothing fits
+
+empty-literal : (s e : Bool) (t : List ℕ) → emptyBox (literalForm s e t) ≡ false
+unfolding emptyBox literalForm
+empty-literal true true [] = refl
+empty-literal true true (x ∷ t) = refl
+empty-literal true false [] = refl
+empty-literal true false (x ∷ t) = refl
+empty-literal false true [] = refl
+empty-literal false true (x ∷ t) = refl
+empty-literal false false t = refl
+
+pub literal-not-empty : (s e : Bool) (t : List ℕ) → has opening t ≡ false → emptyBox (formIn s e t) ≡ false
+literal-not-empty s e t q = ap emptyBox (in-literal s e t false (sym q) refl) ∙ empty-literal s e t
+
+-- a box takes none where nothing stands in it; what is negated has its `^`
+inner-takes : (i : List ℕ) → takesNone (not (firstIs caret i)) (withoutCaret i) ≡ eqb (length i) 0
+unfolding takesNone firstIs withoutCaret tail pick and
+inner-takes [] = refl
+inner-takes (x ∷ i) = over (eqb x caret)
+  where
+    over : (t : Bool) → and (not t) (eqb (length (pick t i (x ∷ i))) 0) ≡ eqb (suc (length i)) 0
+    over true = sym (eqb·suc-zero (length i))
+    over false = refl
+
+-- a context has an anchor on at least one side: a left one at its end, a right one at its start
+abbrev pub Anchored : Bool → Bool → Type 0
+Anchored s e = pick s true e ≡ true
+
+pub anchored-left : (s : Bool) → Anchored s true
+anchored-left s = pick-all (λ (b : Bool). b ≡ true) s true true refl refl
+
+pub anchored-right : (e : Bool) → Anchored true e
+unfolding pick
+anchored-right e = refl
+
+pub box-empty : (s e hit : Bool) (l : List ℕ) → Anchored s e → emptyBox (boxForm s e hit l) ≡ takesNone hit l
+unfolding emptyBox boxForm pick
+box-empty true true hit l a = refl
+box-empty true false hit l a = refl
+box-empty false true hit l a = refl
+box-empty false false hit l a = clash (cc)
+
+turned : (a b : Bool) → pick b a false ≡ and a b
+unfolding pick and
+turned true true = refl
+turned true false = refl
+turned false true = refl
+turned false false = refl
+
+module _ (s e : Bool) (t : List ℕ) (a : Anchored s e) where
+  empty-by : (h u : Bool) → h ≡ has opening t → u ≡ boxed t → emptyBox (formIn s e t) ≡ pick u (eqb (length (boxInner t)) 0) false
+  unfolding emptyBox pick boxed
+  empty-by true true g b = ap emptyBox (in-box s e t true g true b refl refl) ∙ box-empty s e _ _ a ∙ inner-takes (boxInner t)
+  empty-by true false g b = ap emptyBox (in-none s e t true g false b refl refl)
+  empty-by false true g b = let opens = opening-first t (and-inv _ _ (sym b) .0) in clash (cc)
+  empty-by false false g b = ap emptyBox (in-literal s e t false g refl) ∙ empty-literal s e t
+
+  empty-is : emptyBox (formIn s e t) ≡ emptyRest t
+  unfolding emptyRest
+  empty-is = empty-by _ _ refl refl ∙ turned (eqb (length (boxInner t)) 0) (boxed t)
+
+module _ (c l : List ℕ) (r : Bool) where
+  pub left-empty-box : l ≡ withoutCaret c → r ≡ emptyRest l → r ≡ emptyBox (leftForm c)
+  left-empty-box q e = e ∙ ap emptyRest q ∙ sym (ap emptyBox (left-is c) ∙ empty-is _ true _ (anchored-left _))
+
+  pub right-empty-box : l ≡ withoutDollar c → r ≡ emptyRest l → r ≡ emptyBox (rightForm c)
+  right-empty-box q e = e ∙ ap emptyRest q ∙ sym (ap emptyBox (right-is c) ∙ empty-is true _ _ (anchored-right _))
+
+module _ (t i : List ℕ) (j : i ≡ boxInner t) where
+  pub inside-none : (u : Bool) → length i ≡ 0 → u ≡ boxed t → u ≡ emptyRest t
+  unfolding emptyRest
+  inside-none u h b = and-rest _ _ u (eq-eqb _ 0 (ap length (sym j) ∙ h)) b
+
+  pub inside-some : (length i ≡ 0 → ⊥) → false ≡ emptyRest t
+  unfolding emptyRest
+  inside-some h = sym (and-first _ _ (ne-eqb _ 0 (λ q. h (ap length j ∙ q))))
+
+-- ---- an empty context always fits
 pub left-empty : (c x : List ℕ) → length c ≡ 0 → true ≡ fits (leftForm c) x
 unfolding withoutCaret firstIs pick formIn has placeOf literalForm fits
 left-empty [] x h = sym (ap (λ (f : Form). fits f x) (left-is []))
@@ -319,6 +397,6 @@ pub char-absent : (hit : Bool) (l : List ℕ) (a : Letter) → a ≡ Absent → 
 unfolding charFits
 char-absent hit l a e = sym (ap (charFits hit l) e)
 
-pub ruleset part-laws = (inner-none, inner-some, has-by, boxed-not, boxed-open, boxed-by, else-code, else-absent, needs)
+pub ruleset part-laws = (inner-none, inner-some, has-by, boxed-not, boxed-open, boxed-by, inside-none, inside-some, left-empty-box, right-empty-box, else-code, else-absent, needs)
 
 pub ruleset form-laws = (kind-by-literal, kind-by-box, kind-by-none, only-fits, only-fails, fits-by-literal, fits-by-other, fits-by-box, fits-by-none, left-empty, right-empty, left-kind, right-kind, left-fit, right-fit, box-fit, char-member, char-other, char-absent, needs)

@@ -78,6 +78,21 @@ kindOf (first hit l) = StartsWithChar
 kindOf (last hit l) = EndsWithChar
 kindOf outside = Outside
 
+-- 02, ticket 11: "an empty box that isn't negated"
+unfoldable pub takesNone : Bool → List ℕ → Bool
+takesNone hit l = and hit (eqb (length l) 0)
+
+unfoldable pub emptyBox : Form → Bool
+emptyBox always = false
+emptyBox empty = false
+emptyBox (equals t) = false
+emptyBox (starts t) = false
+emptyBox (ends t) = false
+emptyBox (only hit l) = takesNone hit l
+emptyBox (first hit l) = takesNone hit l
+emptyBox (last hit l) = takesNone hit l
+emptyBox outside = false
+
 -- ---- fitting
 
 -- the character that stands at the front of x, is x, and stands at its end: of one byte, two, three or four

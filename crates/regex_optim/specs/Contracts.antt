@@ -5,11 +5,11 @@ use mathlib.Core.Bool.{Bool, false, not}
 use mathlib.Core.List.{List}
 use lib.Dec.{eqb}
 use lib.ListN.{length}
-use Rattle.base.specs.Pick.{pick}
+use Rattle.base.specs.Pick.{pick, and}
 use Rattle.letters.specs.Order.{sameText}
 use Rattle.texts.specs.Parts.{firstByte, lastByte, firstIs, prefixOf, suffixOf, caret, opening, withoutCaret, withoutDollar}
 use Rattle.texts.specs.Signatures.{bitOf, signatureOf}
-use Rattle.regex_optim.specs.Contexts.{boxInner, firstChar, wholeChar, lastChar, charFits}
+use Rattle.regex_optim.specs.Contexts.{boxInner, boxed, firstChar, wholeChar, lastChar, charFits}
 use Rattle.regex_optim.specs.declared.Letter.{Letter}
 use Rattle.regex_optim.specs.declared.Letter.the-variants.{Absent}
 use Rattle.regex_optim.specs.declared.OptimizedRegex.{OptimizedRegex}
@@ -31,6 +31,10 @@ unfoldable pub literalKind : ℕ → Bool → Bool → OptimizedRegex
 literalKind n s e =
     pick s (pick e (pick (eqb n 0) IsEmpty Equals) (pick (eqb n 0) AllStringsMatcher StartsWith))
     (pick e (pick (eqb n 0) AllStringsMatcher EndsWith) Outside)
+
+-- the rest of a context that is `[]`
+unfoldable pub emptyRest : List ℕ → Bool
+emptyRest t = and (eqb (length (boxInner t)) 0) (boxed t)
 
 -- ---- the bytes beside a place, as bits of their kinds
 

@@ -1,7 +1,8 @@
-// A box of characters: whether a text is one, and its inside.
+// A box of characters: whether a text is one, its inside, and whether it has one.
 ghost use mathlib.Core.Path.{_≡_};
 ghost use Rattle.texts.specs.Parts.{has, opening};
 ghost use Rattle.regex_optim.specs.Contexts.{boxInner, boxed};
+ghost use Rattle.regex_optim.specs.Contracts.{emptyRest};
 
 // t without its first and last byte.
 pub(crate) fn box_inner(t: &[u8]) -> &[u8]
@@ -27,6 +28,17 @@ pub(crate) fn is_boxed(t: &[u8]) -> bool
         } else {
             false
         }
+    } else {
+        false
+    }
+}
+
+// Whether t is `[]`. Most contexts have more bytes, so those are not looked through for another `[`.
+pub(crate) fn is_empty_box(t: &[u8]) -> bool
+    ensures { λ r. ⌜ r ≡ emptyRest (now (t .entry)) ⌝ }
+{
+    if box_inner(t).len() == 0 {
+        is_boxed(t)
     } else {
         false
     }

@@ -1,11 +1,12 @@
-// Which of the eight forms a context is.
+// Which of the eight forms a context is, and whether it is a box that nothing fits.
 ghost use mathlib.Core.Path.{_≡_};
-ghost use Rattle.regex_optim.specs.Contexts.{formIn, kindOf, leftForm, rightForm};
+ghost use Rattle.regex_optim.specs.Contexts.{formIn, kindOf, leftForm, rightForm, emptyBox};
 ghost use Rattle.regex_optim.specs.Numbers.{formNumbers};
 ghost use Rattle.regex_optim.specs.Contracts.{boxKind, literalKind};
 use crate::OptimizedRegex;
 use crate::boxes::has_opening;
 use crate::boxes::is_boxed;
+use crate::boxes::is_empty_box;
 
 fn box_kind(s: bool, e: bool) -> OptimizedRegex
     ensures { λ r. ⌜ r ≡ boxKind s e ⌝ }
@@ -78,4 +79,18 @@ pub fn right_form(context: &[u8]) -> OptimizedRegex
 {
     let anchored = texts::last_is(context, b'$');
     form_in(texts::without_dollar(context), true, anchored)
+}
+
+// Whether a left context is an empty box that is not negated.
+pub fn left_is_empty_box(context: &[u8]) -> bool
+    ensures { λ r. ⌜ r ≡ emptyBox (leftForm (now (context .entry))) ⌝ }
+{
+    is_empty_box(texts::without_caret(context))
+}
+
+// Whether a right context is.
+pub fn right_is_empty_box(context: &[u8]) -> bool
+    ensures { λ r. ⌜ r ≡ emptyBox (rightForm (now (context .entry))) ⌝ }
+{
+    is_empty_box(texts::without_dollar(context))
 }

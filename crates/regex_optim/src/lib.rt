@@ -11,7 +11,9 @@ pub use beside::right_bits;
 pub use fitting::left_fits;
 pub use fitting::right_fits;
 pub use forms::left_form;
+pub use forms::left_is_empty_box;
 pub use forms::right_form;
+pub use forms::right_is_empty_box;
 
 // The forms of a context, named as in regex_optim.rs, or that it is none of them (15).
 pub enum OptimizedRegex {

@@ -1,6 +1,6 @@
 -- Laws of the faults of a rule, as `search` applies them. Assumes nothing.
 use mathlib.Core.Path.{_≡_, refl, sym, ap, _∙_}
-use mathlib.Core.Bool.{Bool, true, false}
+use mathlib.Core.Bool.{Bool, true, false, not}
 use mathlib.Core.List.{List, [], _∷_}
 use Prim.Native.Nat.{ℕ, zero, suc, _≤_, _<_}
 use native.Mathlib.Omega.{arith}
@@ -12,14 +12,14 @@ use types.Run.{OneOf, miss}
 use denote.Enum.Declared.{tagOf}
 use Rattle.regex_optim.proofs.OptimizedRegex.{the-type}
 use Rattle.base.specs.Pick.{pick, and}
-use Rattle.base.proofs.PickLaws.{pick-true, pick-false, pick-all, and-yes, and-first, and-second, and-inv, pick-inv}
+use Rattle.base.proofs.PickLaws.{pick-true, pick-false, pick-all, and-yes, and-first, and-second, and-inv, and-assoc, pick-inv}
 use Rattle.refusals.specs.declared.Refusal.{Refusal}
-use Rattle.refusals.specs.declared.Refusal.the-variants.{PatternEmpty, ExpressionWrong, OutsideForms, NameUnlisted, TooMuch}
-use Rattle.regex_optim.specs.Contexts.{Form, leftForm, rightForm, kindOf}
+use Rattle.refusals.specs.declared.Refusal.the-variants.{PatternEmpty, ExpressionWrong, OutsideForms, NameUnlisted, TooMuch, BoxEmpty}
+use Rattle.regex_optim.specs.Contexts.{Form, leftForm, rightForm, kindOf, emptyBox}
 use Rattle.regex_optim.specs.Contracts.{literalKind}
 use Rattle.regex_optim.specs.declared.OptimizedRegex.{OptimizedRegex}
 use Rattle.regex_optim.specs.declared.OptimizedRegex.the-variants.{AllStringsMatcher, IsEmpty, Equals, StartsWith, EndsWith, EqualsChar, StartsWithChar, EndsWithChar, Outside}
-use Rattle.regex_optim.proofs.Laws.{kind-by-literal, left-is, right-is}
+use Rattle.regex_optim.proofs.Laws.{kind-by-literal, literal-not-empty, left-is, right-is}
 use Rattle.regex_optim.proofs.NumberLaws.{form-one}
 use Rattle.base.proofs.Arms.{clash}
 use Rattle.rule.specs.Contracts.{visibleLiteral}
@@ -31,8 +31,8 @@ use Rattle.phonemes.specs.declared.answers.Expression.{Expression}
 use Rattle.phonemes.specs.declared.answers.Expression.the-variants.{Good, Malformed, UnlistedName}
 use Rattle.phonemes.proofs.Visible.{clear-good, clear-malformed}
 use Rattle.phonemes.proofs.NumberLaws.{expression-one}
-use Rattle.rule_lines.specs.Rules.{Rule, rule, lengthFault, contextFault, expressionFault, faultElse, ruleFault, ruleTexts, faultless, ruleGood}
-use Rattle.rule_lines.specs.Contracts.{leftGood, rightGood, expressionGood, stringsGood}
+use Rattle.rule_lines.specs.Rules.{Rule, rule, lengthFault, contextFault, boxFault, contextsFault, expressionFault, faultElse, ruleFault, ruleTexts, faultless, ruleGood}
+use Rattle.rule_lines.specs.Contracts.{formGood, leftGood, rightGood, expressionGood, stringsGood}
 use Rattle.rule_lines.specs.declared.Fault.{Fault}
 use Rattle.rule_lines.specs.declared.Fault.the-variants.{Is, Without}
 use borrow.Author.Needs.{needs}
@@ -58,6 +58,21 @@ fault-inside EqualsChar h = refl
 fault-inside StartsWithChar h = refl
 fault-inside EndsWithChar h = refl
 fault-inside Outside h = absurd (miss eight 8 tt h)
+
+-- an empty box, left, right or neither
+module _ (f g : Form) (t : Bool) (e : t ≡ emptyBox f) where
+  pub box-left : t ≡ true → Is BoxEmpty ≡ boxFault f g
+  unfolding boxFault
+  box-left q = sym (pick-true _ _ _ (sym e ∙ q))
+
+  module _ (u : Bool) (d : u ≡ emptyBox g) (q : t ≡ false) where
+    pub box-right : u ≡ true → Is BoxEmpty ≡ boxFault f g
+    unfolding boxFault
+    box-right v = sym (pick-false _ _ _ (sym e ∙ q) ∙ pick-true _ _ _ (sym d ∙ v))
+
+    pub box-neither : u ≡ false → Without ≡ boxFault f g
+    unfolding boxFault
+    box-neither v = sym (pick-false _ _ _ (sym e ∙ q) ∙ pick-false _ _ _ (sym d ∙ v))
 
 module _ (e : Expression) where
   pub fault-good : (n : ℕ) → e ≡ Good n → Without ≡ expressionFault e
@@ -109,7 +124,7 @@ context-by x f g e h = e ∙ ap contextFault h
 pub expression-by : (x : Fault) (f g : Expression) → x ≡ expressionFault f → f ≡ g → x ≡ expressionFault g
 expression-by x f g e h = e ∙ ap expressionFault h
 
-pub ruleset fault-laws = (fault-outside, fault-inside, fault-good, fault-malformed, fault-unlisted, fault-is, fault-without, form-one, expression-one, fault-long, fault-none, or-first, or-next, context-by, expression-by, needs)
+pub ruleset fault-laws = (fault-outside, fault-inside, box-left, box-right, box-neither, fault-good, fault-malformed, fault-unlisted, fault-is, fault-without, form-one, expression-one, fault-long, fault-none, or-first, or-next, context-by, expression-by, needs)
 
 -- ---- a visible literal: without `[` a context is a literal, which is always in the forms
 
@@ -137,16 +152,20 @@ module _ (c : List ℕ) (t : Bool) (p : t ≡ visibleLiteral c) (q : t ≡ true)
   text = literal-text c (sym p ∙ q)
 
   pub left-literal : true ≡ leftGood c
-  unfolding leftGood Formed formed withoutCaret
+  unfolding leftGood formGood Formed formed withoutCaret
   left-literal =
       let none : has opening (withoutCaret c) ≡ false = clear-has (pick-all Clear _ _ _ (clear-tail clear) clear) in
-      sym (and-yes _ _ text (ap (λ (x : Form). formed (kindOf x)) (left-is c) ∙ ap formed (sym (kind-by-literal _ _ _ _ (sym none) _ refl refl)) ∙ literal-left _ _))
+      let fits = ap (λ (x : Form). not (emptyBox x)) (left-is c) ∙ ap not (literal-not-empty _ _ _ none) in
+      let in-forms = ap (λ (x : Form). formed (kindOf x)) (left-is c) ∙ ap formed (sym (kind-by-literal _ _ _ _ (sym none) _ refl refl)) ∙ literal-left _ _ in
+      sym (and-yes _ _ text (and-yes _ _ fits in-forms))
 
   pub right-literal : true ≡ rightGood c
-  unfolding rightGood Formed formed withoutDollar
+  unfolding rightGood formGood Formed formed withoutDollar
   right-literal =
       let none : has opening (withoutDollar c) ≡ false = clear-has (pick-all Clear _ _ _ (clear-front clear) clear) in
-      sym (and-yes _ _ text (ap (λ (x : Form). formed (kindOf x)) (right-is c) ∙ ap formed (sym (kind-by-literal _ _ _ _ (sym none) _ refl refl)) ∙ literal-right _ _))
+      let fits = ap (λ (x : Form). not (emptyBox x)) (right-is c) ∙ ap not (literal-not-empty _ _ _ none) in
+      let in-forms = ap (λ (x : Form). formed (kindOf x)) (right-is c) ∙ ap formed (sym (kind-by-literal _ _ _ _ (sym none) _ refl refl)) ∙ literal-right _ _ in
+      sym (and-yes _ _ text (and-yes _ _ fits in-forms))
 
   -- of an expression only the round brackets matter
   literal-good : (names : List ℕ) (b : Bool) → pick (firstIs round c) (lastIs unround c) true ≡ b → b ≡ expressionGood names c
@@ -176,14 +195,24 @@ module _ (c : List ℕ) (t : Bool) (p : t ≡ ruleText c) where
   unfolding expressionGood
   expression-strange names q = sym (and-first _ _ (sym p ∙ q))
 
-  module _ (q : t ≡ true) (f : Fault) (u : Bool) (is : u ≡ faultless f) where
-    pub left-judged : (k : OptimizedRegex) → f ≡ contextFault k → k ≡ kindOf (leftForm c) → u ≡ leftGood c
-    unfolding leftGood and
-    left-judged k g e = is ∙ ap faultless (g ∙ ap contextFault e) ∙ sym (rw (sym p ∙ q) refl)
+  module _ (q : t ≡ true) (b : Bool) where
+    pub left-box : b ≡ emptyBox (leftForm c) → b ≡ true → false ≡ leftGood c
+    unfolding leftGood formGood
+    left-box d v = sym (and-second _ _ (sym p ∙ q) (and-first _ _ (ap not (sym d ∙ v))))
 
-    pub right-judged : (k : OptimizedRegex) → f ≡ contextFault k → k ≡ kindOf (rightForm c) → u ≡ rightGood c
-    unfolding rightGood and
-    right-judged k g e = is ∙ ap faultless (g ∙ ap contextFault e) ∙ sym (rw (sym p ∙ q) refl)
+    pub right-box : b ≡ emptyBox (rightForm c) → b ≡ true → false ≡ rightGood c
+    unfolding rightGood formGood
+    right-box d v = sym (and-second _ _ (sym p ∙ q) (and-first _ _ (ap not (sym d ∙ v))))
+
+  module _ (q : t ≡ true) (f : Fault) (u : Bool) (is : u ≡ faultless f) where
+    module _ (b : Bool) (v : b ≡ false) (k : OptimizedRegex) (g : f ≡ contextFault k) where
+      pub left-judged : b ≡ emptyBox (leftForm c) → k ≡ kindOf (leftForm c) → u ≡ leftGood c
+      unfolding leftGood formGood and
+      left-judged d e = is ∙ ap faultless (g ∙ ap contextFault e) ∙ sym (rw (sym p ∙ q, sym d ∙ v) refl)
+
+      pub right-judged : b ≡ emptyBox (rightForm c) → k ≡ kindOf (rightForm c) → u ≡ rightGood c
+      unfolding rightGood formGood and
+      right-judged d e = is ∙ ap faultless (g ∙ ap contextFault e) ∙ sym (rw (sym p ∙ q, sym d ∙ v) refl)
 
     pub expression-judged : (names : List ℕ) (k : Expression) → f ≡ expressionFault k → k ≡ checkedOf names c → u ≡ expressionGood names c
     unfolding expressionGood and
@@ -199,6 +228,8 @@ pub ruleset string-laws = (
   left-strange,
   right-strange,
   expression-strange,
+  left-box,
+  right-box,
   left-judged,
   right-judged,
   expression-judged,
@@ -233,11 +264,26 @@ by-string true true true true true true true h = refl
 abbrev pub lengthsFault : Rule → Fault
 lengthsFault r = lengthFault (length (r .pattern)) (length (r .left)) (length (r .right)) (length (r .expression))
 
+-- a context's faults stand one behind the other
+by-side : (a b : Bool) (x y : Bool) → and a (and b (faultless (pick x (Is BoxEmpty) (pick y (Is BoxEmpty) Without)))) ≡ and (and (not x) a) (and (not y) b)
+unfolding and pick faultless
+by-side a false true y = and-false a
+by-side a true true y = and-false a
+by-side a false false true = refl
+by-side a true false true = refl
+by-side a false false false = refl
+by-side a true false false = refl
+
+contexts-good : (f g : Form) → faultless (contextsFault f g) ≡ and (formGood f) (formGood g)
+unfolding contextsFault boxFault formGood
+contexts-good f g = faultless-else _ _ ∙ ap (and _) (faultless-else _ _) ∙ by-side _ _ _ _
+
 faultless-is : (names : List ℕ) (r : Rule)
     → faultless (ruleFault names r)
-    ≡ and (faultless (lengthsFault r)) (and (faultless (contextFault (kindOf (leftForm (r .left))))) (and (faultless (contextFault (kindOf (rightForm (r .right))))) (faultless (expressionFault (checkedOf names (r .expression))))))
+    ≡ and (faultless (lengthsFault r)) (and (formGood (leftForm (r .left))) (and (formGood (rightForm (r .right))) (faultless (expressionFault (checkedOf names (r .expression))))))
 unfolding ruleFault
-faultless-is names r = faultless-else _ _ ∙ ap (and _) (faultless-else _ _ ∙ ap (and _) (faultless-else _ _))
+faultless-is names r =
+    faultless-else _ _ ∙ ap (and _) (faultless-else _ _ ∙ ap (λ (b : Bool). and b (faultless (expressionFault (checkedOf names (r .expression))))) (contexts-good _ _) ∙ and-assoc _ _ _)
 
 good-is : (names : List ℕ) (r : Rule) → ruleGood names r ≡ and (faultless (lengthsFault r)) (stringsGood names r)
 unfolding ruleGood ruleTexts stringsGood leftGood rightGood expressionGood
@@ -349,4 +395,9 @@ module _ (names : List ℕ) (r : Rule) (g : ruleGood names r ≡ true) where
 
   pub good-expression : (n : ℕ) × (checkedOf names (r .expression) ≡ Good n)
   unfolding ruleFault
-  good-expression = has-alternatives _ (else-inv _ _ (else-inv _ _ (else-inv _ _ no-fault .1) .1) .1)
+  good-expression = has-alternatives _ (else-inv _ _ (else-inv _ _ no-fault .1) .1)
+
+  -- each context is in the forms, and no empty box
+  pub good-contexts : (formGood (leftForm (r .left)) ≡ true) × (formGood (rightForm (r .right)) ≡ true)
+  unfolding ruleFault faultless
+  good-contexts = and-inv _ _ (sym (contexts-good _ _) ∙ ap faultless (else-inv _ _ (else-inv _ _ no-fault .1) .0))

@@ -1,12 +1,13 @@
--- A rule, and its faults (01, Rule files and includes; What the desk gets: "in a line 12, 13, 18, 15 (left, then right), 14, 16").
+-- A rule, and its faults (01, Rule files and includes; What the desk gets: "in a line 12, 13, 18, 15 (left, then right), 14, 16"; 02, ticket 11: 20
+-- comes "after 15 for both contexts and before 14").
 use Prim.Native.Nat.{ℕ}
 use mathlib.Core.Bool.{Bool, true, false}
 use mathlib.Core.List.{List}
 use lib.Dec.{eqb, ltb}
 use lib.ListN.{length}
 use Rattle.base.specs.Pick.{pick, and}
-use Rattle.refusals.specs.declared.Refusal.the-variants.{PatternEmpty, ExpressionWrong, OutsideForms, NameUnlisted, TooMuch}
-use Rattle.regex_optim.specs.Contexts.{leftForm, rightForm, kindOf}
+use Rattle.refusals.specs.declared.Refusal.the-variants.{PatternEmpty, ExpressionWrong, OutsideForms, NameUnlisted, TooMuch, BoxEmpty}
+use Rattle.regex_optim.specs.Contexts.{Form, leftForm, rightForm, kindOf, emptyBox}
 use Rattle.regex_optim.specs.declared.OptimizedRegex.{OptimizedRegex}
 use Rattle.regex_optim.specs.declared.OptimizedRegex.the-variants.{AllStringsMatcher, IsEmpty, Equals, StartsWith, EndsWith, EqualsChar, StartsWithChar, EndsWithChar, Outside}
 use Rattle.rule.specs.Matching.{ruleText}
@@ -45,6 +46,10 @@ contextFault StartsWithChar = Without
 contextFault EndsWithChar = Without
 contextFault Outside = Is OutsideForms
 
+-- "a rule with an empty box that isn't negated, as left or right context"
+unfoldable pub boxFault : Form → Form → Fault
+boxFault left right = pick (emptyBox left) (Is BoxEmpty) (pick (emptyBox right) (Is BoxEmpty) Without)
+
 -- "phoneme expression wrong"; "language name not in the list"
 unfoldable pub expressionFault : Expression → Fault
 expressionFault (Good n) = Without
@@ -56,12 +61,14 @@ unfoldable pub faultElse : Fault → Fault → Fault
 faultElse Without b = b
 faultElse (Is w) b = Is w
 
+unfoldable pub contextsFault : Form → Form → Fault
+contextsFault left right = faultElse (contextFault (kindOf left)) (faultElse (contextFault (kindOf right)) (boxFault left right))
+
 -- `names` is the bytes of the languages, each behind its length byte
 unfoldable pub ruleFault : List ℕ → Rule → Fault
 ruleFault names r =
     faultElse (lengthFault (length (r .pattern)) (length (r .left)) (length (r .right)) (length (r .expression)))
-    (faultElse (contextFault (kindOf (leftForm (r .left))))
-    (faultElse (contextFault (kindOf (rightForm (r .right)))) (expressionFault (checkedOf names (r .expression)))))
+    (faultElse (contextsFault (leftForm (r .left)) (rightForm (r .right))) (expressionFault (checkedOf names (r .expression))))
 
 -- ---- a rule of a pack: "Every rule above applies", that is, its strings are texts and it has no fault
 

@@ -1,6 +1,7 @@
 // One judgment of a rule: its first fault, and whether it may stand in a pack.
 ghost use mathlib.Core.Path.{_≡_};
-ghost use Rattle.rule_lines.specs.Rules.{rule, lengthFault, contextFault, expressionFault, ruleFault, faultless, ruleGood};
+ghost use Rattle.regex_optim.specs.Contexts.{leftForm, rightForm};
+ghost use Rattle.rule_lines.specs.Rules.{rule, lengthFault, contextFault, boxFault, contextsFault, expressionFault, ruleFault, faultless, ruleGood};
 ghost use Rattle.rule_lines.specs.Contracts.{leftGood, rightGood, expressionGood, stringsGood};
 use phonemes::Expression;
 use refusals::Refusal;
@@ -56,6 +57,36 @@ fn context_fault(form: OptimizedRegex) -> Fault
     }
 }
 
+// A context that is a box of no characters, not negated: nothing fits it.
+fn box_fault(left: &[u8], right: &[u8]) -> Fault
+    ensures { λ r. ⌜ r ≡ boxFault (leftForm (now (left .entry))) (rightForm (now (right .entry))) ⌝ }
+{
+    if regex_optim::left_is_empty_box(left) {
+        Fault::Is {
+            why: Refusal::BoxEmpty,
+        }
+    } else if regex_optim::right_is_empty_box(right) {
+        Fault::Is {
+            why: Refusal::BoxEmpty,
+        }
+    } else {
+        Fault::Without
+    }
+}
+
+// The first fault of the contexts: 15 (left, then right), 20.
+fn contexts_fault(left: &[u8], right: &[u8]) -> Fault
+    ensures { λ r. ⌜ r ≡ contextsFault (leftForm (now (left .entry))) (rightForm (now (right .entry))) ⌝ }
+{
+    match context_fault(regex_optim::left_form(left)) {
+        Fault::Is { why } => Fault::Is { why },
+        Fault::Without => match context_fault(regex_optim::right_form(right)) {
+            Fault::Is { why } => Fault::Is { why },
+            Fault::Without => box_fault(left, right),
+        },
+    }
+}
+
 // An expression that is not well formed, or a name that is not listed.
 fn expression_fault(checked: Expression) -> Fault
     ensures { λ r. ⌜ r ≡ expressionFault checked ⌝ }
@@ -71,7 +102,7 @@ fn expression_fault(checked: Expression) -> Fault
     }
 }
 
-// The first fault of a rule whose strings are texts, in the order 13, 18, 15 (left, then right), 14, 16.
+// The first fault of a rule whose strings are texts, in the order 13, 18, 15 (left, then right), 20, 14, 16.
 pub fn rule_fault(
     names: &[u8],
     pattern: &[u8],
@@ -83,14 +114,9 @@ pub fn rule_fault(
 {
     match length_fault(pattern.len(), left.len(), right.len(), expression.len()) {
         Fault::Is { why } => Fault::Is { why },
-        Fault::Without => match context_fault(regex_optim::left_form(left)) {
+        Fault::Without => match contexts_fault(left, right) {
             Fault::Is { why } => Fault::Is { why },
-            Fault::Without => match context_fault(regex_optim::right_form(right)) {
-                Fault::Is { why } => Fault::Is { why },
-                Fault::Without => {
-                    expression_fault(phonemes::check_expression(expression, names))
-                }
-            },
+            Fault::Without => expression_fault(phonemes::check_expression(expression, names)),
         },
     }
 }
@@ -104,14 +130,18 @@ fn is_faultless(fault: Fault) -> bool
     }
 }
 
-// Whether a left context is a text in one of the forms; a visible literal is.
+// Whether a left context is a text in one of the forms, and no empty box; a visible literal is.
 fn left_good(left: &[u8]) -> bool
     ensures { λ r. ⌜ r ≡ leftGood (now (left .entry)) ⌝ }
 {
     if rule::is_visible_literal(left) {
         true
     } else if rule::is_rule_text(left) {
-        is_faultless(context_fault(regex_optim::left_form(left)))
+        if regex_optim::left_is_empty_box(left) {
+            false
+        } else {
+            is_faultless(context_fault(regex_optim::left_form(left)))
+        }
     } else {
         false
     }
@@ -124,7 +154,11 @@ fn right_good(right: &[u8]) -> bool
     if rule::is_visible_literal(right) {
         true
     } else if rule::is_rule_text(right) {
-        is_faultless(context_fault(regex_optim::right_form(right)))
+        if regex_optim::right_is_empty_box(right) {
+            false
+        } else {
+            is_faultless(context_fault(regex_optim::right_form(right)))
+        }
     } else {
         false
     }

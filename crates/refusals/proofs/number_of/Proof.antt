@@ -9,9 +9,9 @@ unfolding numberOf
 number-of-spec =
     tie.close (tie.spec (λ c. search needs) (λ c. search needs) (λ c. search needs) (λ c. search needs) (λ c. search needs) (λ c. search needs)
     (λ c. search needs) (λ c. search needs) (λ c. search needs) (λ c. search needs) (λ c. search needs) (λ c. search needs) (λ c. search needs)
-    (λ c. search needs) (λ c. search needs) (λ c. search needs) (λ c. search needs) (λ c. search needs) (λ c. search needs)
+    (λ c. search needs) (λ c. search needs) (λ c. search needs) (λ c. search needs) (λ c. search needs) (λ c. search needs) (λ c. search needs)
     (λ c. search (told numberOf)) (λ c. search (told numberOf)) (λ c. search (told numberOf)) (λ c. search (told numberOf))
     (λ c. search (told numberOf)) (λ c. search (told numberOf)) (λ c. search (told numberOf)) (λ c. search (told numberOf))
     (λ c. search (told numberOf)) (λ c. search (told numberOf)) (λ c. search (told numberOf)) (λ c. search (told numberOf))
     (λ c. search (told numberOf)) (λ c. search (told numberOf)) (λ c. search (told numberOf)) (λ c. search (told numberOf))
-    (λ c. search (told numberOf)) (λ c. search (told numberOf)) (λ c. search (told numberOf)))
+    (λ c. search (told numberOf)) (λ c. search (told numberOf)) (λ c. search (told numberOf)) (λ c. search (told numberOf)))

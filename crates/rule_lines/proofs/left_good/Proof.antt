@@ -5,5 +5,5 @@ use Rattle.rule_lines.proofs.left_good.Tie as tie
 pub left-good-spec : {M : Type 1} → statement M
 left-good-spec =
     tie.close (tie.spec (λ c κs. search string-laws) (λ c κs. search string-laws) (λ c κs. search string-laws)
-    (λ c κs. search string-laws) (λ c κs. search string-laws) (λ c. search string-laws) (λ c. search string-laws)
-    (λ c. search string-laws))
+    (λ c κs. search string-laws) (λ c κs. search string-laws) (λ c κs. search string-laws) (λ c. search string-laws)
+    (λ c. search string-laws) (λ c. search string-laws) (λ c. search string-laws))

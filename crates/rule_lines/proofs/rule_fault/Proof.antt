@@ -7,7 +7,5 @@ pub rule-fault-spec : {M : Type 1} → statement M
 unfolding ruleFault
 rule-fault-spec =
     tie.close (tie.spec (λ c κs. search fault-laws) (λ c. search fault-laws) (λ c. search fault-laws)
-    (λ c κs. search fault-laws) (λ c κs. search fault-laws) (λ c. search fault-laws) (λ c. search fault-laws)
-    (λ c κs. search fault-laws) (λ c κs. search fault-laws) (λ c. search fault-laws) (λ c. search fault-laws)
-    (λ c κs. search fault-laws) (λ c κs. search fault-laws) (λ c. search fault-laws) (λ c. search fault-laws)
-    (λ c. search fault-laws) (λ c. search fault-laws))
+    (λ c κs. search fault-laws) (λ c. search fault-laws) (λ c. search fault-laws) (λ c κs. search fault-laws)
+    (λ c κs. search fault-laws) (λ c. search fault-laws) (λ c. search fault-laws) (λ c. search fault-laws))
