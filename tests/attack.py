@@ -5,14 +5,14 @@
 
 Each answer is held against the original (oracle/build builds it, oracle/rules fetches the real rules), against the second check, or
 both. A program that ends with another status than it should, or that runs for more than --seconds, is a difference like a wrong
-answer. Every difference is printed; at the end stand the figures, and for each refusal of document 01 how often it was met and at how
-many different places. The exit status is 1 where something differs.
+answer. Every difference is printed; at the end stand the figures, and for each refusal, 1 to 20, how often it was met and at how many
+different places. The exit status is 1 where something differs.
 
   names    the program keys over the real rules and random packs, under settings of every kind, odd ones too. Every key and flag is
            the original's, with a share also the second check's; where the original cannot judge (a damaged name, an odd setting, 7, 8)
            the second check does, and the original's counts show the cause of the shortest of each 7 and 8.
-  packs    accepted packs and what damage makes of them, through ask: verdict and place are the second check's; from those that stay
-           accepted names are spelled. A share goes through keys as files.
+  packs    accepted packs and what damage makes of them, contexts that are boxes of every kind among it, through ask: verdict and place
+           are the second check's; from those that stay accepted names are spelled. A share goes through keys as files.
   bundles  rule files of every kind and what damage makes of them, through ask: the pack, or number, line and file, are the second
            check's. A share is held against what the original loads, and a share goes as folders through bundle and load.
 

@@ -42,7 +42,7 @@ use Rattle.code_points.proofs.Bytes.{border, Formed, formed-of, never-ill, char
 use Rattle.code_points.proofs.Cuts.{tail-formed, front-formed, between-formed}
 use Rattle.code_points.proofs.Packs.{rules-good}
 use Rattle.contexts.specs.Fitting.{FitsSome, ContextsFit, MatchesNowhere}
-use Rattle.contexts.proofs.Unlisted.{unlisted, few-codes}
+use Rattle.contexts.proofs.Missing.{missing, few-codes}
 
 -- ---- a rule with an empty box matches nowhere
 
@@ -52,17 +52,17 @@ else-is Without b w e = inr e
 else-is (Is v) b w e = inl e
 
 -- no other judgment gives 20
-Other : Fault → Type 0
-Other f = f ≡ Is BoxEmpty → ⊥
+NotTwenty : Fault → Type 0
+NotTwenty f = f ≡ Is BoxEmpty → ⊥
 
-length-other : (p l r e : ℕ) → Other (lengthFault p l r e)
-unfolding lengthFault Other
+length-other : (p l r e : ℕ) → NotTwenty (lengthFault p l r e)
+unfolding lengthFault NotTwenty
 length-other p l r e =
-    pick-all Other _ _ _ (λ q. clash (cc))
-    (pick-all Other _ _ _ (λ q. clash (cc)) (pick-all Other _ _ _ (λ q. clash (cc)) (pick-all Other _ _ _ (λ q. clash (cc)) (pick-all Other _ _ _ (λ q. clash (cc)) (λ q. clash (cc))))))
+    pick-all NotTwenty _ _ _ (λ q. clash (cc))
+    (pick-all NotTwenty _ _ _ (λ q. clash (cc)) (pick-all NotTwenty _ _ _ (λ q. clash (cc)) (pick-all NotTwenty _ _ _ (λ q. clash (cc)) (pick-all NotTwenty _ _ _ (λ q. clash (cc)) (λ q. clash (cc))))))
 
-context-other : (f : OptimizedRegex) → Other (contextFault f)
-unfolding contextFault Other
+context-other : (f : OptimizedRegex) → NotTwenty (contextFault f)
+unfolding contextFault NotTwenty
 context-other AllStringsMatcher e = clash (cc)
 context-other IsEmpty e = clash (cc)
 context-other Equals e = clash (cc)
@@ -73,8 +73,8 @@ context-other StartsWithChar e = clash (cc)
 context-other EndsWithChar e = clash (cc)
 context-other Outside e = clash (cc)
 
-expression-other : (x : Expression) → Other (expressionFault x)
-unfolding expressionFault Other
+expression-other : (x : Expression) → NotTwenty (expressionFault x)
+unfolding expressionFault NotTwenty
 expression-other (Good n) e = clash (cc)
 expression-other Malformed e = clash (cc)
 expression-other UnlistedName e = clash (cc)
@@ -84,7 +84,7 @@ unfolding boxFault
 box-by f g e = ⊎-elim (λ w. inl (w .0)) (λ w. ⊎-elim (λ v. inr (v .0)) (λ v. clash (cc (v .1))) (pick-inv _ _ _ _ (w .1))) (pick-inv _ _ _ _ e)
 
 box-in : (names : List ℕ) (r : Rule) → ruleFault names r ≡ Is BoxEmpty → (emptyBox (leftForm (r .left)) ≡ true) ⊎ (emptyBox (rightForm (r .right)) ≡ true)
-unfolding ruleFault contextsFault Other
+unfolding ruleFault contextsFault NotTwenty
 box-in names r e =
     ⊎-elim (λ w. absurd (length-other _ _ _ _ w))
     (λ w. ⊎-elim
@@ -104,7 +104,7 @@ refused-box-matches-nowhere names r e text place =
 
 -- ---- well-formed texts of at most 255 bytes, and what is cut off them
 
-record Short (t : Text) : Type 0 where
+record ShortText (t : Text) : Type 0 where
   formed : Formed t
   few : length t ≤ 255
 
@@ -119,17 +119,17 @@ front-few [] = omega arith
 front-few (x ∷ []) = omega arith
 front-few (x ∷ y ∷ t) = omega (arith, front-few (y ∷ t))
 
-caret-off : (t : Text) (q : Bool) → firstIs caret t ≡ q → Short t → Short (pick q (tail t) t)
+caret-off : (t : Text) (q : Bool) → firstIs caret t ≡ q → ShortText t → ShortText (pick q (tail t) t)
 unfolding pick
 caret-off t true e w = record { formed = tail-formed caret refl t e (w .formed); few = omega (arith, w .few, tail-few t) }
 caret-off t false e w = w
 
-dollar-off : (t : Text) (q : Bool) → lastIs dollar t ≡ q → Short t → Short (pick q (front t) t)
+dollar-off : (t : Text) (q : Bool) → lastIs dollar t ≡ q → ShortText t → ShortText (pick q (front t) t)
 unfolding pick
 dollar-off t true e w = record { formed = front-formed dollar refl border t e (w .formed); few = omega (arith, w .few, front-few t) }
 dollar-off t false e w = w
 
-inner-short : (t : Text) → boxed t ≡ true → Short t → Short (boxInner t)
+inner-short : (t : Text) → boxed t ≡ true → ShortText t → ShortText (boxInner t)
 unfolding boxed boxInner
 inner-short t b w =
     let p = and-inv _ _ b in
@@ -138,14 +138,14 @@ inner-short t b w =
 
 -- ---- a character that a box takes, as a text
 
-record Taken (hit : Bool) (l : Text) : Type 0 where
+record SomeTaken (hit : Bool) (l : Text) : Type 0 where
   text : Text
   code : ℕ
   reads : decodeAt text 0 ≡ Char code (length text)
   takes : pick (has code (codesOf l)) hit (not hit) ≡ true
 
 -- the first that is listed
-first-taken : (l : Text) → Short l → (length l ≡ 0 → ⊥) → (x : Step) → decodeAt l 0 ≡ x → Taken true l
+first-taken : (l : Text) → ShortText l → (length l ≡ 0 → ⊥) → (x : Step) → decodeAt l 0 ≡ x → SomeTaken true l
 first-taken l w some (Char k n) e =
     let c = char-at l 0 k n e in
     let long : length (take n l) ≡ n = length-take-le n l (omega (arith, c .end)) in
@@ -155,9 +155,9 @@ first-taken l w some Ill e = absurd (ill-not l 0 e (w .formed))
 first-taken l w some End e = absurd (some (omega (arith, end-at l 0 e)))
 
 -- of the 256 characters from U+0100 on one that is not
-other-taken : (l : Text) → Short l → Taken false l
+other-taken : (l : Text) → ShortText l → SomeTaken false l
 other-taken l w =
-    let u = unlisted 0x100 256 (codesOf l) (omega (arith, w .few, few-codes l)) in
+    let u = missing 0x100 256 (codesOf l) (omega (arith, w .few, few-codes l)) in
     record {
       text = encode (u .number);
       code = u .number;
@@ -165,18 +165,18 @@ other-taken l w =
       takes = pick-false _ _ _ (u .not-there);
     }
 
-taken : (hit : Bool) (l : Text) → Short l → takesNone hit l ≡ false → Taken hit l
+some-taken : (hit : Bool) (l : Text) → ShortText l → takesNone hit l ≡ false → SomeTaken hit l
 unfolding takesNone and
-taken true l w e = first-taken l w (λ q. clash (cc (sym (eq-eqb (length l) 0 q) ∙ e))) _ refl
-taken false l w e = other-taken l w
+some-taken true l w e = first-taken l w (λ q. clash (cc (sym (eq-eqb (length l) 0 q) ∙ e))) _ refl
+some-taken false l w e = other-taken l w
 
 -- ---- every context that is accepted
 
-module _ (s e : Bool) (t : Text) (a : Anchored s e) (w : Short t) (g : formGood (formIn s e t) ≡ true) where
-  box-some : (hit : Bool) (l : Text) → formIn s e t ≡ boxForm s e hit l → Short l → FitsSome (formIn s e t)
+module _ (s e : Bool) (t : Text) (a : Anchored s e) (w : ShortText t) (g : formGood (formIn s e t) ≡ true) where
+  box-some : (hit : Bool) (l : Text) → formIn s e t ≡ boxForm s e hit l → ShortText l → FitsSome (formIn s e t)
   unfolding formGood
   box-some hit l q v =
-      let c = taken hit l v (sym (box-empty s e hit l a) ∙ ap emptyBox (sym q) ∙ unnot _ (and-inv _ _ g .0)) in
+      let c = some-taken hit l v (sym (box-empty s e hit l a) ∙ ap emptyBox (sym q) ∙ unnot _ (and-inv _ _ g .0)) in
       rw q (record {
         text = c .text;
         formed = never-ill (c .text) (rw (take-length (c .text)) at (char-formed (c .text) 0 (c .code) _ (c .reads)));
@@ -203,8 +203,8 @@ module _ (names : List ℕ) (r : Rule) (g : ruleGood names r ≡ true) where
       let texts = good-texts names r g in
       let short = good-short names r g in
       let good = good-contexts names r g in
-      let left : Short (r .left) = record { formed = formed-of (r .left) (text-formed (r .left) (texts .left)); few = short .left } in
-      let right : Short (r .right) = record { formed = formed-of (r .right) (text-formed (r .right) (texts .right)); few = short .right } in
+      let left : ShortText (r .left) = record { formed = formed-of (r .left) (text-formed (r .left) (texts .left)); few = short .left } in
+      let right : ShortText (r .right) = record { formed = formed-of (r .right) (text-formed (r .right) (texts .right)); few = short .right } in
       record {
         left = rw (left-is (r .left)) (some-fits _ true _ (anchored-left _) (caret-off (r .left) _ refl left) (rw (left-is (r .left)) at (good .0)));
         right = rw (right-is (r .right)) (some-fits true _ _ (anchored-right _) (dollar-off (r .right) _ refl right) (rw (right-is (r .right)) at (good .1)));

@@ -1,2 +1,2 @@
-pub mod Unlisted
+pub mod Missing
 pub mod Fitting

@@ -1,4 +1,4 @@
--- Of more numbers than a list has places, one is not in it; so a box that is negated takes some character. Assumes nothing.
+-- Of more numbers than a list has, one is missing in it. So a box that is negated takes some character. Assumes nothing.
 use mathlib.Core.Path.{_≡_, refl, sym, ap, _∙_}
 use mathlib.Core.Bool.{Bool, true, false}
 use mathlib.Core.List.{List, [], _∷_}
@@ -18,43 +18,43 @@ use Rattle.texts.proofs.Chars.{has-cons, has-nil}
 
 -- ---- the list without its first x
 
-unfoldable without : ℕ → List ℕ → List ℕ
-without x [] = []
-without x (y ∷ l) = pick (eqb y x) l (y ∷ without x l)
+unfoldable minusFirst : ℕ → List ℕ → List ℕ
+minusFirst x [] = []
+minusFirst x (y ∷ l) = pick (eqb y x) l (y ∷ minusFirst x l)
 
 module _ (x y : ℕ) (l : List ℕ) where
-  shorter-by : (t : Bool) → pick t true (has x l) ≡ true → (has x l ≡ true → suc (length (without x l)) ≡ length l) → suc (length (pick t l (y ∷ without x l))) ≡ suc (length l)
+  shorter-by : (t : Bool) → pick t true (has x l) ≡ true → (has x l ≡ true → suc (length (minusFirst x l)) ≡ length l) → suc (length (pick t l (y ∷ minusFirst x l))) ≡ suc (length l)
   unfolding pick
   shorter-by true h ih = refl
   shorter-by false h ih = ap suc (ih h)
 
-  others-by : (k : ℕ) (t : Bool) → eqb y x ≡ t → (k ≡ x → ⊥) → has k (without x l) ≡ has k l → has k (pick t l (y ∷ without x l)) ≡ has k (y ∷ l)
+  others-by : (k : ℕ) (t : Bool) → eqb y x ≡ t → (k ≡ x → ⊥) → has k (minusFirst x l) ≡ has k l → has k (pick t l (y ∷ minusFirst x l)) ≡ has k (y ∷ l)
   unfolding pick
   others-by k true e n ih = sym (has-cons k y l ∙ pick-false _ _ _ (ne-eqb y k (λ q. n (sym q ∙ eqb-true y x e))))
-  others-by k false e n ih = has-cons k y (without x l) ∙ ap (pick (eqb y k) true) ih ∙ sym (has-cons k y l)
+  others-by k false e n ih = has-cons k y (minusFirst x l) ∙ ap (pick (eqb y k) true) ih ∙ sym (has-cons k y l)
 
-shorter : (x : ℕ) (l : List ℕ) → has x l ≡ true → suc (length (without x l)) ≡ length l
-unfolding without
+shorter : (x : ℕ) (l : List ℕ) → has x l ≡ true → suc (length (minusFirst x l)) ≡ length l
+unfolding minusFirst
 shorter x [] h = let none = has-nil x in clash (cc)
 shorter x (y ∷ l) h = shorter-by x y l (eqb y x) (sym (has-cons x y l) ∙ h) (shorter x l)
 
-others : (x k : ℕ) (l : List ℕ) → (k ≡ x → ⊥) → has k (without x l) ≡ has k l
-unfolding without
+others : (x k : ℕ) (l : List ℕ) → (k ≡ x → ⊥) → has k (minusFirst x l) ≡ has k l
+unfolding minusFirst
 others x k [] n = refl
 others x k (y ∷ l) n = others-by x y l k (eqb y x) refl n (others x k l n)
 
 -- ---- of the n numbers from m on
 
-pub record Unlisted (m n : ℕ) (l : List ℕ) : Type 0 where
+pub record Missing (m n : ℕ) (l : List ℕ) : Type 0 where
   pub number : ℕ
   pub from : m ≤ number
   pub below : number < m + n
   pub not-there : has number l ≡ false
 
-look : (m n : ℕ) (l : List ℕ) → ((k : List ℕ) → length k < n → Unlisted m n k) → length l < suc n → (t : Bool) → has (m + n) l ≡ t → Unlisted m (suc n) l
+look : (m n : ℕ) (l : List ℕ) → ((k : List ℕ) → length k < n → Missing m n k) → length l < suc n → (t : Bool) → has (m + n) l ≡ t → Missing m (suc n) l
 look m n l ih h false e = record { number = m + n; from = omega arith; below = omega arith; not-there = e }
 look m n l ih h true e =
-    let w = ih (without (m + n) l) (omega (arith, shorter (m + n) l e)) in
+    let w = ih (minusFirst (m + n) l) (omega (arith, shorter (m + n) l e)) in
     record {
       number = w .number;
       from = w .from;
@@ -62,9 +62,9 @@ look m n l ih h true e =
       not-there = sym (others (m + n) (w .number) l (λ q. omega (arith, w .below))) ∙ w .not-there;
     }
 
-pub unlisted : (m n : ℕ) (l : List ℕ) → length l < n → Unlisted m n l
-unlisted m zero l h = absurd (omega arith)
-unlisted m (suc n) l h = look m n l (unlisted m n) h (has (m + n) l) refl
+pub missing : (m n : ℕ) (l : List ℕ) → length l < n → Missing m n l
+missing m zero l h = absurd (omega arith)
+missing m (suc n) l h = look m n l (missing m n) h (has (m + n) l) refl
 
 -- ---- a text has no more code points than bytes
 
