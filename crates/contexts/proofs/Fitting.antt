@@ -35,13 +35,14 @@ use Rattle.rule_lines.specs.Contracts.{formGood}
 use Rattle.rule_lines.specs.declared.Fault.{Fault}
 use Rattle.rule_lines.specs.declared.Fault.the-variants.{Is, Without}
 use Rattle.rule_lines.proofs.Laws.{good-texts, good-short, good-contexts}
-use Rattle.pack.specs.Packs.{Pack, packOf, accepted, all}
+use Rattle.pack.specs.Packs.{Pack, Verdict, packOf, accepted, refused, verdictOf, all}
+use Rattle.pack.specs.Numbers.{checkedNumbers}
 use Rattle.pack.proofs.Laws.{ListsAt, no-list, one-list, is-pack}
 use Rattle.choices.specs.Texts.{Text}
 use Rattle.code_points.proofs.Bytes.{border, Formed, formed-of, never-ill, char-formed, ill-not}
 use Rattle.code_points.proofs.Cuts.{tail-formed, front-formed, between-formed}
 use Rattle.code_points.proofs.Packs.{rules-good}
-use Rattle.contexts.specs.Fitting.{FitsSome, ContextsFit, MatchesNowhere}
+use Rattle.contexts.specs.Fitting.{FitsSome, ContextsFit, AllContextsFit, MatchesNowhere}
 use Rattle.contexts.proofs.Missing.{missing, few-codes}
 
 -- ---- a rule with an empty box matches nowhere
@@ -222,5 +223,15 @@ list-in no-list rs m = absurd (List·Memᴰ·not-nil m)
 list-in (one-list w l) rs m = ⊎-elim (λ q. rw q (rules-good _ (w .value) (w .passes))) (λ n. list-in l rs n) (List·Memᴰ·cases-cons m)
 
 -- no context of an accepted pack is one that can never fit
-pub accepted-contexts-fit : (s : List ℕ) (p : Pack) → packOf s ≡ accepted p → (rs : List Rule) → List·Memᴰ rs (p .lists) → (r : Rule) → List·Memᴰ r rs → ContextsFit r
+pub accepted-contexts-fit : (s : List ℕ) (p : Pack) → packOf s ≡ accepted p → AllContextsFit p
+unfolding AllContextsFit
 accepted-contexts-fit s p e rs m r n = rule-in _ rs (list-in (is-pack s p e .lists) rs m) r n
+
+by-verdict : (s : List ℕ) (v : Verdict) → packOf s ≡ v → checkedNumbers (verdictOf v) ≡ 0 ∷ [] → (p : Pack) × (packOf s ≡ accepted p) × AllContextsFit p
+unfolding checkedNumbers verdictOf
+by-verdict s (accepted p) e q = (p, e, accepted-contexts-fit s p e)
+by-verdict s (refused n) e q = clash (cc)
+
+-- the same of what `check` promises: of any bytes to which it answers 0
+pub checked-contexts-fit : (s : List ℕ) → checkedNumbers (verdictOf (packOf s)) ≡ 0 ∷ [] → (p : Pack) × (packOf s ≡ accepted p) × AllContextsFit p
+checked-contexts-fit s q = by-verdict s (packOf s) refl q

@@ -61,6 +61,7 @@ unfoldable pub faultElse : Fault → Fault → Fault
 faultElse Without b = b
 faultElse (Is w) b = Is w
 
+-- "15 (left, then right)", and 20 "after 15 for both contexts"
 unfoldable pub contextsFault : Form → Form → Fault
 contextsFault left right = faultElse (contextFault (kindOf left)) (faultElse (contextFault (kindOf right)) (boxFault left right))
 
