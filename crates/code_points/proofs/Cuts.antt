@@ -1,5 +1,5 @@
 -- A well-formed text that is cut at a byte below 80, or joined, is well formed: expressions, words and names. Assumes nothing.
-use mathlib.Core.Path.{_≡_, refl, sym, ap, _∙_}
+use mathlib.Core.Path.{_≡_, refl, ap, _∙_}
 use mathlib.Core.Bool.{Bool, true, false}
 use mathlib.Core.List.{List, [], _∷_, _++_, List·Memᴰ, List·Memᴰ·cases-cons, List·Memᴰ·not-nil}
 use mathlib.Core.Logic.{⊎-elim}
@@ -9,11 +9,11 @@ use lib.ListN.{length, take, drop}
 use borrow.Author.Tests.{eqb-true}
 use Rattle.base.specs.Pick.{pick}
 use Rattle.texts.specs.Parts.{tail, front, firstIs, lastIs, placeOf, prefixOf}
+use Rattle.texts.proofs.Laws.{prefix-split}
 use Rattle.phonemes.specs.Expressions.{round, unround, bar, opening, onFirst, cutAt, inside, extra, piecesIn, textOf}
 use Rattle.choices.specs.Texts.{Text}
-use Rattle.base.proofs.Arms.{clash}
 use Rattle.code_points.proofs.Bytes.{State, border, step, after, Formed, formed-rest, sign-border}
-use Rattle.base.proofs.PickLaws.{pick-all, and-inv}
+use Rattle.base.proofs.PickLaws.{pick-all}
 
 pub data Every {A : Type 0} (P : A → Type 0) : List A → Type 0 where
   none : Every P []
@@ -90,17 +90,8 @@ between-formed b c h g [] p q f = f
 between-formed b c h g (x ∷ []) p q f = refl
 between-formed b c h g (x ∷ y ∷ l) p q f = front-formed c g border (y ∷ l) q (tail-formed b h (x ∷ y ∷ l) p f)
 
--- ---- a prefix
+-- ---- what follows a prefix
 
-pub prefix-split : (p s : Text) → prefixOf p s ≡ true → p ++ drop (length p) s ≡ s
-unfolding prefixOf
-prefix-split [] s e = refl
-prefix-split (x ∷ p) [] e = clash (cc)
-prefix-split (x ∷ p) (y ∷ s) e =
-    let w = and-inv _ _ e in
-    ap (λ (n : ℕ). n ∷ (p ++ drop (length p) s)) (sym (eqb-true y x (w .0))) ∙ ap (λ (l : Text). y ∷ l) (prefix-split p s (w .1))
-
--- what follows a prefix
 pub behind-formed : (p s : Text) → prefixOf p s ≡ true → Formed p → Formed s → Formed (drop (length p) s)
 behind-formed p s e f g = formed-rest p (drop (length p) s) f (rw (prefix-split p s e) g)
 

@@ -2,6 +2,7 @@
 use mathlib.Core.Path.{_≡_, refl, sym, ap, _∙_}
 use mathlib.Core.Bool.{Bool, true, false, not}
 use mathlib.Core.List.{List, [], _∷_}
+use mathlib.Core.Logic.{⊎-elim}
 use Prim.Native.Nat.{ℕ, zero, suc, _-_, _<_}
 use native.Mathlib.Decide.{decLt}
 use native.Mathlib.Numerals.{add-one}
@@ -21,8 +22,10 @@ use Rattle.letters.proofs.ReadingLaws.{Pieces, end, one, bad, pieces-of}
 use Rattle.lower_case.specs.Lower.{lowerTable, lowerOf, lowerIn, lowerText}
 use Rattle.lower_case.proofs.LowerLaws.{lower-in, lower-past}
 use Rattle.languages.specs.declared.sets.LanguageSet.{LanguageSet}
-use Rattle.texts.specs.Parts.{tail, prefixOf}
-use Rattle.prefixes.specs.Prefixes.{generic, prefixesOf, prefixFits, firstFit, splitOf}
+use Rattle.texts.specs.Parts.{tail}
+use Rattle.texts.proofs.Laws.{prefix-split}
+use Rattle.prefixes.specs.Prefixes.{generic, prefixesOf, prefixFits, among, splitOf, isPrefix}
+use Rattle.prefixes.proofs.Longest.{among-cases, split-all}
 use Rattle.prefixes.specs.declared.prefixes.NameType.{NameType}
 use Rattle.prefixes.specs.declared.prefixes.NameType.the-variants.{Ashkenazi, Generic, Sephardic}
 use Rattle.prefixes.specs.declared.prefixes.Prefix.{Prefix}
@@ -37,7 +40,7 @@ use Rattle.base.proofs.Arms.{clash}
 use Rattle.engine.specs.Spelling.{Steps, partedAs}
 use Rattle.answers.specs.Answers.{WordOf, all-joined, only-word, of-word, of-remainder, of-joined}
 use Rattle.code_points.proofs.Bytes.{State, border, needs, lost, plain, next, high, step, after, Formed, after-append, formed-append, sign-border, char-formed}
-use Rattle.code_points.proofs.Cuts.{Every, none, more, every-at, tail-formed, prefix-split, behind-formed}
+use Rattle.code_points.proofs.Cuts.{Every, none, more, every-at, tail-formed, behind-formed}
 use Rattle.base.proofs.PickLaws.{pick-all, and-inv}
 
 -- ---- by a test that antt computes
@@ -194,29 +197,27 @@ fit-formed p s e f g =
     let rest : tail (drop (length p) s) ≡ drop (suc (length p)) s = tail-drop (drop (length p) s) ∙ drop-drop 1 (length p) s ∙ ap (λ (n : ℕ). drop n s) (add-one (length p)) in
     (rw front f, rw rest at (tail-formed 32 refl (drop (length p) s) (w .1) (behind-formed p s (w .0) f g)))
 
-first-by : (p s : Text) (x : Prefix) (t : Bool) → prefixFits p s ≡ t → Formed p → Formed s → PartsFormed x s → PartsFormed (pick t (Leads (length p) (suc (length p))) x) s
-unfolding pick
-first-by p s x true e f g w = fit-formed p s e f g
-first-by p s x false e f g w = w
-
-fit-parts : (s : Text) → Formed s → {ps : List Text} → Every Formed ps → PartsFormed (firstFit ps s) s
-unfolding firstFit PartsFormed
-fit-parts s g none = tt
-fit-parts s g (more {x = p} f e) = first-by p s _ (prefixFits p s) refl f g (fit-parts s g e)
-
 generic-formed : Every Formed (prefixesOf Generic)
 unfolding prefixesOf all isBorder after step plain pick and
 generic-formed = every-by generic refl
 
-split-by : (s : Text) (t : Bool) → prefixOf (100 ∷ 39 ∷ []) s ≡ t → Formed s → PartsFormed (pick t (Leads 1 2) (firstFit (prefixesOf Generic) s)) s
-unfolding pick PartsFormed after step plain
-split-by s true e f = (ap (λ (t : Text). after border (take 1 t)) (sym (prefix-split (100 ∷ 39 ∷ []) s e)), behind-formed (100 ∷ 39 ∷ []) s e refl f)
-split-by s false e f = fit-parts s f generic-formed
+prefix-formed : (p : Text) {ps : List Text} → Every Formed ps → among ps p ≡ true → Formed p
+unfolding among
+prefix-formed p none m = clash (cc)
+prefix-formed p (more {x = q} f e) m = ⊎-elim (λ k. rw k at f) (λ k. prefix-formed p e k) (among-cases q p _ m)
+
+split-formed : (s : Text) → Formed s → PartsFormed (splitOf s) s
+unfolding PartsFormed after step plain isPrefix
+split-formed s f =
+    split-all s (λ (x : Prefix). PartsFormed x s)
+    (λ e. (ap (λ (t : Text). after border (take 1 t)) (sym (prefix-split (100 ∷ 39 ∷ []) s e)), behind-formed (100 ∷ 39 ∷ []) s e refl f))
+    (λ p g. fit-formed p s (g .fits) (prefix-formed p generic-formed (g .listed)) f)
+    tt
 
 parted-formed : (kind : NameType) (s : Text) → Formed s → PartsFormed (partedAs kind s) s
-unfolding partedAs splitOf PartsFormed
+unfolding partedAs PartsFormed
 parted-formed Ashkenazi s f = tt
-parted-formed Generic s f = split-by s _ refl f
+parted-formed Generic s f = split-formed s f
 parted-formed Sephardic s f = tt
 
 -- ---- the words of a name

@@ -9,6 +9,7 @@ use lib.ListN.{length, getD, drop}
 use lib.Seq.{drop-drop}
 use Rattle.base.specs.Pick.{pick}
 use Rattle.texts.specs.Parts.{firstIs, lastIs, prefixOf}
+use Rattle.texts.proofs.Laws.{prefix-split}
 use Rattle.rule.specs.Matching.{ruleMatches}
 use Rattle.phonemes.specs.Expressions.{round, unround, formed, checkedOf}
 use Rattle.phonemes.specs.declared.answers.Expression.the-variants.{Good}
@@ -20,7 +21,7 @@ use Rattle.base.proofs.Arms.{clash}
 use Rattle.rule_index.specs.Matching.{Match, by, firstMatch}
 use Rattle.engine.specs.Calls.{listNumbered}
 use Rattle.code_points.proofs.Bytes.{formed-of}
-use Rattle.code_points.proofs.Cuts.{prefix-split, pieces-formed}
+use Rattle.code_points.proofs.Cuts.{pieces-formed}
 use Rattle.code_points.proofs.Passes.{Fitting, Sound}
 use Rattle.base.proofs.PickLaws.{pick-inv, and-inv}
 

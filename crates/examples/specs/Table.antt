@@ -1,4 +1,4 @@
--- Document 01's first twelve examples: what the definitions compute, beside what the paper says.
+-- Document 01's first twelve examples, the twelfth as ticket 5 of document 02 amends it: what the definitions compute, beside what the papers say.
 use Prim.Native.Nat.{ℕ}
 use mathlib.Core.Path.{_≡_}
 use mathlib.Core.Bool.{Bool, true, false}
@@ -98,7 +98,8 @@ table =
     ∷ row (applying 0 choice) (spellings (ran [] true))
     ∷ row (appending (122 ∷ []) (entry (97 ∷ []) Any ∷ entry (97 ∷ 98 ∷ []) Any ∷ []))
     (spellings (ran (entry (97 ∷ 98 ∷ 122 ∷ []) Any ∷ entry (97 ∷ 122 ∷ []) Any ∷ []) false))
-    ∷ row (partsOf (100 ∷ 101 ∷ 32 ∷ 108 ∷ 97 ∷ 32 ∷ 99 ∷ 114 ∷ 117 ∷ 122 ∷ [])) (parts (108 ∷ 97 ∷ 32 ∷ 99 ∷ 114 ∷ 117 ∷ 122 ∷ []) (100 ∷ 101 ∷ 108 ∷ 97 ∷ 32 ∷ 99 ∷ 114 ∷ 117 ∷ 122 ∷ []))
+    ∷ row (partsOf (100 ∷ 101 ∷ 32 ∷ 108 ∷ 97 ∷ 32 ∷ 99 ∷ 114 ∷ 117 ∷ 122 ∷ [])) (parts (99 ∷ 114 ∷ 117 ∷ 122 ∷ []) (100 ∷ 101 ∷ 32 ∷ 108 ∷ 97 ∷ 99 ∷ 114 ∷ 117 ∷ 122 ∷ []))
+    ∷ row (partsOf (100 ∷ 101 ∷ 32 ∷ 108 ∷ 97 ∷ 99 ∷ 114 ∷ 117 ∷ 122 ∷ [])) (parts (108 ∷ 97 ∷ 99 ∷ 114 ∷ 117 ∷ 122 ∷ []) (100 ∷ 101 ∷ 108 ∷ 97 ∷ 99 ∷ 114 ∷ 117 ∷ 122 ∷ []))
     ∷ []
 
 -- each row's two sides are the same

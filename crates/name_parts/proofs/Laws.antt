@@ -12,10 +12,12 @@ use lib.Seq.{take-length, drop-length, drop-drop, length-take-le}
 use borrow.Author.Tests.{eqb-true, not-true, not-false}
 use Rattle.base.specs.Pick.{pick}
 use Rattle.base.proofs.Arms.{clash}
+use Rattle.letters.specs.Order.{sameText}
 use Rattle.texts.specs.Parts.{has}
 use Rattle.texts.proofs.Laws.{first-some-by, prefix-within}
 use Rattle.name_parts.specs.Words.{goesOn, led, wordsOf, spaces, letters, wordStart, wordEnd, pastWord, stretch, wordAt, oneWord}
-use Rattle.prefixes.specs.Prefixes.{generic, prefixesOf, prefixFits, firstFit, splitOf}
+use Rattle.prefixes.specs.Prefixes.{prefixesOf, prefixFits, among, splitOf, isPrefix}
+use Rattle.prefixes.proofs.Longest.{split-all}
 use Rattle.name_parts.specs.Joining.{spaced, joinedName, afterApostrophe, keptOf, dropsOut, remaining, joinedBySpace, joinedWords}
 use Rattle.prefixes.specs.declared.prefixes.NameType.{NameType}
 use Rattle.prefixes.specs.declared.prefixes.NameType.the-variants.{Ashkenazi, Generic, Sephardic}
@@ -231,36 +233,25 @@ fits-within : (p s : List ℕ) → prefixFits p s ≡ true → length p < length
 unfolding prefixFits
 fits-within p s e = let l = first-some-by 32 (drop (length p) s) true (sym (and-inv _ _ e .1)) refl in omega (arith, length-drop (length p) s)
 
--- no text of a list is empty
-unfoldable filled : List (List ℕ) → Bool
-filled [] = true
-filled ([] ∷ ps) = false
-filled ((b ∷ p) ∷ ps) = filled ps
-
-abbrev Parts : List ℕ → ℕ → ℕ → Type 0
-Parts s size rest = (size < rest) × (rest ≤ length s) × (1 ≤ size)
-
-fit-by : (s : List ℕ) (size rest n : ℕ) (x : Prefix) (t : Bool) → (t ≡ true → suc n < length s) → (x ≡ Leads size rest → Parts s size rest)
-    → pick t (Leads (suc n) (suc (suc n))) x ≡ Leads size rest → Parts s size rest
-unfolding pick
-fit-by s size rest n x true h ih e =
-    let k : suc n ≡ size = cc in
-    let l : suc (suc n) ≡ rest = cc in
-    let m = h refl in
-    (omega arith, omega arith, omega arith)
-fit-by s size rest n x false h ih e = ih e
-
-fit-within : (ps : List (List ℕ)) (s : List ℕ) (size rest : ℕ) → filled ps ≡ true → firstFit ps s ≡ Leads size rest → Parts s size rest
-unfolding filled firstFit
-fit-within [] s size rest f e = clash (cc)
-fit-within ([] ∷ ps) s size rest f e = clash (cc)
-fit-within ((b ∷ p) ∷ ps) s size rest f e = fit-by s size rest (length p) _ _ (fits-within (b ∷ p) s) (fit-within ps s size rest f) e
+-- no prefix is empty
+prefix-some : (p : List ℕ) → isPrefix Generic p ≡ true → 1 ≤ length p
+unfolding isPrefix prefixesOf among sameText pick
+prefix-some [] e = clash (cc)
+prefix-some (b ∷ p) e = omega arith
 
 module _ (s : List ℕ) (size rest : ℕ) (e : splitOf s ≡ Leads size rest) where
   -- the prefix is not empty, the remainder stands behind it, and both within the name
   pub split-within : (size < rest) × (rest ≤ length s) × (1 ≤ size)
-  unfolding splitOf prefixesOf filled
-  split-within = fit-by s size rest 0 _ _ (prefix-within (100 ∷ 39 ∷ []) s) (fit-within generic s size rest refl) e
+  split-within =
+      split-all s (λ (x : Prefix). x ≡ Leads size rest → (size < rest) × (rest ≤ length s) × (1 ≤ size))
+      (λ f q. let k : 1 ≡ size = cc in let l : 2 ≡ rest = cc in let m = prefix-within (100 ∷ 39 ∷ []) s f in (omega arith, omega arith, omega arith))
+      (λ p f q.
+      let k : length p ≡ size = cc in
+      let l : suc (length p) ≡ rest = cc in
+      let m = fits-within p s (f .fits) in
+      let n = prefix-some p (f .listed) in
+      (omega arith, omega arith, omega arith))
+      (λ q. clash (cc)) e
 
   pub rest-shorter : length (drop rest s) < length s
   rest-shorter = let w = split-within in omega (arith, length-drop rest s)

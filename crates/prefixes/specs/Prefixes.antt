@@ -1,5 +1,5 @@
--- Prefixes (01, Spelling a name, step 3, and "Prefixes").
-use Prim.Native.Nat.{ℕ, suc}
+-- Prefixes (01, Spelling a name, step 3, and "Prefixes"; 02, ticket 5).
+use Prim.Native.Nat.{ℕ, suc, max}
 use mathlib.Core.Bool.{Bool, true, false}
 use mathlib.Core.List.{List, [], _∷_}
 use lib.ListN.{length, drop}
@@ -23,7 +23,7 @@ generic = (100 ∷ 97 ∷ []) ∷ (100 ∷ 97 ∷ 108 ∷ []) ∷ (100 ∷ 101 �
 abbrev pub sephardic : List (List ℕ)
 sephardic = (97 ∷ 108 ∷ []) ∷ (101 ∷ 108 ∷ []) ∷ generic
 
--- in the order in which they are tried
+-- in the stated order
 unfoldable pub prefixesOf : NameType → List (List ℕ)
 prefixesOf Ashkenazi = ashkenazi
 prefixesOf Generic = generic
@@ -33,14 +33,28 @@ prefixesOf Sephardic = sephardic
 unfoldable pub prefixFits : List ℕ → List ℕ → Bool
 prefixFits p s = and (prefixOf p s) (firstIs 32 (drop (length p) s))
 
--- the first that fits: its bytes are kept, and the space behind it is passed too
-unfoldable pub firstFit : List (List ℕ) → List ℕ → Prefix
-firstFit [] s = Whole
-firstFit (p ∷ ps) s = pick (prefixFits p s) (Leads (length p) (suc (length p))) (firstFit ps s)
+-- those of some texts that pass a test
+unfoldable pub passing : (List ℕ → Bool) → List (List ℕ) → List (List ℕ)
+passing f [] = []
+passing f (p ∷ ps) = pick (f p) (p ∷ passing f ps) (passing f ps)
 
--- "if it starts with `d'`, or else with a prefix and a space (prefixes in the order below)"
+-- "prefixes that fit"
+unfoldable pub thatFit : List (List ℕ) → List ℕ → List (List ℕ)
+thatFit ps s = passing (λ (p : List ℕ). prefixFits p s) ps
+
+-- how long the longest of some texts is
+unfoldable pub longest : List (List ℕ) → ℕ
+longest [] = 0
+longest (p ∷ ps) = max (length p) (longest ps)
+
+-- a name led by the longest of some prefixes: its bytes are kept, and the space behind it is passed too; by none, the name is one whole
+unfoldable pub ledBy : List (List ℕ) → Prefix
+ledBy [] = Whole
+ledBy (p ∷ ps) = Leads (longest (p ∷ ps)) (suc (longest (p ∷ ps)))
+
+-- "if it starts with `d'`" (01, step 3), or else "among prefixes that fit, the longest is taken" (02, ticket 5)
 unfoldable pub splitOf : List ℕ → Prefix
-splitOf s = pick (prefixOf (100 ∷ 39 ∷ []) s) (Leads 1 2) (firstFit (prefixesOf Generic) s)
+splitOf s = pick (prefixOf (100 ∷ 39 ∷ []) s) (Leads 1 2) (ledBy (thatFit (prefixesOf Generic) s))
 
 unfoldable pub among : List (List ℕ) → List ℕ → Bool
 among [] w = false

@@ -1,6 +1,7 @@
 // Prefixes of names (01, Spelling a name): small tables of bytes, walked in the stated order.
 ghost use mathlib.Core.Path.{_≡_};
-ghost use Rattle.prefixes.specs.Prefixes.{prefixFits, firstFit, among, prefixesOf, splitOf, isPrefix};
+ghost use Rattle.prefixes.specs.Prefixes.{prefixFits, thatFit, ledBy, among, prefixesOf, splitOf, isPrefix};
+ghost use Rattle.prefixes.specs.Contracts.{longerThan};
 ghost use Rattle.strings.specs.Reading.{stringsOf};
 use strings::Next;
 
@@ -37,24 +38,40 @@ fn fits_with_space(s: &[u8], p: &[u8]) -> bool
     }
 }
 
-// The first prefix of the table that stands before a space at the front of s.
-fn first_fit(t: &[u8], s: &[u8]) -> Prefix
-    ensures { λ r. ⌜ r ≡ firstFit (stringsOf (now (t .entry))) (now (s .entry)) ⌝ }
+// Whether a prefix of so many bytes is longer than the longest so far.
+fn is_longer(size: usize, best: Prefix) -> bool
+    ensures { λ r. ⌜ r ≡ longerThan best size ⌝ }
+{
+    match best {
+        Prefix::Leads {
+            size: most,
+            rest: _,
+        } => most < size,
+        Prefix::Whole => true,
+    }
+}
+
+// The longest prefix of the table that stands before a space at the front of s.
+fn longest_fit(t: &[u8], s: &[u8]) -> Prefix
+    ensures { λ r. ⌜ r ≡ ledBy (thatFit (stringsOf (now (t .entry))) (now (s .entry))) ⌝ }
 {
     let mut at: usize = 0;
+    let mut best = Prefix::Whole;
     loop {
         match strings::string_at(t, at) {
             Next::Whole { start, end } => {
-                if fits_with_space(s, &t[start..end]) {
-                    // The space behind the prefix is passed in place of the length byte before it.
-                    return Prefix::Leads {
-                        size: end - start,
-                        rest: end - at,
-                    };
+                if is_longer(end - start, best) {
+                    if fits_with_space(s, &t[start..end]) {
+                        // The space behind the prefix is passed in place of the length byte before it.
+                        best = Prefix::Leads {
+                            size: end - start,
+                            rest: end - at,
+                        };
+                    }
                 }
                 at = end;
             }
-            Next::Cut => return Prefix::Whole,
+            Next::Cut => return best,
         }
     }
 }
@@ -77,14 +94,14 @@ fn is_among(t: &[u8], w: &[u8]) -> bool
     }
 }
 
-// Where a Generic name is parted: `d'`, or else a prefix and a space.
+// Where a Generic name is parted: behind `d'`, or else behind the longest prefix that stands before a space.
 pub fn prefix_of(s: &[u8]) -> Prefix
     ensures { λ r. ⌜ r ≡ splitOf (now (s .entry)) ⌝ }
 {
     if texts::starts_with(s, b"d'") {
         return Prefix::Leads { size: 1, rest: 2 };
     }
-    first_fit(&GENERIC, s)
+    longest_fit(&GENERIC, s)
 }
 
 // Whether a word is one of the type's prefixes.

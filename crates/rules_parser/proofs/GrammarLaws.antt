@@ -7,10 +7,11 @@ use Prim.Native.Nat.{ℕ, _+_, _≤_, _<_}
 use native.Mathlib.Omega.{arith}
 use lib.ListN.{length, drop}
 use lib.Seq.{drop-drop}
-use borrow.Author.Tests.{le-leb, lt-leb, leb-true, eqb-true}
+use borrow.Author.Tests.{le-leb, lt-leb, leb-true}
 use Rattle.base.specs.Pick.{pick, and}
 use Rattle.letters.specs.Order.{sameText}
 use Rattle.texts.specs.Parts.{prefixOf}
+use Rattle.texts.proofs.Laws.{prefix-split}
 use Rattle.languages.specs.Names.{languageName, allLetters, isLetter, common}
 use Rattle.rules_parser.specs as specs
 use specs.Fields.{partOf, spanEnd, pairAt, endsAt}
@@ -43,15 +44,6 @@ Means k f l Comment = CommentLine l
 Means k f l Opens = OpeningLine l
 Means k f l (Tells t) = LineSays k l (saidOf f t)
 Means k f l Bad = Unit {0}
-
-prefix-told : (t l : List ℕ) → prefixOf t l ≡ true → l ≡ t ++ drop (length t) l
-unfolding prefixOf
-prefix-told [] l e = refl
-prefix-told (x ∷ t) [] e = absurd (false≢true e)
-prefix-told (x ∷ t) (y ∷ l) e =
-    let w = and-inv _ _ e in
-    let h : y ≡ x = eqb-true _ _ (w .0) in
-    rw h (ap (λ (r : List ℕ). x ∷ r) (prefix-told t l (w .1)))
 
 -- a field, or blanks and a field, in front of what follows
 met-then : {k : FieldKind} {s : List ℕ} {p : ℕ} {t : Text} {q : ℕ} {A B : Shape} → (m : Met k s p t q) → A (m .written) → B (drop q s)
@@ -106,7 +98,7 @@ module _ (s z : List ℕ) (p q : ℕ) (x : List ℕ) (e : drop p s ≡ x ++ drop
       on-field Rules _ _ _ (parted-met Plain s (q + 8)) λ t r m.
       pick-where (M Rules) _ _ _
       (λ h.
-      let d : drop q s ≡ includeWord ++ drop (q + 8) s = prefix-told includeWord (drop q s) w ∙ ap (λ (l : List ℕ). includeWord ++ l) (drop-drop 8 q s) in
+      let d : drop q s ≡ includeWord ++ drop (q + 8) s = sym (prefix-split includeWord (drop q s) w) ∙ ap (λ (l : List ℕ). includeWord ++ l) (drop-drop 8 q s) in
       rw (m .field .same z)
       (is-include (x, drop q s, e, b, (includeWord, drop (q + 8) s, d, refl, parted-then {A = Word (partOf s t)} {B = Blanks} m (m .field .shape) (ends-told s r (leb-true _ _ h))))))
       (λ h. tt)

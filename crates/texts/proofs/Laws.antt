@@ -1,7 +1,7 @@
 -- A law for each way that the loops and branches of the code can go, and what callers use. Assumes nothing.
 use mathlib.Core.Path.{_≡_, refl, sym, ap, _∙_}
 use mathlib.Core.Bool.{Bool, true, false}
-use mathlib.Core.List.{List, [], _∷_}
+use mathlib.Core.List.{List, [], _∷_, _++_}
 use Prim.Native.Nat.{ℕ, zero, suc, _+_, _-_, _≤_, _<_, zero-le}
 use native.Mathlib.Decide.{decLe}
 use native.Mathlib.Nat.{sub-zero}
@@ -15,7 +15,7 @@ use borrow.Author.Tests.{lt-ltb, le-ltb, eq-eqb, ne-eqb, eqb-true}
 use Rattle.base.specs.Pick.{pick, and}
 use Rattle.texts.specs.Parts.{tail, front, firstIs, lastIs, placeOf, prefixOf, suffixOf, caret, dollar, withoutCaret, withoutDollar}
 use Rattle.base.proofs.Arms.{clash}
-use Rattle.base.proofs.PickLaws.{pick-true, pick-false, and-no, and-inv}
+use Rattle.base.proofs.PickLaws.{pick-true, pick-false, and-yes, and-no, and-inv}
 
 -- ---- the first and the last byte
 
@@ -157,6 +157,25 @@ prefix-byte [] s e i h = absurd (omega arith)
 prefix-byte (x ∷ t) [] e i h = clash (cc)
 prefix-byte (x ∷ t) (y ∷ s) e zero h = eqb-true y x (and-inv _ _ e .0)
 prefix-byte (x ∷ t) (y ∷ s) e (suc i) h = prefix-byte t s (and-inv _ _ e .1) i (omega arith)
+
+pub prefix-split : (t s : List ℕ) → prefixOf t s ≡ true → t ++ drop (length t) s ≡ s
+unfolding prefixOf
+prefix-split [] s e = refl
+prefix-split (x ∷ t) [] e = clash (cc)
+prefix-split (x ∷ t) (y ∷ s) e =
+    let w = and-inv _ _ e in
+    ap (λ (n : ℕ). n ∷ (t ++ drop (length t) s)) (sym (eqb-true y x (w .0))) ∙ ap (λ (l : List ℕ). y ∷ l) (prefix-split t s (w .1))
+
+-- of two beginnings of a text the shorter begins the other
+pub prefix-nested : (t u s : List ℕ) → prefixOf t s ≡ true → prefixOf u s ≡ true → length t ≤ length u → prefixOf t u ≡ true
+unfolding prefixOf
+prefix-nested [] u s e f h = refl
+prefix-nested (x ∷ t) [] s e f h = absurd (omega arith)
+prefix-nested (x ∷ t) (y ∷ u) [] e f h = clash (cc)
+prefix-nested (x ∷ t) (y ∷ u) (z ∷ s) e f h =
+    let a = and-inv (eqb z x) _ e in
+    let b = and-inv (eqb z y) _ f in
+    and-yes _ _ (eq-eqb y x (sym (eqb-true z y (b .0)) ∙ eqb-true z x (a .0))) (prefix-nested t u s (a .1) (b .1) (omega arith))
 
 pub record Matching (t s : List ℕ) (i : ℕ) : Type 0 where
   pub fits : length t ≤ length s
