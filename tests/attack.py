@@ -9,8 +9,9 @@ answer. Every difference is printed; at the end stand the figures, and for each 
 different places. The exit status is 1 where something differs.
 
   names    the program keys over the real rules and random packs, under settings of every kind, odd ones too. Every key and flag is
-           the original's, with a share also the second check's; where the original cannot judge (a damaged name, an odd setting, 7, 8)
-           the second check does, and the original's counts show the cause of the shortest of each 7 and 8.
+           the original's, with a share also the second check's; where the original cannot judge (a damaged name, an odd setting, 7, 8,
+           and names where two prefixes fit, which are left out by 02, ticket 5) the second check does, and the original's counts show
+           the cause of the shortest of each 7 and 8.
   packs    accepted packs and what damage makes of them, contexts that are boxes of every kind among it, through ask: verdict and place
            are the second check's; from those that stay accepted names are spelled. A share goes through keys as files.
   bundles  rule files of every kind and what damage makes of them, through ask: the pack, or number, line and file, are the second
@@ -81,6 +82,7 @@ class Figures:
         print("%-8s %10s %20s %24s" % ("", "tried", "against the original", "against the second check"))
         for kind in ("names", "packs", "bundles"):
             print("%-8s %10d %20d %24d" % (kind, counts[kind], counts[kind, "original"], counts[kind, "second"]))
+        print("names where two prefixes fit, here or in a name spelled afresh, left out of what is held against the original: %d" % counts["names", "two fit"])
         print("accepted: %d packs, %d bundles; done: %d answers; cause of 7 or 8 shown by the original: %d, it came to no end: %d" % (
             counts["packs", "accepted"], counts["bundles", "accepted"], self.codes[0], counts["shown"], counts["silent"]))
         print("%8s %10s %17s" % ("refusal", "seen", "different places"))
@@ -282,12 +284,13 @@ class Names:
         for name, answer in zip(names, answers):
             self.figures.counts["names"] += 1
             self.figures.answered(answer)
-            spelled = answer[0] in (0, 9) and not odd
-            if spelled:
-                keyed.append((name, answer))
-            elif answer[0] in (7, 8):
-                refused.append((name, answer))
-            if not spelled or self.rng.randrange(SHARE) == 0:
+            reached = answer[0] in (0, 7, 8, 9) and not odd             # nothing was refused before the name was spelled
+            left = reached and second.two_prefixes_fit(setting.settings, name)
+            if left:
+                self.figures.counts["names", "two fit"] += 1
+            elif reached:
+                (keyed if answer[0] in (0, 9) else refused).append((name, answer))
+            if left or not reached or answer[0] in (7, 8) or self.rng.randrange(SHARE) == 0:
                 self.by_second(rules, setting, name, answer)
         if keyed:
             self.by_original(rules, setting, keyed)

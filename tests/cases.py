@@ -603,6 +603,40 @@ def spelling_random(rng, count):
             yield spell_case(data, settings, given, rng.choice((0, 5, 20, 80, 80, 200)), name_over(rng, sounds))
 
 
+# ---- request 5: the longest prefix first
+
+PARTED_PACK = edge_pack(["any"], [(letter, letter) for letter in "adelnv"], [])         # a key shows how its name was parted
+
+
+def parted_names():
+    """Every name of up to four of some words: prefixes of which two fit, here or in a name spelled afresh, and such that nearly do."""
+    for count in range(1, 5):
+        for words in itertools.product(("de", "la", "dela", "d'de", "van", "a"), repeat=count):
+            yield from dict.fromkeys(between.join(words).encode() for between in (" ", "-", "  "))
+
+
+# two prefixes fit, here or in a name spelled afresh; and names of which that is nearly so
+AMENDED = ["de la ", "de la a", "De-La A", "de  la a", "de la  a", "d'de la a", "van de la a", "de de la a", "de la de la a", "de la d'a",
+           "de la -a", "de la " + "a" * 90, "de la", "de laa", "dela a", "a de la a", " de la a", "d' de la a"]
+
+
+def prefixes_named():
+    """These under each type, with and without concat; some with languages given, and in buffers that just have room and have not."""
+    for name, name_type, concat in itertools.product(AMENDED, range(3), range(2)):
+        yield spell_case(PARTED_PACK, (name_type, 0, concat, 20), None, 120, name.encode())
+    for name, given in itertools.product(AMENDED, ((0, 0), (1, 0), (2, 1))):
+        yield spell_case(PARTED_PACK, (1, 0, 0, 20), given, 120, name.encode())
+    for room in range(18, 22):
+        yield spell_case(PARTED_PACK, (1, 0, 0, 20), None, room, b"de la a")
+
+
+def prefixes_all():
+    yield from prefixes_named()
+    for name in parted_names():
+        for name_type, concat in itertools.product(range(3), range(2)):
+            yield spell_case(PARTED_PACK, (name_type, 0, concat, 20), None, 120, name)
+
+
 # ---- request 12: in which order languages are narrowed
 
 # languages, main rules before and after a move, a name, and its keys before and after
@@ -1045,6 +1079,7 @@ LAYERS = {
     "packs": (packs_all, packs_random),
     "words": (words_all, words_random),
     "spelling": (spelling_all, spelling_random),
+    "prefixes": (prefixes_all, None),
     "loading": (loading_all, loading_random),
     "blocks": (block_all, block_random),
     "narrowing": (narrowing_all, None),

@@ -3,7 +3,7 @@
 
     tests/keys.py [--packs N] [--wide N] [--names N] [--seed N] [--real] [--port ask] [--bulk N]
 
-Tried are the edges of cases.py, N random packs, N whose sets grow to hundreds of texts, and with --real the real rules
+Tried are the edges and the names of prefixes of cases.py, N random packs, N whose sets grow to hundreds of texts, and with --real the real rules
 (oracle/rules fetches them) less the lines that document 01 refuses; each under settings of every kind, with N random names a
 setting. With --port the port's program answers the same as case lines, and odd ones besides. Every difference is printed, then what
 was compared; the exit status is 1 where there is a difference. The original is built by oracle/build; bm-probe gives its keys. With
@@ -12,6 +12,8 @@ and is held against the original itself.
 
 Where document 01 refuses with 7 or 8 the original gives a key; compared is that its counts show the cause. It has no bounds, so it
 is asked for the shortest such names only, and with a bound on its time; where it does not come to an end it is counted as silent.
+Names where two prefixes fit, here or in a name spelled afresh, are left out (02, ticket 5): of them the second check judges the port,
+and how many there were stands under "two fit".
 """
 import argparse
 import collections
@@ -198,7 +200,7 @@ class Port:
 
 # ---- what was compared
 
-COLUMNS = ("keys", "flag up", "no text", "7", "7 shown", "8", "8 shown", "silent", "words", "differ")
+COLUMNS = ("keys", "flag up", "no text", "7", "7 shown", "8", "8 shown", "silent", "two fit", "words", "differ")
 
 
 class Tally:
@@ -232,6 +234,14 @@ class Tally:
             self.count(rules, setting, "differ")
             self.differs(rules.packs[setting.settings.name_type], spelling_line(setting, second.LARGEST_ROOM, name),
                          ("second", answer), ("original", told))
+
+    def two_fit(self, rules, setting, name, answer, wanted):
+        """An answer that is not the original's to judge, and the second check's."""
+        self.count(rules, setting, "two fit")
+        if answer != wanted:
+            self.count(rules, setting, "differ")
+            self.differs(rules.packs[setting.settings.name_type], spelling_line(setting, second.LARGEST_ROOM, name),
+                         ("port", answer), ("second", wanted))
 
     def word(self, rules, setting, line, told, answer):
         """A `word` line's answer of the second check and what the original told of that name."""
@@ -270,7 +280,7 @@ def compare_words(rng, rules, setting, names, answers, told, tally, port):
     lines.checked = rules.checked[name_type]
     for place, answer in enumerate(answers):
         word = plain_word(name_type, names[place])
-        if setting.settings.concat or answer[0] or told[place] is None or word == "" or rng.randrange(4):
+        if setting.settings.concat or answer[0] or told.get(place) is None or word == "" or rng.randrange(4):
             continue
         line = word_line(lines.checked, setting, word)
         tally.word(rules, setting, line, told[place], lines.answer(line))
@@ -289,15 +299,28 @@ def compare_port(rng, rules, setting, names, answers, port):
     port.ask(some, line, lines.answer(line))
 
 
+def spelled_by_second(rules, setting, name):
+    return second.spell(setting.settings, rules.checked[setting.settings.name_type], name, setting.given)
+
+
+def compare_keys(rules, setting, names, answers, tally):
+    """Answers against the original, but those of names where two prefixes fit: these places, and what the original told of others."""
+    left = {place for place, name in enumerate(names) if second.two_prefixes_fit(setting.settings, name)}
+    held = [place for place in range(len(names)) if place not in left]
+    told = original(rules, setting, [names[place] for place in held], [answers[place] for place in held])
+    for place in left:
+        tally.two_fit(rules, setting, names[place], answers[place], spelled_by_second(rules, setting, names[place]))
+    for number, place in enumerate(held):
+        if number in told and told[number] is None:
+            tally.silent(rules, setting)
+        tally.key(rules, setting, names[place], answers[place], told.get(number))
+    return {held[number]: one for number, one in told.items()}
+
+
 def compare(rng, rules, setting, names, tally, port):
     """All names under one setting."""
-    checked = rules.checked[setting.settings.name_type]
-    answers = [second.spell(setting.settings, checked, name, setting.given) for name in names]
-    told = original(rules, setting, names, answers)
-    for place, (name, answer) in enumerate(zip(names, answers)):
-        if place in told and told[place] is None:
-            tally.silent(rules, setting)
-        tally.key(rules, setting, name, answer, told.get(place))
+    answers = [spelled_by_second(rules, setting, name) for name in names]
+    told = compare_keys(rules, setting, names, answers, tally)
     compare_words(rng, rules, setting, names, answers, told, tally, port)
     if port:
         compare_port(rng, rules, setting, names, answers, port)
@@ -323,7 +346,7 @@ PREFIXES = sorted({prefix for some in second.PREFIXES.values() for prefix in som
 
 def prefixed(rng, name):
     """Now and then with something of steps 3 to 5 before it or in it."""
-    if rng.randrange(4) == 0:
+    while rng.randrange(4) == 0:
         name = rng.choice(PREFIXES) + rng.choice((" ", " ", "-", "  ", "")) + name
     if rng.randrange(10) == 0:
         name = "d'" + name
@@ -411,6 +434,15 @@ def try_edges(rng, tally, port):
                 compare(rng, rules, setting, names, tally, port)
 
 
+def try_prefixes(rng, tally, port):
+    """Every name of some prefixes and words, by rules that show how it was parted."""
+    names = list(cases.parted_names())
+    with tempfile.TemporaryDirectory() as folder:
+        rules = rules_of_pack("prefixes", folder, cases.PARTED_PACK)
+        for name_type, concat in itertools.product(range(3), range(2)):
+            compare(rng, rules, Setting(second.Settings(name_type, 0, concat, 20), None), names, tally, port)
+
+
 def try_random(rng, part, packs, count, tally, port):
     """Packs with settings drawn from a shuffled round of all of them, half of them with a given set."""
     make, limits = PARTS[part]
@@ -466,11 +498,7 @@ def compare_bulk(rules, setting, names, tally):
         pack.write(rules.packs[setting.settings.name_type])
         pack.flush()
         answers = program(pack.name, setting, names)
-    told = original(rules, setting, names, answers)
-    for place, (name, answer) in enumerate(zip(names, answers)):
-        if place in told and told[place] is None:
-            tally.silent(rules, setting)
-        tally.key(rules, setting, name, answer, told.get(place))
+    compare_keys(rules, setting, names, answers, tally)
 
 
 def loaded(folder):
@@ -518,6 +546,7 @@ def main():
     port = Port(given.port, tally) if given.port else None
     rng = random.Random("keys %d" % given.seed)
     try_edges(rng, tally, port)
+    try_prefixes(rng, tally, port)
     try_random(rng, "random", given.packs, given.names, tally, port)
     try_random(rng, "wide", given.wide, given.names, tally, port)
     if given.real:

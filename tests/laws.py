@@ -253,14 +253,21 @@ def key_of(line):
     return line.split(" ", 2)[2] if line.startswith("0 ") else line
 
 
+def held_names(name_type, names):
+    """The names that are held against the original: not those where two prefixes fit (02, ticket 5)."""
+    settings = second.Settings(name_type, 0, 0, int(LIMIT))
+    return [name for name in names if not second.two_prefixes_fit(settings, name.encode())]
+
+
 def real_faults(work, rng, moves):
     with open(os.path.join(HERE, "surnames.txt"), encoding="utf-8") as file:
-        names = file.read().splitlines()
+        surnames = file.read().splitlines()
     faults = 0
     for number, prefix in enumerate(real.TYPES):
         data, _ = real.pack_of(number, real.files_of(REAL_RULES, prefix))
         files = second.plain_files(number, second.check_pack(data))
         plain = Folder(os.path.join(work, prefix), prefix, files)
+        names = held_names(number, surnames)
         port, original = plain.port(names), plain.original(names)
         counts = collections.Counter()
         for turn in range(moves):
@@ -272,8 +279,8 @@ def real_faults(work, rng, moves):
             counts["original"] += unlike(original, late_original)
             counts["differ"] += unlike(map(key_of, late_port), late_original)
         counts["differ"] += unlike(map(key_of, port), original)
-        print("%s: %d names, moved %d times: %d keys of either changed where no first match did; with rules moved anywhere %d of the port and %d of the "
-              "original; %d differ between them" % (prefix, len(names), moves, *(counts[word] for word in ("harmless", "port", "original", "differ"))))
+        print("%s: %d names (%d left out, two prefixes fit), moved %d times: %d keys of either changed where no first match did; with rules moved anywhere "
+              "%d of the port and %d of the original; %d differ between them" % (prefix, len(names), len(surnames) - len(names), moves, *(counts[word] for word in ("harmless", "port", "original", "differ"))))
         faults += counts["harmless"] + counts["differ"]
     return faults
 

@@ -624,20 +624,42 @@ def given_set(given, pack):
     return bits
 
 
+def fitting_prefixes(name):
+    """The Generic prefixes that fit: a name begins with them and a space (01, Spelling, 3)."""
+    return [prefix for prefix in PREFIXES[GENERIC] if name.startswith(prefix + " ")]
+
+
 def part_prefix(name):
-    """Remainder and joined name of a Generic name with a prefix, or None (01, Spelling, 3)."""
+    """Remainder and joined name of a Generic name with a prefix, or None (01, Spelling, 3; 02, ticket 5: "among
+    prefixes that fit, the longest is taken")."""
     if name.startswith("d'"):
         return name[2:], "d" + name[2:]
-    for prefix in PREFIXES[GENERIC]:
-        if name.startswith(prefix + " "):
-            remainder = name[len(prefix) + 1:]
-            return remainder, prefix + remainder
-    return None
+    prefix = max(fitting_prefixes(name), key=len, default=None)
+    if prefix is None:
+        return None
+    remainder = name[len(prefix) + 1:]
+    return remainder, prefix + remainder
 
 
 def words_of(name):
     """01, Spelling, 4: "Words part at spaces"."""
     return [word for word in name.split(" ") if word]
+
+
+def names_met(settings, name):
+    """A lower-cased name as step 3 meets it, and each that is spelled afresh in its place (01, Spelling, 2 to 4)."""
+    name = name.replace("-", " ")
+    yield name
+    parted = part_prefix(name) if settings.name_type == GENERIC else None
+    words = words_of(name)
+    for afresh in parted or (words if len(words) > 1 and not settings.concat else ()):
+        yield from names_met(settings, afresh)
+
+
+def two_prefixes_fit(settings, name):
+    """Whether the original may part a name otherwise (02, ticket 5: "names where two prefixes fit, here or in a
+    name spelled afresh")."""
+    return settings.name_type == GENERIC and any(len(fitting_prefixes(met)) > 1 for met in names_met(settings, lower(decode(name))))
 
 
 def concat_words(name_type, words):

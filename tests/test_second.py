@@ -139,7 +139,8 @@ class Examples(Case):
         self.assertEqual(second.append([("a", ANY), ("ab", ANY)], "z"), [("abz", ANY), ("az", ANY)])
 
     def test_12_prefix(self):
-        self.assertEqual(second.part_prefix("de la cruz"), ("la cruz", "dela cruz"))
+        self.assertEqual(second.part_prefix("de la cruz"), ("cruz", "de lacruz"))
+        self.assertEqual(second.part_prefix("de lacruz"), ("lacruz", "delacruz"))
 
     def test_13_pack(self):
         code, pack = second.load(GENERIC, second.bundle_bytes(filled({"gen_rules_any": RULE})))
@@ -782,19 +783,28 @@ class Spelling(Case):
 
     def test_30_prefix_again(self):
         self.assertEqual(key(PACK, "de  a"), (0, 0, "(o)-((o)-(o))"))
-        self.assertEqual(key(PACK, "de-la a"), (0, 0, "(o-o)-((o)-(oo))"))
+        self.assertEqual(key(PACK, "de-la a"), (0, 0, "(o)-((oo)-(oo))"))
         self.assertEqual(key(PACK, "de "), (0, 0, "()-()"))
         self.assertEqual(key(PACK, "d'd'a"), (0, 0, "((o)-(o))-(o)"))
 
-    def test_prefixes_are_generic_and_in_order(self):
+    def test_prefixes_are_generic(self):
         self.assertEqual(key(PACK, "de a", ASHKENAZI), (0, 0, "-o"))
         self.assertEqual(key(PACK, "de a", ASHKENAZI, 1), (0, 0, "o"))
         for prefix in second.PREFIXES[GENERIC]:
-            if prefix != "de la":
-                self.assertEqual(second.part_prefix(prefix + " x"), ("x", prefix + "x"))
+            self.assertEqual(second.part_prefix(prefix + " x"), ("x", prefix + "x"))
         for name in ("de", "d", "dex x", "da-x", "bar x", "al x"):
             self.assertIsNone(second.part_prefix(name))
         self.assertEqual(second.part_prefix("d' x"), (" x", "d x"))
+        self.assertEqual(second.part_prefix("de la"), ("la", "dela"))
+
+    def test_two_prefixes_fit(self):
+        """02, ticket 5: "names where two prefixes fit, here or in a name spelled afresh"."""
+        for name in ("de la x", "De-La x", "de la ", "d'de la x", "van de la x", "de de la x", "DI de-la x", "de  la x"):
+            self.assertTrue(second.two_prefixes_fit(Settings(GENERIC, 0, 0, 20), name.encode()))
+            self.assertTrue(second.two_prefixes_fit(Settings(GENERIC, 0, 1, 20), name.encode()))
+            self.assertFalse(second.two_prefixes_fit(Settings(SEPHARDIC, 0, 0, 20), name.encode()))
+        for name in ("de la", "de lax", "dela x", "x de la x", " de la x", "d' de la x", "de-d'la x", ""):
+            self.assertFalse(second.two_prefixes_fit(Settings(GENERIC, 0, 0, 20), name.encode()))
 
     def test_31_kinds_of_a_given_set(self):
         self.assertEqual(key(self.TWO_PACK, "a", given=(0, 0xFFFFFFFF)), (0, 0, "o"))
