@@ -204,10 +204,10 @@ generic-formed = every-by generic refl
 prefix-formed : (p : Text) {ps : List Text} → Every Formed ps → among ps p ≡ true → Formed p
 unfolding among
 prefix-formed p none m = clash (cc)
-prefix-formed p (more {x = q} f e) m = ⊎-elim (λ k. rw k at f) (λ k. prefix-formed p e k) (among-cases q p _ m)
+prefix-formed p (more {x = q} {l = ps} f e) m = ⊎-elim (λ k. rw k at f) (λ k. prefix-formed p e k) (among-cases q p ps m)
 
 split-formed : (s : Text) → Formed s → PartsFormed (splitOf s) s
-unfolding PartsFormed after step plain isPrefix
+unfolding pick PartsFormed after step plain isPrefix
 split-formed s f =
     split-all s (λ (x : Prefix). PartsFormed x s)
     (λ e. (ap (λ (t : Text). after border (take 1 t)) (sym (prefix-split (100 ∷ 39 ∷ []) s e)), behind-formed (100 ∷ 39 ∷ []) s e refl f))
