@@ -42,10 +42,9 @@ module _ (p s : List ℕ) where
   fits-not t e q = and-none _ _ _ (sym e ∙ q) refl
 
 -- ---- the longer of two
-module _ (best : Prefix) (most rest size : ℕ) (e : best ≡ Leads most rest) where
-  pub longer : ltb most size ≡ longerThan best size
-  unfolding longerThan
-  longer = rw e refl
+pub longer : (best : Prefix) (most rest size : ℕ) → best ≡ Leads most rest → ltb most size ≡ longerThan best size
+unfolding longerThan
+longer best most rest size e = rw e refl
 
 pub longer-first : (best : Prefix) (size : ℕ) → best ≡ Whole → true ≡ longerThan best size
 unfolding longerThan
@@ -67,7 +66,7 @@ Seeking w t at = Walking (λ (ts : List (List ℕ)). among ts w) (among (strings
 pub seek-start : (w t : List ℕ) → Seeking w t 0
 seek-start w t = walk-start (λ (ts : List (List ℕ)). among ts w) t
 
--- the longest that fits: `best` is the longest of those passed
+-- the longest that fits: `best` is the longest of those that fit and are passed
 pub record Longest (s t : List ℕ) (at : ℕ) (best : Prefix) : Type 0 where
   pub passed : List (List ℕ)
   pub longest-passed : best ≡ ledBy passed
