@@ -15,7 +15,7 @@ use Rattle.choices.specs.Apply.{insert, under, candidates, enter, apply}
 use Rattle.phoneme_builder.specs.Sets.{sorted, allShort, appended}
 use Rattle.phoneme_builder.specs.Passes.{offered, flagged, applied, afterLetter, unmatched, run}
 use Rattle.examples.specs.Table.{told, expression, left, applying, appending, partsBy, partsOf, table, AllSame}
-use Rattle.prefixes.specs.Prefixes.{prefixesOf, prefixFits, passing, thatFit, longest, ledBy, splitOf}
+use Rattle.prefixes.specs.Prefixes.{prefixesOf, prefixFits, filtered, thatFit, longest, ledBy, splitOf}
 use Rattle.name_parts.specs.Joining.{joinedName}
 
 -- 01, Examples 1 to 12
@@ -26,6 +26,6 @@ unfolding
     literalForm boxForm withoutCaret withoutDollar boxInner boxed formIn formOf leftForm codeAt firstChar codeOf backChar wholeChar orElse lastChar charFits fits
     onFirst cutAt inside extra piecesIn allOf formedPiece formed boxOf withBits namesMask pieceMask isListed textOf maskSet setOf checkedOf
     byOrder insert under candidates enter apply sorted allShort appended offered flagged applied afterLetter unmatched run
-    prefixesOf prefixFits passing thatFit longest ledBy splitOf joinedName partsBy partsOf
+    prefixesOf prefixFits filtered thatFit longest ledBy splitOf joinedName partsBy partsOf
     told expression left applying appending table
 examples = (refl, (refl, (refl, (refl, (refl, (refl, (refl, (refl, (refl, (refl, (refl, (refl, (refl, (refl, (refl, (refl, (refl, (refl, tt))))))))))))))))))

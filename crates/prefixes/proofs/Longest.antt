@@ -18,7 +18,7 @@ use Rattle.letters.proofs.OrderLaws.{same-is, same-refl}
 use Rattle.texts.specs.Parts.{firstIs, placeOf, has, prefixOf}
 use Rattle.texts.proofs.Laws.{prefix-split, prefix-nested}
 use Rattle.texts.proofs.Chars.{has-cons}
-use Rattle.prefixes.specs.Prefixes.{generic, prefixesOf, prefixFits, passing, thatFit, longest, ledBy, among, splitOf, isPrefix}
+use Rattle.prefixes.specs.Prefixes.{generic, prefixesOf, prefixFits, filtered, thatFit, longest, ledBy, among, splitOf, isPrefix}
 use Rattle.prefixes.specs.Longest.{FitsName, LongestLeads, firstFit, splitAsCrate, deLa}
 use Rattle.prefixes.specs.declared.prefixes.NameType.the-variants.{Generic}
 use Rattle.prefixes.specs.declared.prefixes.Prefix.{Prefix}
@@ -61,18 +61,18 @@ among-cases p q ps m = ⊎-elim (λ w. inl (same-is p q (w .0))) (λ w. inr (w .
 
 -- those that pass a test are those of the list that do
 module _ (f : List ℕ → Bool) where
-  passing-by : (p q : List ℕ) (ps : List (List ℕ)) (t u : Bool) → f p ≡ t → sameText p q ≡ u → among (passing f ps) q ≡ and (among ps q) (f q)
-      → among (pick t (p ∷ passing f ps) (passing f ps)) q ≡ and (pick u true (among ps q)) (f q)
+  filtered-by : (p q : List ℕ) (ps : List (List ℕ)) (t u : Bool) → f p ≡ t → sameText p q ≡ u → among (filtered f ps) q ≡ and (among ps q) (f q)
+      → among (pick t (p ∷ filtered f ps) (filtered f ps)) q ≡ and (pick u true (among ps q)) (f q)
   unfolding among pick and
-  passing-by p q ps true true e k ih = pick-true _ _ _ k ∙ sym (ap f (sym (same-is p q k)) ∙ e)
-  passing-by p q ps true false e k ih = pick-false _ _ _ k ∙ ih
-  passing-by p q ps false true e k ih = let no : f q ≡ false = ap f (sym (same-is p q k)) ∙ e in ih ∙ sym (and-no (among ps q) (f q) (sym no)) ∙ sym no
-  passing-by p q ps false false e k ih = ih
+  filtered-by p q ps true true e k ih = pick-true _ _ _ k ∙ sym (ap f (sym (same-is p q k)) ∙ e)
+  filtered-by p q ps true false e k ih = pick-false _ _ _ k ∙ ih
+  filtered-by p q ps false true e k ih = let no : f q ≡ false = ap f (sym (same-is p q k)) ∙ e in ih ∙ sym (and-no (among ps q) (f q) (sym no)) ∙ sym no
+  filtered-by p q ps false false e k ih = ih
 
-  passing-among : (q : List ℕ) (ps : List (List ℕ)) → among (passing f ps) q ≡ and (among ps q) (f q)
-  unfolding passing among and
-  passing-among q [] = refl
-  passing-among q (p ∷ ps) = passing-by p q ps _ _ refl refl (passing-among q ps)
+  filtered-among : (q : List ℕ) (ps : List (List ℕ)) → among (filtered f ps) q ≡ and (among ps q) (f q)
+  unfolding filtered among and
+  filtered-among q [] = refl
+  filtered-among q (p ∷ ps) = filtered-by p q ps _ _ refl refl (filtered-among q ps)
 
 -- ---- the longest
 
@@ -103,10 +103,10 @@ module _ (s : List ℕ) where
       → (((q : List ℕ) → FitsName s q → ⊥) → Q Whole) → Q (ledBy (thatFit (prefixesOf Generic) s))
   unfolding isPrefix thatFit
   fitting-led Q k w =
-      let all : (q : List ℕ) → FitsName s q → among (passing (λ (p : List ℕ). prefixFits p s) (prefixesOf Generic)) q ≡ true =
-      λ q g. passing-among (λ (p : List ℕ). prefixFits p s) q (prefixesOf Generic) ∙ and-yes _ _ (g .listed) (g .fits) in
+      let all : (q : List ℕ) → FitsName s q → among (filtered (λ (p : List ℕ). prefixFits p s) (prefixesOf Generic)) q ≡ true =
+      λ q g. filtered-among (λ (p : List ℕ). prefixFits p s) q (prefixesOf Generic) ∙ and-yes _ _ (g .listed) (g .fits) in
       led-by-one Q _
-      (λ p m most. let f = and-inv _ _ (sym (passing-among (λ (p : List ℕ). prefixFits p s) p (prefixesOf Generic)) ∙ m) in
+      (λ p m most. let f = and-inv _ _ (sym (filtered-among (λ (p : List ℕ). prefixFits p s) p (prefixesOf Generic)) ∙ m) in
       k p (record { listed = f .0; fits = f .1 }) (λ q g. most q (all q g)))
       (λ none. w (λ q g. none q (all q g)))
 
@@ -148,10 +148,10 @@ module _ (s : List ℕ) where
 
   first-is-longest : (ps : List (List ℕ)) → ((p q : List ℕ) → among ps p ≡ true → among ps q ≡ true → prefixFits p s ≡ true → prefixFits q s ≡ true → length q ≤ length p)
       → ledBy (thatFit ps s) ≡ firstFit ps s
-  unfolding thatFit passing firstFit ledBy
+  unfolding thatFit filtered firstFit ledBy
   first-is-longest [] h = refl
   first-is-longest (p ∷ ps) h =
-      first-by p ps _ refl (λ e q m. let f = and-inv _ _ (sym (passing-among (λ (p : List ℕ). prefixFits p s) q ps) ∙ m) in h p q (among-first p ps) (among-more p q ps (f .0)) e (f .1))
+      first-by p ps _ refl (λ e q m. let f = and-inv _ _ (sym (filtered-among (λ (p : List ℕ). prefixFits p s) q ps) ∙ m) in h p q (among-first p ps) (among-more p q ps (f .0)) e (f .1))
       (first-is-longest ps (λ x y a b. h x y (among-more p x ps a) (among-more p y ps b)))
 
 -- a prefix that is longer than another that fits has the space behind that one
@@ -168,8 +168,8 @@ fits-in-longer (x ∷ p) (y ∷ q) (z ∷ s) e f h =
 
 -- of the prefixes `de la` alone has one
 spaced-is-de-la : (q : List ℕ) → isPrefix Generic q ≡ true → has 32 q ≡ true → 100 ∷ 101 ∷ 32 ∷ 108 ∷ 97 ∷ [] ≡ q
-unfolding isPrefix prefixesOf passing has placeOf pick among
-spaced-is-de-la q m h = ⊎-elim (λ k. k) (λ k. clash (cc)) (among-cases _ q [] (passing-among (has 32) q generic ∙ and-yes _ _ m h))
+unfolding isPrefix prefixesOf filtered has placeOf pick among
+spaced-is-de-la q m h = ⊎-elim (λ k. k) (λ k. clash (cc)) (among-cases _ q [] (filtered-among (has 32) q generic ∙ and-yes _ _ m h))
 
 -- what fits is, with the space behind it, what the name begins with
 space-begins : (p s : List ℕ) → prefixFits p s ≡ true → prefixOf (p ++ 32 ∷ []) s ≡ true
@@ -189,7 +189,7 @@ two-fit-de-la p q s m f g h =
     ap (λ (t : List ℕ). prefixOf (t ++ 32 ∷ []) s) (spaced-is-de-la q m (fits-in-longer p q s f (and-inv _ _ g .0) h)) ∙ space-begins q s g
 
 de-la-leads : (r : List ℕ) → splitOf (deLa ++ r) ≡ Leads 5 6
-unfolding splitOf prefixesOf thatFit passing prefixFits prefixOf firstIs pick and longest ledBy
+unfolding splitOf prefixesOf thatFit filtered prefixFits prefixOf firstIs pick and longest ledBy
 de-la-leads r = refl
 
 crate-by : (s : List ℕ) (t : Bool) → prefixOf deLa s ≡ t → splitOf s ≡ pick t (Leads 5 6) (splitAsCrate s)

@@ -17,7 +17,7 @@ use Rattle.strings.specs.Reading.{strings, stringsOf}
 use Rattle.strings.specs.declared.Next.{Next}
 use Rattle.strings.specs.declared.Next.the-variants as next
 use Rattle.strings.proofs.Laws.{StringIs, string-whole, strings-all, one-left, none-left, part-order, part-fits, skip-order, walk-less, walk-less}
-use Rattle.prefixes.specs.Prefixes.{generic, prefixesOf, prefixFits, passing, thatFit, longest, ledBy, among, splitOf, isPrefix}
+use Rattle.prefixes.specs.Prefixes.{generic, prefixesOf, prefixFits, filtered, thatFit, longest, ledBy, among, splitOf, isPrefix}
 use Rattle.prefixes.specs.Contracts.{longerThan}
 use Rattle.prefixes.specs.declared.prefixes.NameType.{NameType}
 use Rattle.prefixes.specs.declared.prefixes.Prefix.{Prefix}
@@ -60,11 +60,11 @@ walk-start : {A : Type 0} (g : List (List ℕ) → A) (t : List ℕ) → Walking
 walk-start g t = record { fuel = length t; enough = omega arith; is = ap g (strings-all t) }
 
 -- whether w is a string of the table
-abbrev pub Seeking : List ℕ → List ℕ → ℕ → Type 0
-Seeking w t at = Walking (λ (ts : List (List ℕ)). among ts w) (among (stringsOf t) w) t at
+abbrev pub Searching : List ℕ → List ℕ → ℕ → Type 0
+Searching w t at = Walking (λ (ts : List (List ℕ)). among ts w) (among (stringsOf t) w) t at
 
-pub seek-start : (w t : List ℕ) → Seeking w t 0
-seek-start w t = walk-start (λ (ts : List (List ℕ)). among ts w) t
+pub search-start : (w t : List ℕ) → Searching w t 0
+search-start w t = walk-start (λ (ts : List (List ℕ)). among ts w) t
 
 -- the longest that fits: `best` is the longest of those that fit and are passed
 pub record Longest (s t : List ℕ) (at : ℕ) (best : Prefix) : Type 0 where
@@ -104,7 +104,7 @@ module _ (t : List ℕ) (at a e : ℕ) (r : Next) (p : r ≡ stringAt t at) (q :
   module _ (s : List ℕ) (best : Prefix) (w : Longest s t at best) where
     -- it fits, and is one of those passed from now on
     longest-by : (better : Prefix) → prefixFits (take (e - a) (drop a t)) s ≡ true → better ≡ ledBy (w .passed ++ take (e - a) (drop a t) ∷ []) → Longest s t e better
-    unfolding thatFit passing
+    unfolding thatFit filtered
     longest-by better f l = record {
       passed = w .passed ++ take (e - a) (drop a t) ∷ [];
       longest-passed = l;
@@ -114,7 +114,7 @@ module _ (t : List ℕ) (at a e : ℕ) (r : Next) (p : r ≡ stringAt t at) (q :
     }
 
     longest-passes : prefixFits (take (e - a) (drop a t)) s ≡ false → Longest s t e best
-    unfolding thatFit passing
+    unfolding thatFit filtered
     longest-passes f = record {
       passed = w .passed;
       longest-passed = w .longest-passed;
@@ -146,8 +146,8 @@ module _ (t : List ℕ) (at a e : ℕ) (r : Next) (p : r ≡ stringAt t at) (q :
       unfolding pick
       longest-here y f l z = longest-by _ (sym l ∙ z) (sym (led true (sym k ∙ y)))
 
-  module _ (v : List ℕ) (b : Bool) (k : b ≡ sameText (take (e - a) (drop a t)) v) (w : Seeking v t at) where
-    pub among-next : b ≡ false → Seeking v t e
+  module _ (v : List ℕ) (b : Bool) (k : b ≡ sameText (take (e - a) (drop a t)) v) (w : Searching v t at) where
+    pub among-next : b ≡ false → Searching v t e
     unfolding among
     among-next z = walk-next w (λ (ts : List (List ℕ)). among ts v) (λ ts. pick-false _ _ _ (sym k ∙ z))
 
@@ -160,10 +160,10 @@ module _ (t : List ℕ) (at : ℕ) (r : Next) (p : r ≡ stringAt t at) (q : r �
   walk-end {A} {g} w = w .is ∙ ap g (none-left t at r p q _)
 
   pub longest-cut : (s : List ℕ) (best : Prefix) → Longest s t at best → best ≡ ledBy (thatFit (stringsOf t) s)
-  unfolding thatFit passing
+  unfolding thatFit filtered
   longest-cut s best w = w .longest-passed ∙ ap ledBy (sym (walk-end (w .walk) ∙ append-nil (w .passed)))
 
-  pub among-cut : (v : List ℕ) → Seeking v t at → false ≡ among (stringsOf t) v
+  pub among-cut : (v : List ℕ) → Searching v t at → false ≡ among (stringsOf t) v
   unfolding among
   among-cut v w = sym (walk-end w)
 
@@ -180,4 +180,4 @@ pub prefix-by : (kind k : NameType) (v : List ℕ) (b : Bool) → kind ≡ k →
 unfolding isPrefix
 prefix-by kind k v b e p = rw e p
 
-pub ruleset prefix-laws = (fits-space, fits-end, fits-not, seek-start, longest-start, part-order, part-fits, skip-order, walk-less, longest-short, longest-not, longest-here, among-next, among-here, longest-cut, among-cut, longer, longer-first, split-apostrophe, split-prefix, prefix-by, needs)
+pub ruleset prefix-laws = (fits-space, fits-end, fits-not, search-start, longest-start, part-order, part-fits, skip-order, walk-less, longest-short, longest-not, longest-here, among-next, among-here, longest-cut, among-cut, longer, longer-first, split-apostrophe, split-prefix, prefix-by, needs)

@@ -34,13 +34,13 @@ unfoldable pub prefixFits : List ℕ → List ℕ → Bool
 prefixFits p s = and (prefixOf p s) (firstIs 32 (drop (length p) s))
 
 -- those of some texts that pass a test
-unfoldable pub passing : (List ℕ → Bool) → List (List ℕ) → List (List ℕ)
-passing f [] = []
-passing f (p ∷ ps) = pick (f p) (p ∷ passing f ps) (passing f ps)
+unfoldable pub filtered : (List ℕ → Bool) → List (List ℕ) → List (List ℕ)
+filtered f [] = []
+filtered f (p ∷ ps) = pick (f p) (p ∷ filtered f ps) (filtered f ps)
 
 -- "prefixes that fit"
 unfoldable pub thatFit : List (List ℕ) → List ℕ → List (List ℕ)
-thatFit ps s = passing (λ (p : List ℕ). prefixFits p s) ps
+thatFit ps s = filtered (λ (p : List ℕ). prefixFits p s) ps
 
 -- how long the longest of some texts is
 unfoldable pub longest : List (List ℕ) → ℕ
