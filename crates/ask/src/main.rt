@@ -7,7 +7,7 @@ mod words_cases;
 use cases::Said;
 
 // How long the pack and the bundle are that are kept, and how many bytes of output wait.
-#[derive(Drop)]
+#[derive(Clone, Copy)]
 struct Held {
     pack: usize,
     bundle: usize,

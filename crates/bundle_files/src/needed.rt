@@ -7,7 +7,7 @@ use rules_parser::{Clause, FileKind, Item};
 use taken::Taken;
 
 // A line's name, of which `len` bytes were copied, none where it has no name; and where the next line begins.
-#[derive(Drop)]
+#[derive(Clone, Copy)]
 struct Line {
     len: usize,
     next: usize,

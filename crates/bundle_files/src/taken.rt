@@ -6,7 +6,7 @@ use crate::words;
 use program_io::Filled;
 
 // How many files were taken. `good` is false once one could not be: then no more are.
-#[derive(Drop)]
+#[derive(Clone, Copy)]
 pub struct Taken {
     pub count: usize,
     pub good: bool,

@@ -8,7 +8,7 @@ use letters::Order;
 use strings::{Next, Number};
 
 // A file by its number in the bundle, from 0, and where its content stands; or that none has the name.
-#[derive(Drop)]
+#[derive(Clone, Copy)]
 pub enum FileAt {
     At {
         number: usize,
@@ -19,7 +19,7 @@ pub enum FileAt {
 }
 
 // A file by its places: its name stands from name to name_end, its content from start to end.
-#[derive(Drop)]
+#[derive(Clone, Copy)]
 pub(crate) enum Entry {
     Whole {
         name: usize,

@@ -4,7 +4,7 @@ ghost use Rattle.std.specs.Prelude.{◌≤◌, ◌<◌, length};
 
 // The block's bytes from `at` up to `have` are still to be read. The line at hand has `size` bytes; `open` is false once there
 // is none.
-#[derive(Drop)]
+#[derive(Clone, Copy)]
 pub struct Input {
     pub at: usize,
     pub have: usize,

@@ -7,7 +7,7 @@ use phonemes::Alternative;
 
 // No line; a word and a number; up to three numbers and so many bytes of `made`; the code points of the first bytes; so many
 // alternatives of them, an expression, with the names of the second.
-#[derive(Drop)]
+#[derive(Clone, Copy)]
 pub enum Said {
     Nothing,
     Count(usize, usize),

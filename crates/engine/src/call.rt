@@ -15,7 +15,7 @@ use prefixes::NameType;
 use rule_index::Table;
 
 // The settings in the paper's numbers: Ashkenazi 0, Generic 1, Sephardic 2; approx 0, exact 1; concat 0 or 1; the limit.
-#[derive(Drop)]
+#[derive(Clone, Copy)]
 pub struct Settings {
     pub name_type: u32,
     pub rule_type: u32,
@@ -24,7 +24,7 @@ pub struct Settings {
 }
 
 // The start languages: guessed, or given by kind (0 Any, 1 None, 2 Some) and bits.
-#[derive(Drop)]
+#[derive(Clone, Copy)]
 pub enum Start {
     Guessed,
     Given { kind: u32, bits: u32 },
@@ -32,7 +32,7 @@ pub enum Start {
 
 // A survey's verdict, and where it accepts, the numbers that spelling works with: how many languages, the place of the guessing
 // section, and which language is `any`.
-#[derive(Drop)]
+#[derive(Clone, Copy)]
 pub enum Opened {
     Usable {
         languages: usize,
@@ -45,7 +45,7 @@ pub enum Opened {
 }
 
 // What each name of a call is asked with.
-#[derive(Drop)]
+#[derive(Clone, Copy)]
 pub struct Request {
     pub opened: Opened,
     pub settings: Settings,
@@ -53,7 +53,7 @@ pub struct Request {
 }
 
 // What a name is spelled by. The set counts where the name is not spelled afresh, its languages guessed from it.
-#[derive(Drop)]
+#[derive(Clone, Copy)]
 pub struct Call {
     pub kind: NameType,
     pub rules: usize,

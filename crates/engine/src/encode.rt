@@ -20,7 +20,7 @@ use rule_index::Table;
 const CAP: usize = 0x8000_0000_0000_0000;
 
 // Where an answer ends and its flag, if it is fine (`why` then says nothing); else why it is refused.
-#[derive(Drop)]
+#[derive(Clone, Copy)]
 pub struct AnswerEnd {
     pub at: usize,
     pub flag: bool,
@@ -29,7 +29,7 @@ pub struct AnswerEnd {
 }
 
 // The numbers of the three lists that a word is spelled by.
-#[derive(Drop)]
+#[derive(Clone, Copy)]
 pub struct Lists {
     pub main: usize,
     pub common: usize,
@@ -37,7 +37,7 @@ pub struct Lists {
 }
 
 // Whether a name has a prefix: where its remainder begins, and how long the joined name is.
-#[derive(Drop)]
+#[derive(Clone, Copy)]
 pub enum Joined {
     Prefixed { rest: usize, length: usize },
     Whole,

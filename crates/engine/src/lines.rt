@@ -14,21 +14,21 @@ use rule_index::Table;
 
 // How many bytes of the block were read, and how many written; or that the first line has no room in the whole buffer, and how many
 // bytes it needs (9).
-#[derive(Drop)]
+#[derive(Clone, Copy)]
 pub enum Lines {
     Done { read: usize, written: usize },
     NoRoom { needed: usize },
 }
 
 // The place behind a line; or that it has no room there, and how many bytes the name's line needs.
-#[derive(Drop)]
+#[derive(Clone, Copy)]
 pub enum Fit {
     Behind { next: usize },
     Over { needed: usize },
 }
 
 // Where a line begins, and how many bytes of the buffer are used.
-#[derive(Drop)]
+#[derive(Clone, Copy)]
 pub struct Space {
     pub at: usize,
     pub size: usize,

@@ -18,14 +18,14 @@ use refusals::Refusal;
 use rule_index::Table;
 
 // How many bytes were written, and the flag; or a refusal and its place (01, What the desk gets).
-#[derive(Drop)]
+#[derive(Clone, Copy)]
 pub enum Spelled {
     Done { written: usize, flag: bool },
     Refused { why: Refusal, place: usize },
 }
 
 // What is found of a name before the pack is looked at.
-#[derive(Drop)]
+#[derive(Clone, Copy)]
 pub enum NameCheck {
     Fine,
     Wrong { why: Refusal, place: usize },

@@ -1,7 +1,7 @@
 // The call: settings and languages from the arguments behind PACK.
 use beider_morse::{Settings, Start};
 
-#[derive(Drop)]
+#[derive(Clone, Copy)]
 pub enum Call {
     Good { settings: Settings, start: Start },
     Bad,

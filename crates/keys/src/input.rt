@@ -5,7 +5,7 @@ ghost use Rattle.keys.specs.InnerContracts.{Waits};
 
 // The bytes of the buffer from `from` up to `have` wait to be answered. `open` is false once the input has ended, and
 // then only whole lines wait.
-#[derive(Drop)]
+#[derive(Clone, Copy)]
 pub struct Input {
     pub from: usize,
     pub have: usize,

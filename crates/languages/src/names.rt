@@ -6,7 +6,7 @@ ghost use Rattle.languages.specs.Numbers.{listed_numbers};
 use strings::Next;
 
 // The bit of a name that a list holds.
-#[derive(Drop)]
+#[derive(Clone, Copy)]
 pub enum Listed {
     Bit(u32),
     Unlisted,

@@ -4,7 +4,7 @@ ghost use Rattle.std.specs.Prelude.{◌≡◌};
 ghost use Rattle.languages.specs.Numbers.{set_numbers};
 ghost use Rattle.languages.specs.Sets.{merged, is_single, single_of, without};
 
-#[derive(Drop)]
+#[derive(Clone, Copy)]
 pub enum LanguageSet {
     Any,
     NoLanguages,
@@ -12,7 +12,7 @@ pub enum LanguageSet {
 }
 
 // A narrowed set by its number, which is not empty; or nothing is left.
-#[derive(Drop)]
+#[derive(Clone, Copy)]
 pub enum Narrowed {
     To(u64),
     Nothing,
@@ -25,7 +25,7 @@ const SOME_LANGUAGES: u64 = 0x1_0000_0000;
 const ANY_LANGUAGE: u64 = 0x3_FFFF_FFFF;
 
 // The one language of a single set.
-#[derive(Drop)]
+#[derive(Clone, Copy)]
 pub enum Single {
     Language(u32),
     NotSingle,

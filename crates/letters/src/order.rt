@@ -7,7 +7,7 @@ ghost use Rattle.letters.specs.declared.order.Order.{Order};
 ghost use Rattle.letters.specs.Order.{order_of, same_text};
 ghost use Rattle.letters.specs.OrderContracts.{Left, EightIs};
 
-#[derive(Drop)]
+#[derive(Clone, Copy)]
 pub enum Order {
     Less,
     Equal,

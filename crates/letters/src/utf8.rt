@@ -4,7 +4,7 @@ ghost use Rattle.letters.specs.Utf8.{within, low_second, high_second, code2, cod
 ghost use Rattle.letters.specs.Reading.{first_ill};
 
 // What stands at a place.
-#[derive(Drop)]
+#[derive(Clone, Copy)]
 pub enum Step {
     Char { code: u32, len: usize },
     Ill,
@@ -12,7 +12,7 @@ pub enum Step {
 }
 
 // A place that is looked for.
-#[derive(Drop)]
+#[derive(Clone, Copy)]
 pub enum Found {
     At(usize),
     Nothing,

@@ -8,14 +8,14 @@ use refusals::Refusal;
 use rules_parser::{Clause, FileKind, Item, Text};
 
 // The mask of a guessing rule, or its fault.
-#[derive(Drop)]
+#[derive(Clone, Copy)]
 pub(crate) enum Judged {
     Mask { mask: u32 },
     Fault { why: Refusal },
 }
 
 // How many rules were written and where they end, or the refusal.
-#[derive(Drop)]
+#[derive(Clone, Copy)]
 pub(crate) enum Guessed {
     Done {
         count: usize,

@@ -18,7 +18,7 @@ use rule_lists::Written;
 const OWN: usize = 65536;
 
 // The pack's length, or the refusal: which, its line (the length needed for 9), and the file's number in the bundle.
-#[derive(Drop)]
+#[derive(Clone, Copy)]
 pub enum Loaded {
     Done {
         length: usize,
@@ -31,7 +31,7 @@ pub enum Loaded {
 }
 
 // The name type of a setting's number.
-#[derive(Drop)]
+#[derive(Clone, Copy)]
 pub(crate) enum Kind {
     Is { kind: NameType },
     Unknown,

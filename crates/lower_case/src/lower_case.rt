@@ -20,7 +20,7 @@ pub fn lower(code: u32) -> u32
     }
 }
 
-#[derive(Drop)]
+#[derive(Clone, Copy)]
 pub enum Lowered {
     Done(usize),
     NoRoom,

@@ -9,7 +9,7 @@ use crate::sections::Section;
 use strings::{Next, Number};
 
 // A guessing rule by its places, or that bytes run out: its pattern stands from start to end.
-#[derive(Drop)]
+#[derive(Clone, Copy)]
 pub enum GuessAt {
     At {
         accept: u32,

@@ -9,7 +9,7 @@ use crate::sections::Section;
 use strings::{Next, Number};
 
 // A rule by its places: the pattern stands from `pattern` to `pattern_end`, and so the others; the next rule stands at `end`.
-#[derive(Drop)]
+#[derive(Clone, Copy)]
 pub enum RuleAt {
     At {
         pattern: usize,
@@ -25,7 +25,7 @@ pub enum RuleAt {
 }
 
 // Where a good rule ends and its first character, or that there is none.
-#[derive(Drop)]
+#[derive(Clone, Copy)]
 pub(crate) enum Ruled {
     Next { end: usize, code: u32 },
     Bad,

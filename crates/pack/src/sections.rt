@@ -10,28 +10,28 @@ use letters::Order;
 use strings::Next;
 
 // Accepted (0), or refused (5) with the first byte of the section at fault.
-#[derive(Drop)]
+#[derive(Clone, Copy)]
 pub enum Checked {
     Accepted,
     Refused(usize),
 }
 
 // The same, and of an accepted pack the number of its languages and the place of its guessing section.
-#[derive(Drop)]
+#[derive(Clone, Copy)]
 pub enum Surveyed {
     Accepted { languages: usize, guesses: usize },
     Refused(usize),
 }
 
 // Where a section ends, or that it is at fault.
-#[derive(Drop)]
+#[derive(Clone, Copy)]
 pub(crate) enum Section {
     End(usize),
     Bad,
 }
 
 // Where the lists end, or the place of the first at fault.
-#[derive(Drop)]
+#[derive(Clone, Copy)]
 pub(crate) enum Lists {
     Done(usize),
     Fault(usize),

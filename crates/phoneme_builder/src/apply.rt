@@ -9,14 +9,14 @@ use crate::slots::{NO_LANGUAGES, langs_of};
 use languages::Narrowed;
 
 // How many alternatives a table has, and how many texts a set may have.
-#[derive(Drop)]
+#[derive(Clone, Copy)]
 pub(crate) struct Most {
     pub(crate) alternatives: usize,
     pub(crate) limit: usize,
 }
 
 // How many texts the set has now; or a text over 128 bytes would have entered it (01, the table, 7).
-#[derive(Drop)]
+#[derive(Clone, Copy)]
 pub(crate) enum Applied {
     Now(usize),
     TooLong,

@@ -9,7 +9,7 @@ use crate::unite::{United, unite};
 use rule_index::Table;
 
 // The sets of a final pass: the old texts, the result, and two to run a text in.
-#[derive(Drop)]
+#[derive(Clone, Copy)]
 pub(crate) struct FinalSets {
     pub(crate) old: usize,
     pub(crate) result: usize,
@@ -18,14 +18,14 @@ pub(crate) struct FinalSets {
 }
 
 // The next old text, and how many texts the result has.
-#[derive(Drop)]
+#[derive(Clone, Copy)]
 pub(crate) struct NextText {
     pub(crate) text: usize,
     pub(crate) count: usize,
 }
 
 // How many texts the result has, and the flag; or 7; or 8.
-#[derive(Drop)]
+#[derive(Clone, Copy)]
 pub(crate) enum Finished {
     Into { texts: usize, flag: bool },
     TooLong,

@@ -15,7 +15,7 @@ use rule_index::{Matched, Table, first_match};
 
 // How a pass works: by the rules of which list, up to which limit, whether it appends what no rule matches, and where the pack's names
 // end.
-#[derive(Drop)]
+#[derive(Clone, Copy)]
 pub(crate) struct Pass {
     pub(crate) list: usize,
     pub(crate) limit: usize,
@@ -24,7 +24,7 @@ pub(crate) struct Pass {
 }
 
 // Where a pass stands: from the texts of one set into another, at a place of the word; no rule matched from `since` on.
-#[derive(Drop)]
+#[derive(Clone, Copy)]
 pub(crate) struct Stage {
     pub(crate) from: usize,
     pub(crate) count: usize,
@@ -35,21 +35,21 @@ pub(crate) struct Stage {
 
 // What a turn at a place comes to: the next stage, `full` where an apply ended at or over the limit;
 // or a text over 128 bytes would have entered (7).
-#[derive(Drop)]
+#[derive(Clone, Copy)]
 pub(crate) enum Turned {
     On { next: Stage, full: bool },
     TooLong,
 }
 
 // Where the texts of a pass stand when the characters that no rule matched are appended; or 7.
-#[derive(Drop)]
+#[derive(Clone, Copy)]
 pub(crate) enum Settled {
     In(Between),
     TooLong,
 }
 
 // What a pass comes to: so many texts in a set, and the flag.
-#[derive(Drop)]
+#[derive(Clone, Copy)]
 pub(crate) enum Passed {
     Now {
         texts: usize,

@@ -22,14 +22,14 @@ const STORE: usize = 32768;
 const SETS: usize = 4;
 
 // A set by its number, and how many texts it has.
-#[derive(Drop)]
+#[derive(Clone, Copy)]
 pub(crate) struct Target {
     pub(crate) set: usize,
     pub(crate) count: usize,
 }
 
 // A set to read, its texts, and another set to write.
-#[derive(Drop)]
+#[derive(Clone, Copy)]
 pub(crate) struct Between {
     pub(crate) from: usize,
     pub(crate) count: usize,
@@ -37,7 +37,7 @@ pub(crate) struct Between {
 }
 
 // Where a text stands, or where it would go.
-#[derive(Drop)]
+#[derive(Clone, Copy)]
 pub(crate) enum Found {
     At(usize),
     Free(usize),

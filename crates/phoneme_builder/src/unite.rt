@@ -7,7 +7,7 @@ use crate::set::{
 use crate::slots::merged;
 
 // How many texts the result has now; or a 257th text would have entered it (01, the table, 8).
-#[derive(Drop)]
+#[derive(Clone, Copy)]
 pub(crate) enum United {
     Into(usize),
     TooMany,

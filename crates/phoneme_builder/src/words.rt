@@ -14,7 +14,7 @@ use rule_index::Table;
 
 // By what a word is spelled: the lists of the main pass, of the common final pass and of the language's own, the limit, where the
 // pack's names end, and the start languages.
-#[derive(Drop)]
+#[derive(Clone, Copy)]
 pub struct Plan {
     pub main: usize,
     pub common: usize,
@@ -25,7 +25,7 @@ pub struct Plan {
 }
 
 // How long the answer is, and the flag; or 7; or 8.
-#[derive(Drop)]
+#[derive(Clone, Copy)]
 pub enum Worded {
     Done { length: usize, flag: bool },
     TooLong,

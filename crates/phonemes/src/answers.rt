@@ -3,7 +3,7 @@ use languages::LanguageSet;
 
 // Whether an expression is well formed (14 where it is Malformed) with all its names listed (16 where it has an
 // UnlistedName), and how many alternatives it has.
-#[derive(Drop)]
+#[derive(Clone, Copy)]
 pub enum Expression {
     Good(usize),
     Malformed,
@@ -11,7 +11,7 @@ pub enum Expression {
 }
 
 // An alternative: its text is the expression's part from start to end, and the next one is asked for from place `next` on.
-#[derive(Drop)]
+#[derive(Clone, Copy)]
 pub enum Alternative {
     At {
         start: usize,

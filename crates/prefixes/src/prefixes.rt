@@ -6,7 +6,7 @@ ghost use Rattle.strings.specs.Reading.{strings_of};
 
 use strings::Next;
 
-#[derive(Drop)]
+#[derive(Clone, Copy)]
 pub enum NameType {
     Ashkenazi,
     Generic,
@@ -14,7 +14,7 @@ pub enum NameType {
 }
 
 // A prefix leads the name: how many bytes it has, and where the remainder begins; or the name is one whole.
-#[derive(Drop)]
+#[derive(Clone, Copy)]
 pub enum Prefix {
     Leads { size: usize, rest: usize },
     Whole,

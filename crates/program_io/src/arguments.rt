@@ -1,7 +1,7 @@
 // The numbers that arguments are.
 
 // A number, where the argument is one.
-#[derive(Drop)]
+#[derive(Clone, Copy)]
 pub struct Number {
     pub value: u32,
     pub good: bool,

@@ -10,7 +10,7 @@ pub use fitting::{left_fits, right_fits};
 pub use forms::{left_form, left_is_empty_box, right_form, right_is_empty_box};
 
 // The forms of a context, named as in regex_optim.rs, or that it is none of them (15).
-#[derive(Drop)]
+#[derive(Clone, Copy)]
 pub enum OptimizedRegex {
     AllStringsMatcher,
     IsEmpty,
@@ -24,7 +24,7 @@ pub enum OptimizedRegex {
 }
 
 // A code point, or that there is none.
-#[derive(Drop)]
+#[derive(Clone, Copy)]
 pub(crate) enum Letter {
     Code(u32),
     Absent,

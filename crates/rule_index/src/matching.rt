@@ -7,7 +7,7 @@ use crate::rows::{LISTS, PLACES, Table, noted_at};
 use pack::{KINDS, NUMBERS, RuleAt};
 
 // The rule that matches: how far its pattern reaches, and where its expression stands in the pack.
-#[derive(Drop)]
+#[derive(Clone, Copy)]
 pub enum Matched {
     By {
         step: usize,

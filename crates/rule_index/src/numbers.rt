@@ -7,7 +7,7 @@ use crate::rows::{BEFORE, BEHIND, LEADS, PLACES, Table, noted_at, put_at};
 
 // What a rule is passed over by: the first two bytes of its pattern as one number, and the bits of the bytes that may stand before the
 // place and behind its first byte.
-#[derive(Drop)]
+#[derive(Clone, Copy)]
 pub(crate) struct Marks {
     pub(crate) lead: usize,
     pub(crate) before: u64,
@@ -15,7 +15,7 @@ pub(crate) struct Marks {
 }
 
 // What a word has at a place: the byte there, it and the next as one number, and the bits of the bytes before and behind it.
-#[derive(Drop)]
+#[derive(Clone, Copy)]
 pub(crate) struct Front {
     pub(crate) one: usize,
     pub(crate) two: usize,

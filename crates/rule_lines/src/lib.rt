@@ -12,7 +12,7 @@ use regex_optim::OptimizedRegex;
 const LONGEST: usize = 255;
 
 // The fault of a rule or of a part of it, or that it has none.
-#[derive(Drop)]
+#[derive(Clone, Copy)]
 pub enum Fault {
     Is { why: Refusal },
     Without,

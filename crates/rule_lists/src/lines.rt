@@ -7,7 +7,7 @@ use rule_lines::Fault;
 use rules_parser::{Clause, FileKind, Item, Text};
 
 // What stands at the beginning of a line.
-#[derive(Drop)]
+#[derive(Clone, Copy)]
 pub(crate) enum Row {
     Passed { lines: usize, next: usize },
     Rule { code: u32, next: usize },

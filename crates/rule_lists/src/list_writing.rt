@@ -11,7 +11,7 @@ use refusals::Refusal;
 use rules_parser::Text;
 
 // The place behind what was written, or the refusal.
-#[derive(Drop)]
+#[derive(Clone, Copy)]
 pub enum Written {
     Done {
         at: usize,

@@ -17,7 +17,7 @@ use refusals::Refusal;
 use strings::Next;
 
 // The lists of a language.
-#[derive(Drop)]
+#[derive(Clone, Copy)]
 pub(crate) enum ListKind {
     Rules,
     Approx,
@@ -25,7 +25,7 @@ pub(crate) enum ListKind {
 }
 
 // What a list's file is named by, but for the language.
-#[derive(Drop)]
+#[derive(Clone, Copy)]
 pub(crate) struct ListName {
     pub(crate) kind: NameType,
     pub(crate) list: ListKind,

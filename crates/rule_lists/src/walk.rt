@@ -16,14 +16,14 @@ pub(crate) const MOST_NESTED: usize = 8;
 const MOST_FOLLOWED: usize = 256;
 
 // What a walk is for.
-#[derive(Drop)]
+#[derive(Clone, Copy)]
 pub(crate) enum Task {
     Survey,
     Collect,
 }
 
 // How many includes were followed, how many first characters were noted, and how many rules kept.
-#[derive(Drop)]
+#[derive(Clone, Copy)]
 pub(crate) struct State {
     pub(crate) followed: usize,
     pub(crate) noted: usize,
@@ -31,7 +31,7 @@ pub(crate) struct State {
 }
 
 // A file to read: its number, where its content stands in the bundle, and how many more may be nested below it.
-#[derive(Drop)]
+#[derive(Clone, Copy)]
 pub(crate) struct Source {
     pub(crate) file: usize,
     pub(crate) start: usize,
@@ -40,14 +40,14 @@ pub(crate) struct Source {
 }
 
 // Where an include stands: its file and line, and how many files may be nested there.
-#[derive(Drop)]
+#[derive(Clone, Copy)]
 pub(crate) struct IncludeAt {
     pub(crate) file: usize,
     pub(crate) line: usize,
     pub(crate) left: usize,
 }
 
-#[derive(Drop)]
+#[derive(Clone, Copy)]
 pub(crate) enum Walked {
     Done {
         state: State,
@@ -224,7 +224,7 @@ fn walk(
 }
 
 // How many rules a listed file holds, or the refusal.
-#[derive(Drop)]
+#[derive(Clone, Copy)]
 pub(crate) enum Collected {
     Rules {
         n: usize,

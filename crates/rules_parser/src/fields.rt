@@ -3,7 +3,7 @@ ghost use Rattle.std.specs.Prelude.{◌≡◌};
 ghost use Rattle.rules_parser.specs.Fields.{passes_of, span_end, pair_at, quoted_at, bare_at, field_at, parted_at, part_of, ends_at, tail_ok};
 
 // What a run of bytes consists of.
-#[derive(Drop)]
+#[derive(Clone, Copy)]
 pub(crate) enum Kind {
     Blank,
     NotBlank,
@@ -12,21 +12,21 @@ pub(crate) enum Kind {
 }
 
 // How a field is written.
-#[derive(Drop)]
+#[derive(Clone, Copy)]
 pub(crate) enum FieldKind {
     Quoted,
     Plain,
 }
 
 // A part of the slice.
-#[derive(Drop)]
+#[derive(Clone, Copy)]
 pub struct Text {
     pub start: usize,
     pub len: usize,
 }
 
 // A field and the place behind it.
-#[derive(Drop)]
+#[derive(Clone, Copy)]
 pub(crate) enum Field {
     Is { text: Text, next: usize },
     No,

@@ -8,14 +8,14 @@ use crate::fields::Kind;
 use crate::lines::{Clause, FileKind, Line};
 
 // The place behind the end of a comment, and how many lines it takes.
-#[derive(Drop)]
+#[derive(Clone, Copy)]
 pub(crate) enum Close {
     At { next: usize, lines: usize },
     Open,
 }
 
 // What stands at the beginning of a line: nothing to keep for some lines, what the line says, or no line at all (12).
-#[derive(Drop)]
+#[derive(Clone, Copy)]
 pub enum Item {
     Passed { lines: usize, next: usize },
     Tells { told: Clause, next: usize },

@@ -5,7 +5,7 @@ ghost use Rattle.rules_parser.specs.InnerContracts.{string_from, strings_from};
 use crate::fields::{Kind, Text};
 
 // The four strings of a rule.
-#[derive(Drop)]
+#[derive(Clone, Copy)]
 pub struct Strings {
     pub pattern: Text,
     pub left: Text,

@@ -6,7 +6,7 @@ ghost use Rattle.rules_parser.specs.Lines.{text_at, rule_told, guess_told, accep
 use crate::fields::{Field, FieldKind, Kind, Text};
 
 // What a file is read for.
-#[derive(Drop)]
+#[derive(Clone, Copy)]
 pub enum FileKind {
     Languages,
     Guesses,
@@ -14,7 +14,7 @@ pub enum FileKind {
 }
 
 // What a line says: the four strings of a rule, an include's file name, a guessing rule, a language name.
-#[derive(Drop)]
+#[derive(Clone, Copy)]
 pub enum Clause {
     Rule {
         pattern: Text,
@@ -35,7 +35,7 @@ pub enum Clause {
     },
 }
 
-#[derive(Drop)]
+#[derive(Clone, Copy)]
 pub(crate) enum Line {
     Blank,
     Comment,
