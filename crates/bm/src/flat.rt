@@ -12,6 +12,7 @@ use loader::Loaded;
 use pack::Checked;
 
 // The code of an answer; `tail` takes its place (or how many bytes were written) and its flag.
+#[tactic(auto, using(crate::proofs::FlatLaws::flat_laws))]
 fn number(s: Spelled, tail: &mut [u64]) -> u32
     requires { 2 ≤ length tail.old }
     ensures { TailIs s tail.old tail.new result }
@@ -32,6 +33,7 @@ fn number(s: Spelled, tail: &mut [u64]) -> u32
 
 // The pack of a bundle: the code; `tail` takes bytes written or place, and the file's number.
 #[unsafe(no_mangle)]
+#[tactic(auto, using(crate::proofs::FlatLaws::flat_laws))]
 pub extern "C" fn bm_load(name_type: u32, bundle: &[u8], out: &mut [u8], tail: &mut [u64]) -> u32
     ensures { LoadFlat (written (load_of name_type bundle.now))
         out.old out.new tail.old tail.new result }
@@ -55,6 +57,7 @@ pub extern "C" fn bm_load(name_type: u32, bundle: &[u8], out: &mut [u8], tail: &
 
 // 0, or 5; `tail` takes the place.
 #[unsafe(no_mangle)]
+#[tactic(auto, using(crate::proofs::FlatLaws::flat_laws))]
 pub extern "C" fn bm_check(pack: &[u8], tail: &mut [u64]) -> u32
     ensures { CheckFlat pack.now tail.old tail.new result }
 {
@@ -75,6 +78,7 @@ pub extern "C" fn bm_check(pack: &[u8], tail: &mut [u64]) -> u32
 
 // A name's key, its languages guessed: the code; `tail` takes bytes written or place, and the flag.
 #[unsafe(no_mangle)]
+#[tactic(auto, using(crate::proofs::FlatLaws::flat_laws))]
 pub extern "C" fn bm_spell(
     name_type: u32,
     rule_type: u32,
@@ -103,6 +107,7 @@ pub extern "C" fn bm_spell(
 
 // The same with given languages.
 #[unsafe(no_mangle)]
+#[tactic(auto, using(crate::proofs::FlatLaws::flat_laws))]
 pub extern "C" fn bm_spell_given(
     name_type: u32,
     rule_type: u32,
@@ -132,6 +137,7 @@ pub extern "C" fn bm_spell_given(
 }
 
 // The start languages by number: 0 guessed, else given.
+#[tactic(auto, using(base::proofs::PickLaws::cases), unfolding(crate::specs::Flat::start_of))]
 fn start_of(given: u32, kind: u32, bits: u32) -> Start
     ensures { result ≡ start_of given kind bits }
 {
@@ -145,6 +151,7 @@ fn start_of(given: u32, kind: u32, bits: u32) -> Start
 // The lines of a block of names: 0, and `tail` takes how much was read and how much written; or 9, and `tail` takes the length that the
 // first line needs. `given` 0 guesses, else kind and bits count.
 #[unsafe(no_mangle)]
+#[tactic(auto, using(crate::proofs::FlatLaws::flat_laws))]
 pub extern "C" fn bm_spell_lines(
     name_type: u32,
     rule_type: u32,

@@ -1,4 +1,6 @@
 // Bundles of files: whether any bytes are one, and where the file of a name stands ("Bundle and pack").
+#![tactic(auto)]
+
 ghost use Rattle.std.specs.Prelude.{◌≡◌};
 ghost use Rattle.bundles.specs.Bundles.{read_bundle, well_formed};
 ghost use Rattle.bundles.specs.PlaceContracts.{file_numbers, file_at};
@@ -31,6 +33,7 @@ pub(crate) enum Entry {
 }
 
 // The file at a place.
+#[tactic(auto, using(crate::proofs::Laws::entry_laws))]
 fn entry_at(bundle: &[u8], at: usize) -> Entry
     ensures { EntryIs bundle.now at result }
 {
@@ -59,6 +62,7 @@ fn entry_at(bundle: &[u8], at: usize) -> Entry
 }
 
 // Whether `name` stands behind the one before it; the first has none before it.
+#[tactic(auto, using(crate::proofs::Laws::follows_laws))]
 fn follows(first: bool, before: &[u8], name: &[u8]) -> bool
     ensures { result ≡ follows_in first before.now name.now }
 {
@@ -73,6 +77,7 @@ fn follows(first: bool, before: &[u8], name: &[u8]) -> bool
 }
 
 // Whether any bytes are a bundle (10 otherwise).
+#[tactic(auto, using(crate::proofs::Laws::check_laws))]
 pub fn check_bundle(bundle: &[u8]) -> bool
     ensures { result ≡ well_formed (read_bundle bundle.now) }
 {
@@ -113,6 +118,7 @@ pub fn check_bundle(bundle: &[u8]) -> bool
 }
 
 // The first file of a name among those of `bundle`, as far as its bytes go.
+#[tactic(auto, using(crate::proofs::Laws::seek_laws))]
 pub fn find_file(bundle: &[u8], wanted: &[u8]) -> FileAt
     ensures { file_numbers result ≡ file_at bundle.now wanted.now }
 {

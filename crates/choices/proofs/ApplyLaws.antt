@@ -42,6 +42,7 @@ append_cases (x ∷ l) m {t} {g} (later h) = go (append_cases l m h)
     go (inr k) = inr k
 
 append_left : (l m : List Entry) {t : Text} {g : LanguageSet} → Holds l t g → Holds (l ++ m) t g
+append_left [] m x' = elim x' [ ]
 append_left (x ∷ l) m (first p q) = first p q
 append_left (x ∷ l) m (later h) = later (append_left l m h)
 
@@ -59,10 +60,12 @@ under_by e old a alts false q ih (later h) = more_alts (ih h)
 
 under_from : (e : Entry) (old : List Entry) (alts : List Alternative) {t : Text} {g : LanguageSet} → Holds (under e alts) t g → From (e ∷ old) alts t g
 unfolding under
+under_from e old [] h = elim h [ ]
 under_from e old (a ∷ alts) h = under_by e old a alts (is_empty (narrowed e.langs a.langs)) refl (under_from e old alts) h
 
 pub candidates_from : (old : List Entry) (alts : List Alternative) {t : Text} {g : LanguageSet} → Holds (candidates old alts) t g → From old alts t g
 unfolding candidates
+candidates_from [] alts h = elim h [ ]
 candidates_from (e ∷ old) alts {t} {g} h = go (candidates_from old alts) (append_cases (under e alts) (candidates old alts) h)
   where
     go : (Holds (candidates old alts) t g → From old alts t g) → Holds (under e alts) t g ⊎ Holds (candidates old alts) t g → From (e ∷ old) alts t g
@@ -84,6 +87,7 @@ under_has e (there {b = b} {alts = alts} m) ne = under_skips e b alts (is_empty 
 pub candidates_has : (old : List Entry) (alts : List Alternative) {t : Text} {g : LanguageSet} (a : Alternative)
     → Holds old t g → a ∈ alts → is_empty (narrowed g a.langs) ≡ false → Holds (candidates old alts) (t ++ a.text) (narrowed g a.langs)
 unfolding candidates
+candidates_has [] alts a x3 m ne = elim x3 [ ]
 candidates_has (e ∷ old) alts a (first p q) m ne =
     holds_eq (ap (λ (s : Text). s ++ a.text) p) (ap (λ (k : LanguageSet). narrowed k a.langs) q)
     (append_left (under e alts) _ (under_has e m (ap (λ (k : LanguageSet). is_empty (narrowed k a.langs)) q ∙ ne)))
@@ -102,6 +106,7 @@ module _ {limit : ℕ} {alts : List Alternative} {l r : List Entry} (e : Applied
 
   -- what is held comes from an old text and an alternative
   pub apply_from : {t : Text} {g : LanguageSet} → Holds r t g → From l alts t g
+  go (inr x') = elim x' [ ]
   apply_from {t} {g} h = go (enter_sound run h)
     where
       go : Holds (candidates l alts) t g ⊎ Holds [] t g → From l alts t g

@@ -27,12 +27,14 @@ use Rattle.choices.proofs.ApplyLaws.{holds_eq, under_has}
 -- what stands behind the first of an increasing list is greater
 before_all : (s : Text) (l : List Entry) {t : Text} {g : LanguageSet} → First s (texts_of l) → Increasing (texts_of l) → Holds l t g → order_of s t ≡ Less
 unfolding First Increasing
+before_all s [] f i x3 = elim x3 [ ]
 before_all s (x ∷ l) f i (first p q) = rw (← p) f
 before_all s (x ∷ l) {t} f i (later h) = compare_trans s x.text t f (before_all x.text l i.0 i.1 h)
 
 -- it stays as it was, and so do all the others
 pub insert_there : (e : Entry) (l : List Entry) {g : LanguageSet} → Increasing (texts_of l) → Holds l e.text g → insert e l ≡ l
 unfolding insert Increasing by_order
+insert_there e [] i x'' = elim x'' [ ]
 insert_there e (x ∷ l) i (first p q) =
     let same : order_of x.text e.text ≡ Equal = rw p (compare_refl e.text) in
     simp same
@@ -75,6 +77,7 @@ under_append e (a ∷ xs) ys = under_by e xs ys a (is_empty (narrowed e.langs a.
 module _ (limit : ℕ) where
   -- below the limit each of them entered, so none is long
   enter_short : {cs l r : List Entry} {t : Text} {g : LanguageSet} → Entering limit cs l r → length r < limit → Holds cs t g → length t ≤ 128
+  enter_short (Rattle.choices.proofs.SetLaws.ended) few k = elim k [ ]
   enter_short (stopped full) few k =
       let nothing : ⊥ = omega arith in
       absurd nothing

@@ -157,6 +157,7 @@ once_by t x n Greater q z (inr h) = h
 
 pub times_one : (l : List Entry) {t : Text} {g : LanguageSet} → Increasing (texts_of l) → Holds l t g → times t (texts_of l) ≡ 1
 unfolding Increasing times
+times_one [] i x'' = elim x'' [ ]
 times_one (x ∷ l) {t} i (first p q) =
     once_by t x.text _ (order_of x.text t) refl (λ e. times_none t (texts_of l) (rw e at i.0) i.1) (inl p)
 times_one (x ∷ l) {t} i (later h) =
@@ -216,6 +217,7 @@ module _ {limit : ℕ} where
   -- below the limit every text that was to come in is there, perhaps with other languages
   pub enter_has : {cs l r : List Entry} {t : Text} {g : LanguageSet} → Entering limit cs l r → length r < limit → Holds cs t g
       → (h : LanguageSet) × Holds r t h
+  enter_has (ended) few k = elim k [ ]
   enter_has (stopped full) few k =
       let nothing : ⊥ = omega arith in
       absurd nothing

@@ -80,6 +80,7 @@ fits_by e x Greater q f p =
 
 fits_eq : (e : Entry) (l : List Entry) {t : Text} {g : LanguageSet} → fits e l ≡ true → Holds l t g → e.text ≡ t → e.langs ≡ g
 unfolding fits
+fits_eq e [] f x3 s = elim x3 [ ]
 fits_eq e (x ∷ l) f (first p q) s = fits_by e x (order_of e.text x.text) refl (both _ _ f).0 (s ∙ sym p) ∙ q
 fits_eq e (x ∷ l) f (later h) s = fits_eq e l (both _ _ f).1 h s
 
@@ -89,6 +90,7 @@ agreeing (e ∷ l) = pick (fits e l) (agreeing l) false
 
 agreeing_eq : (l : List Entry) {t : Text} {g h : LanguageSet} → agreeing l ≡ true → Holds l t g → Holds l t h → g ≡ h
 unfolding agreeing
+agreeing_eq [] f x3 _ = elim x3 [ ]
 agreeing_eq (e ∷ l) f (first p q) (first p' q') = sym q ∙ q'
 agreeing_eq (e ∷ l) f (first p q) (later k) = sym q ∙ fits_eq e l (both _ _ f).0 k p
 agreeing_eq (e ∷ l) f (later k) (first p q) = sym (fits_eq e l (both _ _ f).0 k p) ∙ q

@@ -1,1 +1,3 @@
 // Demand 3 and the flag, for the passes over a word. No code.
+
+#![tactic(auto)]

@@ -67,6 +67,7 @@ pub struct Call {
 }
 
 // The pack's numbers, and the table that its rules are found by; numbered where many names are asked for.
+#[tactic(auto, using(crate::proofs::CallLaws::open_laws))]
 pub(crate) fn open(pack: &[u8], table: &mut Table, numbered: bool) -> Opened
     ensures { OpenedIs pack.now table.new result }
 {
@@ -81,6 +82,7 @@ pub(crate) fn open(pack: &[u8], table: &mut Table, numbered: bool) -> Opened
 }
 
 // Which of the names is `any`.
+#[tactic(auto, using(crate::proofs::CallLaws::any_laws, languages::proofs::NumberLaws::listed_one))]
 fn any_of(listed: &[u8]) -> usize
     requires { name_place any (strings_of listed.now) < min 32 (length (strings_of listed.now)) }
     ensures { result ≡ name_place any (strings_of listed.now) }
@@ -92,6 +94,7 @@ fn any_of(listed: &[u8]) -> usize
 }
 
 // Whether the settings' numbers are known (else 4).
+#[tactic(auto, using(base::proofs::PickLaws::cases), unfolding(crate::specs::Calls::settings_known))]
 pub(crate) fn are_known(settings: Settings, start: Start) -> bool
     ensures { result ≡ settings_known settings start }
 {
@@ -107,6 +110,7 @@ pub(crate) fn are_known(settings: Settings, start: Start) -> bool
     false
 }
 
+#[tactic(auto, unfolding(crate::specs::Calls::kind_known))]
 fn is_known(start: Start) -> bool
     ensures { result ≡ kind_known start }
 {
@@ -117,6 +121,7 @@ fn is_known(start: Start) -> bool
 }
 
 // Whether each given bit has a language (else 6); only with kind 2 the bits count.
+#[tactic(auto, using(crate::proofs::CallLaws::start_laws))]
 pub(crate) fn have_languages(start: Start, languages: usize) -> bool
     requires { languages ≤ 32 }
     ensures { result ≡ have_languages languages start }
@@ -134,6 +139,7 @@ pub(crate) fn have_languages(start: Start, languages: usize) -> bool
 }
 
 // Whether bits are of the first n languages alone.
+#[tactic(auto, using(crate::proofs::CallLaws::shift_below, crate::proofs::CallLaws::all_below))]
 fn are_below(bits: u32, n: usize) -> bool
     requires { n ≤ 32 }
     ensures { result ≡ ltb bits (2 ^ n) }
@@ -145,6 +151,7 @@ fn are_below(bits: u32, n: usize) -> bool
     }
 }
 
+#[tactic(auto, using(base::proofs::PickLaws::cases), unfolding(crate::specs::Calls::type_of))]
 fn type_of(number: u32) -> NameType
     ensures { result ≡ type_of number }
 {
@@ -157,6 +164,7 @@ fn type_of(number: u32) -> NameType
     }
 }
 
+#[tactic(auto, unfolding(crate::specs::InnerContracts::is_guessed))]
 fn is_guessed(start: Start) -> bool
     ensures { result ≡ is_guessed start }
 {
@@ -167,6 +175,7 @@ fn is_guessed(start: Start) -> bool
 }
 
 // The set that is given, if one is.
+#[tactic(auto, using(languages::proofs::NumberLaws::set_one, crate::proofs::CallLaws::start_laws))]
 fn set_of(start: Start) -> LanguageSet
     ensures { result ≡ start_set start Any }
 {
@@ -185,6 +194,7 @@ fn set_of(start: Start) -> LanguageSet
 }
 
 // The call of known settings on a usable pack.
+#[tactic(auto, using(crate::proofs::CallLaws::call_made))]
 pub(crate) fn call_of(
     settings: Settings,
     start: Start,
@@ -208,6 +218,7 @@ pub(crate) fn call_of(
 }
 
 // The same call, for names that are spelled afresh or with a set.
+#[tactic(auto, unfolding(crate::specs::InnerContracts::with_start))]
 fn with_start(call: Call, fresh: bool, set: LanguageSet) -> Call
     ensures { result ≡ with_start call fresh set }
 {
@@ -234,6 +245,7 @@ pub(crate) fn afresh(call: Call) -> Call
 }
 
 // The set that a name starts with.
+#[tactic(auto, using(base::proofs::PickLaws::cases, crate::proofs::CallLaws::start_guessed))]
 fn start_of(pack: &[u8], table: &Table, call: Call, name: &[u8]) -> LanguageSet
     requires { CallReady pack.now table.now call }
     ensures { result ≡ pick call.fresh (guessed_at pack.now call.guesses call.languages name.now) call.set }
@@ -246,6 +258,7 @@ fn start_of(pack: &[u8], table: &Table, call: Call, name: &[u8]) -> LanguageSet
 }
 
 // The same call with that set.
+#[tactic(auto, unfolding(crate::specs::InnerContracts::started_by))]
 pub(crate) fn start_at(pack: &[u8], table: &Table, call: Call, name: &[u8]) -> Call
     requires { CallReady pack.now table.now call }
     ensures { result ≡ started_by call (guessed_at pack.now call.guesses call.languages name.now) }

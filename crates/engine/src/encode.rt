@@ -44,6 +44,7 @@ pub enum Joined {
 }
 
 // The language whose lists are used: the single one, else `any`.
+#[tactic(auto, using(crate::proofs::EncodeLaws::encode_laws))]
 fn language_of(set: LanguageSet, any: usize) -> usize
     ensures { result ≡ language_by (single_of set) any }
 {
@@ -53,6 +54,7 @@ fn language_of(set: LanguageSet, any: usize) -> usize
     }
 }
 
+#[tactic(auto, unfolding(crate::specs::InnerContracts::list_numbers))]
 fn lists_of(call: Call, l: usize) -> Lists
     requires { (l < call.languages) × (call.languages ≤ 32) × (call.rules < 2) }
     ensures { result ≡ list_numbers call l }
@@ -79,6 +81,7 @@ fn forward(at: usize, n: usize) -> usize
 }
 
 // What a word's answer comes to.
+#[tactic(auto, using(crate::proofs::EncodeLaws::encode_laws))]
 fn ended(answer: Worded, at: usize) -> AnswerEnd
     ensures { EndedIs answer at result }
 {
@@ -105,6 +108,7 @@ fn ended(answer: Worded, at: usize) -> AnswerEnd
 }
 
 // Whether a name with no prefix is spelled as one word.
+#[tactic(auto, using(base::proofs::PickLaws::cases))]
 pub(crate) fn is_one_part(call: Call, name: &[u8]) -> bool
     ensures { result ≡ pick call.concat true (one_word name.now) }
 {
@@ -116,6 +120,7 @@ pub(crate) fn is_one_part(call: Call, name: &[u8]) -> bool
 }
 
 // A word spelled with the call's set, into `out` from `at` on where it fits as a whole.
+#[tactic(auto, using(crate::proofs::EncodeLaws::language_below, crate::proofs::EncodeLaws::few, crate::proofs::EncodeLaws::word_spelt))]
 fn spell_word(
     store: &mut Store,
     slots: &mut Slots,
@@ -144,6 +149,7 @@ fn spell_word(
 }
 
 // A name spelled as one word: its words joined, or the part of it where its only word stands.
+#[tactic(auto, using(crate::proofs::EncodeLaws::part_laws))]
 pub(crate) fn spell_part(
     store: &mut Store,
     slots: &mut Slots,
@@ -171,6 +177,7 @@ pub(crate) fn spell_part(
 }
 
 // Where a name is parted: only Generic ones are.
+#[tactic(auto, using(crate::proofs::EncodeLaws::encode_laws))]
 pub(crate) fn part_of(kind: NameType, name: &[u8]) -> Prefix
     ensures { result ≡ parted_as kind name.now }
 {
@@ -182,6 +189,7 @@ pub(crate) fn part_of(kind: NameType, name: &[u8]) -> Prefix
 }
 
 // A name's prefix joined to its remainder, at the front of a buffer, if it has one.
+#[tactic(auto, using(crate::proofs::NameLaws::join_laws))]
 fn join_parts(kind: NameType, name: &[u8], joined: &mut [u8]) -> Joined
     requires { (length name.now ≤ 96) × (length joined.old ≡ 96) }
     ensures { JoinedIs kind name.now joined.new result }
@@ -196,6 +204,7 @@ fn join_parts(kind: NameType, name: &[u8], joined: &mut [u8]) -> Joined
 }
 
 // Between words, and not before the first: p is how far the name is read.
+#[tactic(auto, using(crate::proofs::EncodeLaws::encode_laws))]
 fn hyphen(out: &mut [u8], at: usize, p: usize) -> usize
     ensures { HyphenAt out.old out.new at p result }
 {
@@ -206,6 +215,7 @@ fn hyphen(out: &mut [u8], at: usize, p: usize) -> usize
     }
 }
 
+#[tactic(auto, using(crate::proofs::EncodeLaws::encode_laws))]
 fn either(a: bool, b: bool) -> bool
     ensures { result ≡ or a b }
 {
@@ -213,6 +223,7 @@ fn either(a: bool, b: bool) -> bool
 }
 
 // Two answers as one that ends at a place; the refusal of the first goes before.
+#[tactic(auto, using(crate::proofs::EncodeLaws::encode_laws))]
 fn both(first: AnswerEnd, second: AnswerEnd, at: usize) -> AnswerEnd
     ensures { result ≡ both_of first second at }
 {

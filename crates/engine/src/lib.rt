@@ -1,4 +1,6 @@
 // Spelling a name (engine.rs): every check, the name's parts, and its answer; one name, or a block of lines.
+#![tactic(auto)]
+
 mod call;
 mod encode;
 mod lines;

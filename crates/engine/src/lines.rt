@@ -64,6 +64,7 @@ fn put_decimal(n: usize, out: &mut [u8], at: usize) -> usize
 }
 
 // The line of a refusal, as far as there is room.
+#[tactic(auto, using(crate::proofs::LineLaws::refusal_put))]
 fn put_refusal(code: u8, place: usize, out: &mut [u8], at: usize) -> usize
     ensures { Put out.old out.new at result (refusal_line (refused_as code place)) }
 {
@@ -74,6 +75,7 @@ fn put_refusal(code: u8, place: usize, out: &mut [u8], at: usize) -> usize
 }
 
 // Whether a line with an answer of so many bytes has room.
+#[tactic(auto, using(crate::proofs::LineLaws::lines_laws))]
 fn has_room(n: usize, room: usize) -> bool
     ensures { result ≡ leb (n + 5) room }
 {
@@ -81,6 +83,7 @@ fn has_room(n: usize, room: usize) -> bool
 }
 
 // Whether an answer has no room here, but has in the whole buffer.
+#[tactic(auto, using(crate::proofs::LineLaws::lines_laws))]
 fn waits(code: u8, place: usize, size: usize) -> bool
     ensures { result ≡ waits_for code place size }
 {
@@ -92,6 +95,7 @@ fn waits(code: u8, place: usize, size: usize) -> bool
 }
 
 // What the line of a refusal tells as its place: for 9 the length of the line with the answer.
+#[tactic(auto, using(crate::proofs::LineLaws::lines_laws))]
 fn place_told(code: u8, place: usize) -> usize
     ensures { result ≡ place_told code place }
 {
@@ -99,6 +103,7 @@ fn place_told(code: u8, place: usize) -> usize
 }
 
 // How many bytes the name's line needs: for 9 the line with the answer, else the line of the refusal, which has n.
+#[tactic(auto, using(crate::proofs::LineLaws::lines_laws))]
 fn length_told(code: u8, place: usize, n: usize) -> usize
     ensures { result ≡ length_told code place n }
 {
@@ -106,6 +111,7 @@ fn length_told(code: u8, place: usize, n: usize) -> usize
 }
 
 // The line of a refusal from `at` on where it fits, unless the answer waits.
+#[tactic(auto, using(crate::proofs::LineLaws::lines_laws))]
 fn refused_line(code: u8, place: usize, out: &mut [u8], space: Space) -> Fit
     requires { SpaceIn out.old space }
     ensures { RefusedIs code place out.old out.new space result }
@@ -128,6 +134,7 @@ fn refused_line(code: u8, place: usize, out: &mut [u8], space: Space) -> Fit
 }
 
 // What stands before an answer.
+#[tactic(auto, using(crate::proofs::LineLaws::digit_small, crate::proofs::LineLaws::head_is))]
 fn put_head(flag: bool, out: &mut [u8], at: usize) -> usize
     ensures { Put out.old out.new at result (head_of flag) }
 {
@@ -136,6 +143,7 @@ fn put_head(flag: bool, out: &mut [u8], at: usize) -> usize
 }
 
 // What stands before and behind an answer in its place, 4 bytes behind `at`, where they fit; else the answer is too long.
+#[tactic(auto, using(crate::proofs::LineLaws::lines_laws))]
 fn done_line(written: usize, flag: bool, out: &mut [u8], space: Space) -> Fit
     requires { SpaceIn out.old space }
     ensures { DoneIs written flag out.old out.new space result }
@@ -168,6 +176,7 @@ fn end_of(a: usize, size: usize) -> usize
 }
 
 // A name spelled, its answer in its place in a line.
+#[tactic(auto, using(crate::proofs::LentLaws::lent_laws))]
 fn spell_behind(
     store: &mut Store,
     slots: &mut Slots,
@@ -188,6 +197,7 @@ fn spell_behind(
 }
 
 // The line of one name, where it fits.
+#[tactic(auto, using(crate::proofs::NameLineLaws::put_laws))]
 fn put_line(
     store: &mut Store,
     slots: &mut Slots,
@@ -211,6 +221,7 @@ fn put_line(
 }
 
 // What is answered where a line has no room: that, if it is the first, else what was read and written.
+#[tactic(auto, using(crate::proofs::LineLaws::lines_laws))]
 fn stopped(read: usize, written: usize, needed: usize) -> Lines
     ensures { result ≡ stopped_at read written needed }
 {
@@ -230,6 +241,7 @@ fn past_line(block: &[u8], read: usize, n: usize) -> usize
 }
 
 // The lines of whole names, as many as fit.
+#[tactic(auto, using(crate::proofs::LinesLaws::going_laws))]
 fn put_lines(
     store: &mut Store,
     slots: &mut Slots,

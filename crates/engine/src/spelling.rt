@@ -32,6 +32,7 @@ pub enum NameCheck {
 }
 
 // Refusals 3, 1 and 2.
+#[tactic(auto, using(crate::proofs::CallLaws::found_laws))]
 fn letters_of(name: &[u8]) -> NameCheck
     ensures { FoundIs (letters_then name.now) result }
 {
@@ -57,6 +58,7 @@ fn letters_of(name: &[u8]) -> NameCheck
 }
 
 // Refusals 4, 3, 1 and 2, which come before the pack's.
+#[tactic(auto, using(crate::proofs::CallLaws::found_laws))]
 fn refusal_of(settings: Settings, start: Start, name: &[u8]) -> NameCheck
     ensures { FoundIs (checked_then settings start name.now) result }
 {
@@ -71,6 +73,7 @@ fn refusal_of(settings: Settings, start: Start, name: &[u8]) -> NameCheck
 }
 
 // An answer of so many bytes, or that they have no room.
+#[tactic(auto, using(crate::proofs::CallLaws::place_kept, crate::proofs::CallLaws::place_cut, base::proofs::PickLaws::cases), unfolding(crate::specs::InnerContracts::answered_by))]
 fn answer(a: AnswerEnd, room: usize) -> Spelled
     ensures { result ≡ answered_by a room }
 {
@@ -98,6 +101,7 @@ fn answer(a: AnswerEnd, room: usize) -> Spelled
 }
 
 // Whether the name is spelled as one word, whose texts are at hand when its length is known.
+#[tactic(auto, using(crate::proofs::AnswerLaws::single_parted, crate::proofs::AnswerLaws::single_whole))]
 fn is_single(call: Call, name: &[u8]) -> bool
     ensures { result ≡ whole_and (parted_as call.kind name.now) (pick call.concat true (one_word name.now)) }
 {
@@ -109,6 +113,7 @@ fn is_single(call: Call, name: &[u8]) -> bool
 }
 
 // An answer held apart, written where it fits. False where it fits, but is too long to be held apart.
+#[tactic(auto, using(crate::proofs::AnswerLaws::copy_laws))]
 fn copy_out(a: AnswerEnd, apart: &[u8], out: &mut [u8]) -> bool
     ensures { CopyOutIs a apart.now out.old out.new result }
 {
@@ -127,6 +132,7 @@ fn copy_out(a: AnswerEnd, apart: &[u8], out: &mut [u8]) -> bool
 
 // A lower-cased name, its hyphens now spaces, written as a whole or not at all. What is spelled as one word is spelled once; parts are
 // spelled apart first, and what is too long to be held apart is spelled again.
+#[tactic(auto, using(crate::proofs::AnswerLaws::lowered_laws))]
 fn spell_lowered(
     store: &mut Store,
     slots: &mut Slots,
@@ -153,6 +159,7 @@ fn spell_lowered(
 }
 
 // A name lower-cased at the front of a buffer, its languages guessed, and then its hyphens made spaces. Returns the call with its set.
+#[tactic(auto, using(crate::proofs::AnswerLaws::lowered_in, crate::proofs::AnswerLaws::lowered_told))]
 fn lower_name(pack: &[u8], table: &Table, call: Call, name: &[u8], low: &mut [u8]) -> Call
     requires call_ready { CallReady pack.now table.now call }
     requires name_len_bound { (length name.now ≤ 96) × (length low.old ≡ 96) }
@@ -166,6 +173,7 @@ fn lower_name(pack: &[u8], table: &Table, call: Call, name: &[u8], low: &mut [u8
 }
 
 // A name that is fine, lower-cased and spelled.
+#[tactic(auto, using(crate::proofs::AnswerLaws::low_laws))]
 fn spell_fine(
     store: &mut Store,
     slots: &mut Slots,
@@ -186,6 +194,7 @@ fn spell_fine(
 }
 
 // A name that is fine, with known settings: refusals 5 and 6, and then its answer.
+#[tactic(auto, using(crate::proofs::AnswerLaws::opened_laws))]
 fn spell_opened(
     store: &mut Store,
     slots: &mut Slots,
@@ -226,6 +235,7 @@ fn spell_opened(
 }
 
 // Any name, with any settings: the checks in the order 4, 3, 1, 2, 5, 6, and then its answer.
+#[tactic(auto, using(crate::proofs::AnswerLaws::at_laws))]
 pub(crate) fn spell_at(
     store: &mut Store,
     slots: &mut Slots,

@@ -7,6 +7,7 @@ use crate::pieces::{inside_of, may_stand_in_box, middle_of, piece_len, stands_fo
 use letters::Step;
 
 // Whether l is one or more characters that a box may hold.
+#[tactic(auto, using(crate::proofs::FormLaws::listing_laws))]
 fn is_listed(l: &[u8]) -> bool
     ensures { result ≡ listed_box l.now }
 {
@@ -34,6 +35,7 @@ fn is_listed(l: &[u8]) -> bool
 }
 
 // Whether the character at the front of l is plain.
+#[tactic(auto, using(crate::proofs::FormLaws::good_laws))]
 fn is_good_char(l: &[u8]) -> bool
     ensures { result ≡ good_piece (char_piece (decode_at l.now 0)) }
 {
@@ -45,6 +47,7 @@ fn is_good_char(l: &[u8]) -> bool
 }
 
 // Whether the piece at the front of l is within the forms.
+#[tactic(auto, using(crate::proofs::FormLaws::good_laws))]
 fn is_good(l: &[u8]) -> bool
     ensures { result ≡ good_piece (piece_at l.now) }
 {
@@ -56,6 +59,7 @@ fn is_good(l: &[u8]) -> bool
 }
 
 // Whether each piece of t is within the forms.
+#[tactic(auto, using(crate::proofs::FormLaws::passing_laws))]
 fn all_good(t: &[u8]) -> bool
     ensures { result ≡ all_good (pattern_pieces t.now) }
 {
@@ -72,6 +76,7 @@ fn all_good(t: &[u8]) -> bool
 }
 
 // Whether p holds neither space nor tab.
+#[tactic(auto, using(crate::proofs::FormLaws::blank_laws))]
 fn is_blankless(p: &[u8]) -> bool
     ensures { result ≡ blankless p.now }
 {
@@ -83,6 +88,7 @@ fn is_blankless(p: &[u8]) -> bool
 }
 
 // Whether p has 1 to 255 bytes, begins with neither `/` nor `#` and holds no blank.
+#[tactic(auto, unfolding(crate::specs::Patterns::framed))]
 fn is_framed(p: &[u8]) -> bool
     ensures { result ≡ framed p.now }
 {
@@ -101,6 +107,7 @@ fn is_framed(p: &[u8]) -> bool
 }
 
 // Whether the pattern is within the forms.
+#[tactic(auto, using(crate::proofs::FormLaws::forms_laws))]
 pub fn check_pattern(p: &[u8]) -> bool
     ensures { result ≡ in_forms p.now }
 {

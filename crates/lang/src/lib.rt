@@ -1,4 +1,6 @@
 // Guessing patterns (01, Guessing lines): which are within the forms, and whether one matches a name.
+#![tactic(auto)]
+
 mod forms;
 mod matching;
 mod pairs;

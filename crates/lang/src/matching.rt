@@ -9,6 +9,7 @@ use crate::pieces::{inside_of, middle_of, piece_len};
 use letters::Step;
 
 // Whether the box with this inside takes the character.
+#[tactic(auto, using(crate::proofs::Fits::takes_laws))]
 fn box_takes(inside: &[u8], k: u32) -> bool
     ensures { result ≡ takes (box_piece inside.now) k }
 {
@@ -20,6 +21,7 @@ fn box_takes(inside: &[u8], k: u32) -> bool
 }
 
 // Whether the character at the front of l is k.
+#[tactic(auto, using(crate::proofs::Fits::takes_laws))]
 fn char_takes(l: &[u8], k: u32) -> bool
     ensures { result ≡ takes (char_piece (decode_at l.now 0)) k }
 {
@@ -31,6 +33,7 @@ fn char_takes(l: &[u8], k: u32) -> bool
 }
 
 // Whether the piece at the front of l takes the character.
+#[tactic(auto, using(crate::proofs::Fits::takes_laws))]
 fn piece_takes(l: &[u8], k: u32) -> bool
     ensures { result ≡ takes (piece_at l.now) k }
 {
@@ -42,6 +45,7 @@ fn piece_takes(l: &[u8], k: u32) -> bool
 }
 
 // Whether the pieces of t fit the name from the place `from` on, up to its end where `end`.
+#[tactic(auto, using(crate::proofs::Fits::fitting_laws))]
 fn fits_at(t: &[u8], end: bool, name: &[u8], from: usize) -> bool
     ensures { result ≡ fits_at (pattern_pieces t.now) end (codes_of (drop from name.now)) }
 {
@@ -72,6 +76,7 @@ fn fits_at(t: &[u8], end: bool, name: &[u8], from: usize) -> bool
 }
 
 // Whether t begins with a character that is not b, where b is one by itself.
+#[tactic(auto, using(base::proofs::PickLaws::cases), unfolding(crate::specs::InnerContracts::begins_with_other))]
 fn begins_with_other(t: &[u8], b: u8) -> bool
     ensures { result ≡ begins_with_other t.now b }
 {
@@ -87,6 +92,7 @@ fn begins_with_other(t: &[u8], b: u8) -> bool
 }
 
 // The same as `fits_at`, and most places are passed by their first byte.
+#[tactic(auto, using(crate::proofs::Shortcuts::place_passed))]
 fn fits_from(t: &[u8], end: bool, name: &[u8], from: usize) -> bool
     ensures { result ≡ fits_at (pattern_pieces t.now) end (codes_of (drop from name.now)) }
 {
@@ -99,6 +105,7 @@ fn fits_from(t: &[u8], end: bool, name: &[u8], from: usize) -> bool
 }
 
 // Whether the pieces of t fit the name from some place on.
+#[tactic(auto, using(crate::proofs::Fits::trying_laws))]
 fn fits_anywhere(t: &[u8], end: bool, name: &[u8]) -> bool
     ensures { result ≡ fits_anywhere (pattern_pieces t.now) end (codes_of name.now) }
 {
@@ -122,6 +129,7 @@ fn fits_anywhere(t: &[u8], end: bool, name: &[u8]) -> bool
 }
 
 // Whether the pattern matches the name anywhere that its anchors permit. It is not checked again here: any bytes are pieces.
+#[tactic(auto, using(crate::proofs::Fits::match_laws))]
 pub fn matches(p: &[u8], name: &[u8]) -> bool
     ensures { result ≡ matches_of p.now name.now }
 {

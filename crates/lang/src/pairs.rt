@@ -7,6 +7,7 @@ use crate::pieces::{middle_of, piece_len};
 use letters::Step;
 
 // The bit of a pair of characters.
+#[tactic(auto, using(texts::proofs::SignatureLaws::bit_of_lem))]
 fn pair_bit(x: u32, y: u32) -> u64
     ensures { result ≡ pair_bit x y }
 {
@@ -14,6 +15,7 @@ fn pair_bit(x: u32, y: u32) -> u64
 }
 
 // The same where the first of them is known, and no bit where it is not.
+#[tactic(auto, using(base::proofs::PickLaws::cases), unfolding(crate::specs::InnerContracts::pair_where))]
 fn pair_where(known: bool, x: u32, y: u32) -> u64
     ensures { result ≡ pair_where known x y }
 {
@@ -21,6 +23,7 @@ fn pair_where(known: bool, x: u32, y: u32) -> u64
 }
 
 // The pairs of a name: the bits of each two characters that stand side by side, with 0 before the first and behind the last.
+#[tactic(auto, using(crate::proofs::PairLaws::pairing_laws))]
 pub fn find_pairs(name: &[u8]) -> u64
     ensures { result ≡ pairs_of name.now }
 {
@@ -45,6 +48,7 @@ pub fn find_pairs(name: &[u8]) -> u64
 }
 
 // The character that stands at the front of l as a piece; none where a box does.
+#[tactic(auto, using(base::proofs::PickLaws::cases), unfolding(crate::specs::InnerContracts::front_char))]
 fn front_char(l: &[u8]) -> Step
     ensures { result ≡ front_char l.now }
 {
@@ -56,6 +60,7 @@ fn front_char(l: &[u8]) -> Step
 }
 
 // The pairs that the pieces of t require, with the name's start before them where `start`, and its end behind them where `end`.
+#[tactic(auto, using(crate::proofs::PairLaws::chaining_laws))]
 fn pairs_in(t: &[u8], start: bool, end: bool) -> u64
     ensures { result ≡ pairs_needed start 0 end (pattern_pieces t.now) }
 {
@@ -88,6 +93,7 @@ fn pairs_in(t: &[u8], start: bool, end: bool) -> u64
 }
 
 // The pairs that a pattern requires: where a name has not all of them, `matches` is false (PairLaws: `pairs-lacking-not`).
+#[tactic(auto, using(crate::proofs::PairLaws::chaining_laws))]
 pub fn required_pairs(p: &[u8]) -> u64
     ensures { result ≡ pairs_required p.now }
 {

@@ -6,6 +6,7 @@ ghost use Rattle.lang.specs.Patterns.{plain, box_plain, middle, inside_of, box_l
 use letters::Step;
 
 // Whether the character is none of `\ . + * ? ( ) | [ ] { } ^ $`.
+#[tactic(auto, using(crate::proofs::Signs::sign_laws))]
 pub(crate) fn stands_for_itself(code: u32) -> bool
     ensures { result ≡ plain code }
 {
@@ -16,6 +17,7 @@ pub(crate) fn stands_for_itself(code: u32) -> bool
 }
 
 // Whether a box may hold the character: none of `- & ~` either.
+#[tactic(auto, using(crate::proofs::Signs::sign_laws))]
 pub(crate) fn may_stand_in_box(code: u32) -> bool
     ensures { result ≡ box_plain code }
 {
@@ -26,6 +28,7 @@ pub(crate) fn may_stand_in_box(code: u32) -> bool
 }
 
 // What stands between the anchors of p.
+#[tactic(auto, using(crate::proofs::PieceLaws::middle_by))]
 pub(crate) fn middle_of(p: &[u8]) -> &[u8]
     ensures { result.now ≡ middle p.now }
 {
@@ -33,6 +36,7 @@ pub(crate) fn middle_of(p: &[u8]) -> &[u8]
 }
 
 // The inside of a box, from behind its `[`: up to the first `]`, and empty where there is none.
+#[tactic(auto, using(crate::proofs::PieceLaws::box_laws))]
 pub(crate) fn inside_of(t: &[u8]) -> &[u8]
     ensures { result.now ≡ inside_of t.now }
 {
@@ -41,6 +45,7 @@ pub(crate) fn inside_of(t: &[u8]) -> &[u8]
 }
 
 // The bytes of a box, from behind its `[`: all that is left where it is not closed.
+#[tactic(auto, using(crate::proofs::PieceLaws::box_laws))]
 fn box_len(t: &[u8]) -> usize
     ensures { result ≡ box_length t.now }
 {
@@ -49,6 +54,7 @@ fn box_len(t: &[u8]) -> usize
 }
 
 // The bytes of the character at the front of l.
+#[tactic(auto, using(crate::proofs::PieceLaws::front_laws))]
 fn char_len(l: &[u8]) -> usize
     ensures { result ≡ char_length (decode_at l.now 0) }
 {
@@ -60,6 +66,7 @@ fn char_len(l: &[u8]) -> usize
 }
 
 // The bytes of the piece at the front of l.
+#[tactic(auto, using(crate::proofs::PieceLaws::front_laws))]
 pub(crate) fn piece_len(l: &[u8]) -> usize
     ensures { result ≡ length_at l.now }
 {

@@ -5,6 +5,7 @@ ghost use Rattle.lang.specs.InnerContracts.{bits_in, required_of};
 use crate::pieces::{middle_of, piece_len};
 
 // The bits of the bytes of t that are outside its boxes.
+#[tactic(auto, using(crate::proofs::Shortcuts::requiring_laws))]
 fn bits_in(t: &[u8]) -> u64
     ensures { result ≡ bits_in false t.now }
 {
@@ -22,6 +23,7 @@ fn bits_in(t: &[u8]) -> u64
 }
 
 // The bits that a pattern requires: where a name's signature has not all of them, `matches` is false (Shortcuts: `lacking-not`).
+#[tactic(auto, using(crate::proofs::Shortcuts::requiring_laws))]
 pub fn required_bits(p: &[u8]) -> u64
     ensures { result ≡ required_of p.now }
 {

@@ -1,4 +1,6 @@
 // Language sets and language names (`languages.rs`).
+#![tactic(auto)]
+
 mod names;
 mod sets;
 

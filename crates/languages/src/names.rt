@@ -13,12 +13,14 @@ pub enum Listed {
 }
 
 // A letter a to z.
+#[tactic(auto, using(base::proofs::PickLaws::cases), unfolding(crate::specs::Names::is_letter))]
 fn is_letter(b: u8) -> bool
     ensures { result ≡ is_letter b }
 {
     if b'a' <= b { b <= b'z' } else { false }
 }
 
+#[tactic(auto, using(crate::proofs::NameLaws::letters_laws))]
 fn all_letters(s: &[u8]) -> bool
     ensures { result ≡ all_letters s.now }
 {
@@ -34,6 +36,7 @@ fn all_letters(s: &[u8]) -> bool
 }
 
 // A language name: 1 to 24 letters, but not `common`.
+#[tactic(auto, using(base::proofs::PickLaws::cases), unfolding(crate::specs::Names::language_name))]
 pub fn is_language_name(s: &[u8]) -> bool
     ensures { result ≡ language_name s.now }
 {
@@ -50,6 +53,7 @@ pub fn is_language_name(s: &[u8]) -> bool
 }
 
 // The bit of `name`: 2 to the place of the first string that is `name`, among the first 32 that `names` holds.
+#[tactic(auto, using(crate::proofs::NameLaws::find_laws, crate::proofs::NumberLaws::listed_told))]
 pub fn find_language(names: &[u8], name: &[u8]) -> Listed
     ensures { listed_numbers result ≡ listed_numbers (language_bit names.now name.now) }
 {

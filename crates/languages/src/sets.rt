@@ -33,6 +33,7 @@ pub enum Single {
 
 impl LanguageSet {
     // This set merged with `other`.
+    #[tactic(auto, using(crate::proofs::NumberLaws::set_told), unfolding(crate::specs::Sets::merged))]
     pub fn merge(self, other: LanguageSet) -> LanguageSet
         ensures { set_numbers result ≡ set_numbers (merged self other) }
     {
@@ -47,6 +48,7 @@ impl LanguageSet {
         }
     }
 
+    #[tactic(auto, unfolding(crate::specs::Sets::is_single))]
     pub fn is_singleton(self) -> bool
         ensures { result ≡ is_single self }
     {
@@ -58,6 +60,7 @@ impl LanguageSet {
     }
 
     // The language of a single set: the place of its one bit.
+    #[tactic(auto, using(base::proofs::PickLaws::cases), unfolding(crate::specs::Sets::single_of))]
     pub fn single(self) -> Single
         ensures { result ≡ single_of self }
     {
@@ -76,6 +79,7 @@ impl LanguageSet {
 }
 
 // The languages of `mask` that are not in `less`.
+#[tactic(auto, unfolding(crate::specs::Sets::without))]
 pub fn subtract(mask: u32, less: u32) -> u32
     ensures { result ≡ without mask less }
 {
@@ -83,6 +87,7 @@ pub fn subtract(mask: u32, less: u32) -> u32
 }
 
 // The set as one number, the form in which sets are held in use.
+#[tactic(auto, unfolding(crate::specs::InnerContracts::coded))]
 pub fn coded(set: LanguageSet) -> u64
     ensures { result ≡ coded set }
 {
@@ -94,6 +99,7 @@ pub fn coded(set: LanguageSet) -> u64
 }
 
 // What is left of a set narrowed by another, of their numbers. No other code narrows a set or asks whether one is empty.
+#[tactic(auto, using(base::proofs::PickLaws::cases), unfolding(crate::specs::InnerContracts::codes_narrowed))]
 pub fn narrow_codes(a: u64, b: u64) -> Narrowed
     ensures { result ≡ codes_narrowed a b }
 {
@@ -106,6 +112,7 @@ pub fn narrow_codes(a: u64, b: u64) -> Narrowed
 }
 
 // The number of two sets merged, of their numbers.
+#[tactic(auto, unfolding(crate::specs::InnerContracts::codes_merged))]
 pub fn merge_codes(a: u64, b: u64) -> u64
     ensures { result ≡ codes_merged a b }
 {

@@ -27,6 +27,7 @@ fn least_of(a: usize, b: usize) -> usize
 }
 
 // How two bytes stand that differ.
+#[tactic(auto, using(base::proofs::PickLaws::cases))]
 fn order_of(a: u8, b: u8) -> Order
     ensures { result ≡ pick (ltb a b) Less Greater }
 {
@@ -41,6 +42,7 @@ fn wide(b: u8) -> u64
 }
 
 // The eight bytes at a place as one number, the first one the lowest.
+#[tactic(auto, using(crate::proofs::OrderLaws::order_laws))]
 fn eight_at(s: &[u8], i: usize) -> u64
     requires { i + 8 ≤ length s.now }
     ensures { EightIs s.now i result }
@@ -52,6 +54,7 @@ fn eight_at(s: &[u8], i: usize) -> u64
 }
 
 // Up to where both texts are the same, as far as eight bytes at a time tell.
+#[tactic(auto, using(crate::proofs::OrderLaws::order_laws))]
 fn alike_to(a: &[u8], b: &[u8], n: usize) -> usize
     requires n_in_bounds { n ≤ length a.now }
     requires n_in_bounds_2 { n ≤ length b.now }
@@ -68,6 +71,7 @@ fn alike_to(a: &[u8], b: &[u8], n: usize) -> usize
 }
 
 // How a stands to b: by the first bytes that differ, else the shorter one first.
+#[tactic(auto, using(crate::proofs::OrderLaws::order_laws))]
 pub fn compare(a: &[u8], b: &[u8]) -> Order
     ensures { result ≡ order_of a.now b.now }
 {
@@ -89,6 +93,7 @@ pub fn compare(a: &[u8], b: &[u8]) -> Order
 }
 
 // Whether a and b are the same bytes.
+#[tactic(auto, using(crate::proofs::OrderLaws::same_laws))]
 pub fn same(a: &[u8], b: &[u8]) -> bool
     ensures { result ≡ same_text a.now b.now }
 {

@@ -5,6 +5,7 @@ ghost use Rattle.letters.specs.Reading.{in_range, first_outside};
 use crate::utf8::{Found, Step, decode};
 
 // Whether a name may hold the code point.
+#[tactic(auto, using(base::proofs::PickLaws::cases), unfolding(crate::specs::Reading::in_range, crate::specs::Utf8::within))]
 pub fn in_range(code: u32) -> bool
     ensures { result ≡ in_range code }
 {
@@ -20,6 +21,7 @@ pub fn in_range(code: u32) -> bool
 }
 
 // The first place of s at which no character of the range stands.
+#[tactic(auto, using(crate::proofs::ReadingLaws::outside_laws))]
 pub fn first_outside(s: &[u8]) -> Found
     ensures { result ≡ first_outside s.now }
 {

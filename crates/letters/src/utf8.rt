@@ -25,6 +25,7 @@ fn byte_at(s: &[u8], i: usize) -> u8
     if i < s.len() { s[i] } else { 0 }
 }
 
+#[tactic(auto, using(base::proofs::PickLaws::cases), unfolding(crate::specs::Utf8::within, base::specs::Pick::and))]
 fn is_within(lo: u8, hi: u8, b: u8) -> bool
     ensures { result ≡ within lo hi b }
 {
@@ -32,6 +33,7 @@ fn is_within(lo: u8, hi: u8, b: u8) -> bool
 }
 
 // The bounds of the second byte of three or four, by the first.
+#[tactic(auto, using(base::proofs::PickLaws::cases), unfolding(crate::specs::Utf8::low_second))]
 fn low_second(a: u8) -> u8
     ensures { result ≡ low_second a }
 {
@@ -44,6 +46,7 @@ fn low_second(a: u8) -> u8
     }
 }
 
+#[tactic(auto, using(base::proofs::PickLaws::cases), unfolding(crate::specs::Utf8::high_second))]
 fn high_second(a: u8) -> u8
     ensures { result ≡ high_second a }
 {
@@ -57,24 +60,28 @@ fn high_second(a: u8) -> u8
 }
 
 // The code point of two, three and four bytes.
+#[tactic(auto, unfolding(crate::specs::Utf8::code2))]
 fn code_2(a: u8, b: u8) -> u32
     ensures { result ≡ code2 a b }
 {
     (a % 32) as u32 * 64 + (b % 64) as u32
 }
 
+#[tactic(auto, unfolding(crate::specs::Utf8::code3))]
 fn code_3(a: u8, b: u8, c: u8) -> u32
     ensures { result ≡ code3 a b c }
 {
     (a % 16) as u32 * 4096 + (b % 64) as u32 * 64 + (c % 64) as u32
 }
 
+#[tactic(auto, unfolding(crate::specs::Utf8::code4))]
 fn code_4(a: u8, b: u8, c: u8, d: u8) -> u32
     ensures { result ≡ code4 a b c d }
 {
     (a % 8) as u32 * 262144 + (b % 64) as u32 * 4096 + (c % 64) as u32 * 64 + (d % 64) as u32
 }
 
+#[tactic(auto, using(base::proofs::PickLaws::cases), unfolding(crate::specs::Utf8::decode2))]
 fn decode_2(a: u8, b: u8) -> Step
     ensures { result ≡ decode2 a b }
 {
@@ -88,6 +95,7 @@ fn decode_2(a: u8, b: u8) -> Step
     }
 }
 
+#[tactic(auto, using(base::proofs::PickLaws::pick_yes, base::proofs::PickLaws::yes_by, crate::proofs::Utf8Laws::second_by, crate::proofs::Utf8Laws::char_of, base::proofs::PickLaws::cases), unfolding(crate::specs::Utf8::decode3))]
 fn decode_3(a: u8, b: u8, c: u8) -> Step
     ensures { result ≡ decode3 a b c }
 {
@@ -105,6 +113,7 @@ fn decode_3(a: u8, b: u8, c: u8) -> Step
     }
 }
 
+#[tactic(auto, using(base::proofs::PickLaws::pick_yes, base::proofs::PickLaws::yes_by, crate::proofs::Utf8Laws::second_by, crate::proofs::Utf8Laws::char_of, base::proofs::PickLaws::cases), unfolding(crate::specs::Utf8::decode4))]
 fn decode_4(a: u8, b: u8, c: u8, d: u8) -> Step
     ensures { result ≡ decode4 a b c d }
 {
@@ -127,6 +136,7 @@ fn decode_4(a: u8, b: u8, c: u8, d: u8) -> Step
 }
 
 // The character that starts with the byte a, before b, c and d.
+#[tactic(auto, using(base::proofs::PickLaws::cases), unfolding(crate::specs::Utf8::decode_bytes))]
 fn decode_bytes(a: u8, b: u8, c: u8, d: u8) -> Step
     ensures { result ≡ decode_bytes a b c d }
 {
@@ -147,6 +157,7 @@ fn decode_bytes(a: u8, b: u8, c: u8, d: u8) -> Step
 }
 
 // What stands at p of s, by its first byte and the three behind it.
+#[tactic(auto, using(crate::proofs::Utf8Laws::decode_at_in, base::proofs::PickLaws::cases), unfolding(crate::specs::Utf8::decode_at))]
 fn decode_long(s: &[u8], p: usize) -> Step
     ensures { result ≡ decode_at s.now p }
 {
@@ -163,6 +174,7 @@ fn decode_long(s: &[u8], p: usize) -> Step
 }
 
 // What stands at p of s. Most characters are of one or two bytes, which are told without looking at more.
+#[tactic(auto, using(crate::proofs::Utf8Laws::decode_laws))]
 pub fn decode(s: &[u8], p: usize) -> Step
     ensures { result ≡ decode_at s.now p }
 {
@@ -184,6 +196,7 @@ pub fn decode(s: &[u8], p: usize) -> Step
 }
 
 // Where the first ill-formed sequence of s starts.
+#[tactic(auto, using(crate::proofs::ReadingLaws::ill_laws))]
 pub fn first_ill(s: &[u8]) -> Found
     ensures { result ≡ first_ill s.now }
 {

@@ -29,6 +29,7 @@ pub(crate) enum Guessed {
 }
 
 // In the order 18, 15, 16.
+#[tactic(auto, using(crate::proofs::GuessLaws::judges))]
 fn judge(names: &[u8], pattern: &[u8], joined: &[u8]) -> Judged
     ensures { result ≡ judged_as names.now pattern.now joined.now }
 {
@@ -52,6 +53,7 @@ fn judge(names: &[u8], pattern: &[u8], joined: &[u8]) -> Judged
 }
 
 // Writes a guessing rule.
+#[tactic(auto, using(crate::proofs::GuessLaws::guess_put_lem))]
 fn put_guess(accept: bool, mask: u32, pattern: &[u8], out: &mut [u8], at: usize) -> usize
     ensures { Put out.old out.new at result (guess_put accept mask pattern.now) }
 {
@@ -61,6 +63,7 @@ fn put_guess(accept: bool, mask: u32, pattern: &[u8], out: &mut [u8], at: usize)
 }
 
 // Writes what fits of the rules of the guessing file s from a place on.
+#[tactic(auto, using(crate::proofs::GuessLaws::writes))]
 pub(crate) fn write_guesses(
     s: &[u8],
     file: usize,

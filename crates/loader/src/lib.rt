@@ -1,4 +1,6 @@
 // Loading: from the bytes of a bundle to those of a pack.
+#![tactic(auto)]
+
 mod guesses;
 mod language_list;
 mod loading;

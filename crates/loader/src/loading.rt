@@ -37,6 +37,7 @@ pub(crate) enum Kind {
     Unknown,
 }
 
+#[tactic(auto, using(crate::proofs::LoadingLaws::types))]
 fn kind_of(name_type: u32) -> Kind
     ensures { result ≡ type_numbered name_type }
 {
@@ -58,6 +59,7 @@ fn kind_of(name_type: u32) -> Kind
 }
 
 // The language list of a type.
+#[tactic(auto, unfolding(rule_lists::specs::Lists::type_prefix))]
 fn languages_file(kind: NameType, bundle: &[u8]) -> FileAt
     ensures { Rattle.bundles.specs.PlaceContracts.file_numbers result ≡ file_at bundle.now (type_prefix kind ++ languages_part) }
 {
@@ -69,6 +71,7 @@ fn languages_file(kind: NameType, bundle: &[u8]) -> FileAt
 }
 
 // The guessing file of a type.
+#[tactic(auto, unfolding(rule_lists::specs::Lists::type_prefix))]
 fn guessing_file(kind: NameType, bundle: &[u8]) -> FileAt
     ensures { Rattle.bundles.specs.PlaceContracts.file_numbers result ≡ file_at bundle.now (type_prefix kind ++ lang_part) }
 {
@@ -80,6 +83,7 @@ fn guessing_file(kind: NameType, bundle: &[u8]) -> FileAt
 }
 
 // The names of a type's languages, each behind its length byte.
+#[tactic(auto, using(crate::proofs::LoadingLaws::names_loaded))]
 fn load_names(kind: NameType, bundle: &[u8], names: &mut [u8]) -> Names
     requires { length names.old ≡ 832 }
     ensures { NamesRead (names_of kind (files_of bundle.now)) result names.new }
@@ -97,6 +101,7 @@ fn load_names(kind: NameType, bundle: &[u8], names: &mut [u8]) -> Names
 }
 
 // Writes what fits of a type's guessing rules, at most 4,096, behind their count, which is known and written last.
+#[tactic(auto, using(crate::proofs::LoadingLaws::guessed_laws))]
 fn load_guesses(kind: NameType, bundle: &[u8], names: &[u8], out: &mut [u8], at: usize) -> Written
     ensures { WrittenIs guesses_bytes (guess_file kind (files_of bundle.now) names.now) out.old out.new at result }
 {
@@ -127,6 +132,7 @@ fn load_guesses(kind: NameType, bundle: &[u8], names: &[u8], out: &mut [u8], at:
 }
 
 // Writes what fits of the pack.
+#[tactic(auto, using(crate::proofs::LoadingLaws::packs))]
 fn write_pack(
     kind: NameType,
     bundle: &[u8],
@@ -162,6 +168,7 @@ fn needed(length: usize) -> usize
 
 // The pack of a bundle, written where it fits. Most packs are made in a buffer of this call's own and copied; a larger one is
 // made once more, in `out`.
+#[tactic(auto, using(crate::proofs::LoadingLaws::answers))]
 fn load_pack(
     kind: NameType,
     bundle: &[u8],
@@ -198,6 +205,7 @@ fn load_pack(
 }
 
 // The bundle of a type, once it is well formed.
+#[tactic(auto, using(crate::proofs::LoadingLaws::files))]
 fn load_files(kind: NameType, bundle: &[u8], out: &mut [u8]) -> Loaded
     ensures { AnswerIs (written (pack_from kind (files_of bundle.now))) out.old result out.new }
 {
@@ -216,6 +224,7 @@ fn load_files(kind: NameType, bundle: &[u8], out: &mut [u8]) -> Loaded
 }
 
 // Loads the rule files of a type from any bytes. A refusal leaves `out` as it was, and a success the bytes behind the pack.
+#[tactic(auto, using(crate::proofs::LoadingLaws::loading))]
 pub fn load(name_type: u32, bundle: &[u8], out: &mut [u8]) -> Loaded
     ensures { LoadIs name_type bundle.now out.old result out.new }
 {

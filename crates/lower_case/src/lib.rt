@@ -1,4 +1,6 @@
 // Lower case of names.
+#![tactic(auto)]
+
 mod lower_case;
 mod table;
 

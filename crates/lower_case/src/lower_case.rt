@@ -9,6 +9,7 @@ use crate::table::LOWER;
 use letters::{Step, decode};
 
 // The lower case of a code point: what the table says below U+0180, and itself from there on.
+#[tactic(auto, using(crate::proofs::LowerLaws::lower_past), unfolding(crate::specs::Lower::lower_table))]
 pub fn lower(code: u32) -> u32
     ensures { result ≡ lower_of code }
 {
@@ -27,6 +28,7 @@ pub enum Lowered {
 }
 
 // Stores the UTF-8 of a code point at `at` of out.
+#[tactic(auto, using(crate::proofs::LowerLaws::put_laws))]
 fn put_char(out: &mut [u8], at: usize, code: u32)
     requires { (at + length (encode code) ≤ length out.old) × (code < 0x200000) }
     ensures { out.new ≡ sets out.old at (encode code) }
@@ -49,6 +51,7 @@ fn put_char(out: &mut [u8], at: usize, code: u32)
 }
 
 // Lower-cases s into the front of out, which must have room for all of it.
+#[tactic(auto, using(crate::proofs::LowerLaws::lowering_laws))]
 pub fn lower_into(s: &[u8], out: &mut [u8]) -> Lowered
     ensures { LoweredInto s.now out.old result out.new }
 {

@@ -9,7 +9,7 @@ use native.Mathlib.Omega.{arith}
 use lib.Dec.{eqb}
 use lib.ListN.{length, take, drop, length-append, length-drop, length-take, length-map}
 use lib.Seq.{take-length, drop-length, drop-drop, length-take-le}
-use borrow.Author.Tests.{eqb-true, not_true, not-false}
+use borrow.Author.Tests.{eqb-true, not-true, not-false}
 use Rattle.base.specs.Pick.{pick}
 use Rattle.base.proofs.Arms.{clash}
 use Rattle.letters.specs.Order.{same_text}
@@ -52,7 +52,7 @@ words_go : (l : List ℕ) → goes_on l ≡ true → words_of l ≡ take (letter
 unfolding goes_on letters words_of
 words_go [] e = clash (cc)
 words_go (b ∷ l) e =
-    let n = not_true _ e in
+    let n = not-true _ e in
     pick_false _ _ _ n ∙ led_by_lem b l (goes_on l) refl (words_go l) ∙ rw (pick_false _ 0 (suc (letters l)) n) refl
 
 -- a text that is one word
@@ -94,7 +94,7 @@ letters_within (b ∷ l) = pick_all (λ (n : ℕ). n ≤ suc (length l)) (eqb b 
 goes_some : (l : List ℕ) → goes_on l ≡ true → 1 ≤ letters l
 unfolding goes_on letters
 goes_some [] e = clash (cc)
-goes_some (b ∷ l) e = rw (pick_false _ 0 (suc (letters l)) (not_true _ e)) (omega arith)
+goes_some (b ∷ l) e = rw (pick_false _ 0 (suc (letters l)) (not-true _ e)) (omega arith)
 
 cut_by : (b : ℕ) (l : List ℕ) (t : Bool) → eqb b 32 ≡ t → letters (take (letters l) l) ≡ letters l
     → (letters (take (letters (b ∷ l)) (b ∷ l)) ≡ letters (b ∷ l)) × (goes_on (take (letters (b ∷ l)) (b ∷ l)) ≡ goes_on (b ∷ l))

@@ -12,6 +12,7 @@ use prefixes::{NameType, is_prefix};
 use writing::{copy, push};
 
 // A hyphen as a space.
+#[tactic(auto, using(base::proofs::PickLaws::cases))]
 fn replace_hyphen(b: u8) -> u8
     ensures { result ≡ pick (eqb b 45) 32 b }
 {
@@ -19,6 +20,7 @@ fn replace_hyphen(b: u8) -> u8
 }
 
 // "Hyphens become spaces", where the name stands.
+#[tactic(auto, using(crate::proofs::JoinLaws::join_laws))]
 pub fn replace_hyphens(name: &mut [u8])
     ensures { name.new ≡ spaced name.old }
 {
@@ -37,6 +39,7 @@ fn place_in(s: &[u8], i: usize) -> usize
 }
 
 // The prefix joined to the remainder, at the front of `to`, as far as there is room. Returns its length.
+#[tactic(auto, using(crate::proofs::JoinLaws::join_laws))]
 pub fn join_prefix(s: &[u8], size: usize, rest: usize, to: &mut [u8]) -> usize
     ensures { Put to.old to.new 0 result (joined_name size rest s.now) }
 {
@@ -47,6 +50,7 @@ pub fn join_prefix(s: &[u8], size: usize, rest: usize, to: &mut [u8]) -> usize
 }
 
 // What follows the word's last apostrophe, or the word.
+#[tactic(auto, using(crate::proofs::JoinLaws::join_laws))]
 fn after_apostrophe(w: &[u8]) -> &[u8]
     ensures { result.now ≡ after_apostrophe w.now }
 {
@@ -61,6 +65,7 @@ fn after_apostrophe(w: &[u8]) -> &[u8]
 }
 
 // What is kept of a word.
+#[tactic(auto, using(crate::proofs::JoinLaws::join_laws), unfolding(crate::specs::Joining::kept_of))]
 fn kept_of(kind: NameType, w: &[u8]) -> &[u8]
     ensures { result.now ≡ kept_of kind w.now }
 {
@@ -72,6 +77,7 @@ fn kept_of(kind: NameType, w: &[u8]) -> &[u8]
 }
 
 // Whether what was kept drops out.
+#[tactic(auto, using(crate::proofs::JoinLaws::join_laws), unfolding(crate::specs::Joining::drops_out))]
 fn drops_out(kind: NameType, w: &[u8]) -> bool
     ensures { result ≡ drops_out kind w.now }
 {
@@ -83,6 +89,7 @@ fn drops_out(kind: NameType, w: &[u8]) -> bool
 }
 
 // What remains of a word, behind those already joined: an empty text stands for them.
+#[tactic(auto, using(crate::proofs::JoinLaws::join_laws))]
 fn add_word(kind: NameType, w: &[u8], to: &mut [u8], at: usize) -> usize
     requires { at ≤ cap }
     ensures { Put to.old to.new at result (joined_behind kind (w.now ∷ mathlib.Core.List.[])) }
@@ -96,6 +103,7 @@ fn add_word(kind: NameType, w: &[u8], to: &mut [u8], at: usize) -> usize
 }
 
 // The same of all words at or after a place.
+#[tactic(auto, using(crate::proofs::JoinLaws::join_laws))]
 fn add_words(kind: NameType, s: &[u8], from: usize, to: &mut [u8], at: usize) -> usize
     requires { at ≤ cap }
     ensures { Put to.old to.new at result (joined_behind kind (words_of (drop from s.now))) }
@@ -113,6 +121,7 @@ fn add_words(kind: NameType, s: &[u8], from: usize, to: &mut [u8], at: usize) ->
 }
 
 // The words of a name joined by a space, at the front of `to`, as far as there is room. Returns their length.
+#[tactic(auto, using(crate::proofs::JoinLaws::join_laws, crate::proofs::JoinLaws::join_kept, crate::proofs::JoinLaws::join_here))]
 pub fn join_words(kind: NameType, s: &[u8], to: &mut [u8]) -> usize
     ensures { Put to.old to.new 0 result (joined_words kind s.now) }
 {

@@ -1,4 +1,6 @@
 // A name cut up and put together (engine.rs): its words, and the texts that are spelled in its place.
+#![tactic(auto)]
+
 pub mod joining;
 pub mod words;
 

@@ -3,6 +3,7 @@ ghost use Rattle.std.specs.Prelude.{◌≡◌};
 ghost use Rattle.name_parts.specs.Words.{word_start, word_end, word_at, past_word, one_word};
 
 // The first place at or after p with no space, or the end.
+#[tactic(auto, using(crate::proofs::WordLaws::word_laws))]
 fn word_start(s: &[u8], p: usize) -> usize
     ensures { result ≡ word_start s.now p }
 {
@@ -18,6 +19,7 @@ fn word_start(s: &[u8], p: usize) -> usize
 }
 
 // The first place at or after p with a space, or the end.
+#[tactic(auto, using(crate::proofs::WordLaws::word_laws))]
 fn word_end(s: &[u8], p: usize) -> usize
     ensures { result ≡ word_end s.now p }
 {
@@ -32,6 +34,7 @@ fn word_end(s: &[u8], p: usize) -> usize
 }
 
 // The next word at or after p: the part of s from its start up to the place behind it; empty where there is none.
+#[tactic(auto, using(crate::proofs::WordLaws::word_laws))]
 pub fn next_word(s: &[u8], p: usize) -> &[u8]
     ensures { result.now ≡ word_at s.now p }
 {
@@ -45,6 +48,7 @@ pub fn next_word(s: &[u8], p: usize) -> &[u8]
 }
 
 // The place behind that word.
+#[tactic(auto, using(crate::proofs::WordLaws::word_laws))]
 pub fn past_word(s: &[u8], p: usize) -> usize
     ensures { result ≡ past_word s.now p }
 {
@@ -52,6 +56,7 @@ pub fn past_word(s: &[u8], p: usize) -> usize
 }
 
 // Whether the name has exactly one word.
+#[tactic(auto, using(crate::proofs::WordLaws::word_laws))]
 pub fn one_word(s: &[u8]) -> bool
     ensures { result ≡ one_word s.now }
 {

@@ -21,6 +21,7 @@ pub enum GuessAt {
 }
 
 // The guessing rule at a place, of any bytes.
+#[tactic(auto, using(crate::proofs::GuessLaws::guess_at_laws))]
 pub fn guess_at(pack: &[u8], at: usize) -> GuessAt
     ensures { result ≡ guess_stands_at pack.now at }
 {
@@ -42,6 +43,7 @@ pub fn guess_at(pack: &[u8], at: usize) -> GuessAt
 }
 
 // The bits of the listed languages, at most 32.
+#[tactic(auto, using(crate::proofs::GuessLaws::listed_laws))]
 pub fn listed_mask(languages: usize) -> u32
     ensures { result ≡ all_listed (min 32 languages) }
 {
@@ -55,6 +57,7 @@ pub fn listed_mask(languages: usize) -> u32
 }
 
 // Whether a guessing rule of these parts keeps the rules: "accept byte 0 or 1, mask (4 bytes, not zero, listed bits only), pattern".
+#[tactic(auto, using(crate::proofs::GuessLaws::guess_test_laws))]
 fn guess_good(accept: u32, mask: u32, languages: usize, pattern: &[u8]) -> bool
     requires { languages ≤ 32 }
     ensures { result ≡ guess_good languages (guess accept mask pattern.now) }
@@ -76,6 +79,7 @@ fn guess_good(accept: u32, mask: u32, languages: usize, pattern: &[u8]) -> bool
 }
 
 // Where the guessing rule at a place ends.
+#[tactic(auto, using(crate::proofs::GuessLaws::next_guess_laws))]
 fn next_guess(pack: &[u8], at: usize, languages: usize) -> Section
     requires { languages ≤ 32 }
     ensures { result ≡ end_in pack.now (guess_good languages) (read_guess (drop at pack.now)) }
@@ -98,6 +102,7 @@ fn next_guess(pack: &[u8], at: usize, languages: usize) -> Section
 }
 
 // Where `count` guessing rules end.
+#[tactic(auto, using(crate::proofs::GuessLaws::guessing_laws))]
 fn guesses_from(pack: &[u8], start: usize, count: u32, languages: usize) -> Section
     requires { (languages ≤ 32) × (start ≤ length pack.now) }
     ensures { result ≡ end_in pack.now (guesses_from languages) (read_many read_guess count (drop start pack.now)) }
@@ -119,6 +124,7 @@ fn guesses_from(pack: &[u8], start: usize, count: u32, languages: usize) -> Sect
 }
 
 // Where the guessing section at a place ends; at most 4,096 rules.
+#[tactic(auto, using(crate::proofs::GuessLaws::guesses_laws))]
 pub(crate) fn guess_section(pack: &[u8], at: usize, languages: usize) -> Section
     requires { languages ≤ 32 }
     ensures { result ≡ end_in pack.now (guesses_good languages) (read_guesses (drop at pack.now)) }

@@ -1,4 +1,6 @@
 // The pack: checked once, and read by places.
+#![tactic(auto)]
+
 mod guessing;
 mod rows;
 mod rules;

@@ -14,6 +14,7 @@ pub type Row = [usize; COLUMNS];
 pub const NUMBERS: usize = 4096;
 
 // A rule from one number or place to the next noted in a row: the first whose pattern begins with a byte of this kind, or the last so far.
+#[tactic(auto, using(base::proofs::PickLaws::cases), unfolding(crate::specs::PlaceContracts::noted_in))]
 pub fn note_rule(row: &mut Row, byte: u32, at: usize, end: usize)
     ensures { row.new ≡ noted_in row.old (byte % 64) at end }
 {
@@ -35,6 +36,7 @@ fn shifted(pack: &[u8], place: usize) -> usize
 }
 
 // The rule from one place of `pack` to another noted in a row; its pattern stands behind its length byte.
+#[tactic(auto, using(crate::proofs::RuleLaws::noted_place))]
 pub(crate) fn note_place(pack: &[u8], row: &mut Row, at: usize, end: usize)
     requires { (at ≤ length pack.now) × (end ≤ length pack.now) }
     ensures { row.new ≡ noted_in row.old (get_or pack.now (at + 1) 0 % 64) (NUMBERS + at) (NUMBERS + end) }
@@ -44,6 +46,7 @@ pub(crate) fn note_place(pack: &[u8], row: &mut Row, at: usize, end: usize)
 }
 
 // A row stored as number k of `rows`, where they go so far.
+#[tactic(auto, using(crate::proofs::SectionLaws::put_out))]
 pub(crate) fn put_row(rows: &mut [Row], k: usize, row: Row)
     ensures { rows.new ≡ set rows.old k row }
 {

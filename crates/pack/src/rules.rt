@@ -32,6 +32,7 @@ pub(crate) enum Ruled {
 }
 
 // The rule at a place of `pack`.
+#[tactic(auto, using(crate::proofs::RuleLaws::rule_at_laws))]
 pub fn rule_at(pack: &[u8], place: usize) -> RuleAt
     ensures { result ≡ rule_stands_at pack.now place }
 {
@@ -72,6 +73,7 @@ pub fn rule_at(pack: &[u8], place: usize) -> RuleAt
 }
 
 // The rule count of the list at a place of `pack`; its rules follow 2 bytes behind the place.
+#[tactic(auto, using(crate::proofs::RuleLaws::count_laws))]
 pub fn rule_count(pack: &[u8], place: usize) -> usize
     ensures { result ≡ rule_count pack.now place }
 {
@@ -82,6 +84,7 @@ pub fn rule_count(pack: &[u8], place: usize) -> usize
 }
 
 // A rule of these strings that ends at `end`, whose first character is `least` or behind it.
+#[tactic(auto, using(crate::proofs::RuleLaws::behind_laws))]
 fn rule_behind(
     names: &[u8],
     least: u32,
@@ -105,6 +108,7 @@ fn rule_behind(
 }
 
 // The rule at a place, whose first character is `least` or behind it.
+#[tactic(auto, using(crate::proofs::RuleLaws::next_rule_laws))]
 fn next_rule(pack: &[u8], at: usize, names: &[u8], least: u32) -> Ruled
     ensures { result ≡ ruled_in pack.now names.now least (read_rule (drop at pack.now)) }
 {
@@ -132,6 +136,7 @@ fn next_rule(pack: &[u8], at: usize, names: &[u8], least: u32) -> Ruled
 }
 
 // Where `count` rules end, by first character, each noted in a row.
+#[tactic(auto, using(crate::proofs::RuleLaws::listing_laws))]
 fn rules_from(pack: &[u8], start: usize, count: u32, names: &[u8], row: &mut Row) -> Section
     requires { start ≤ length pack.now }
     ensures { RulesNoted pack.now names.now count start row.old result row.new }
@@ -156,6 +161,7 @@ fn rules_from(pack: &[u8], start: usize, count: u32, names: &[u8], row: &mut Row
 }
 
 // Where the list at a place ends, its rules noted in a row; at most 4,096 rules.
+#[tactic(auto, using(crate::proofs::RuleLaws::list_laws))]
 pub(crate) fn list_section(pack: &[u8], at: usize, names: &[u8], row: &mut Row) -> Section
     ensures { ListNoted pack.now names.now at row.old result row.new }
 {

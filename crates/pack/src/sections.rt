@@ -38,6 +38,7 @@ pub(crate) enum Lists {
 }
 
 // Whether `name` is a language name behind the one before it.
+#[tactic(auto, using(crate::proofs::SectionLaws::follows_laws))]
 fn follows_name(before: &[u8], name: &[u8]) -> bool
     ensures { result ≡ follows before.now name.now }
 {
@@ -49,6 +50,7 @@ fn follows_name(before: &[u8], name: &[u8]) -> bool
 }
 
 // Whether `any` was met, or is met now.
+#[tactic(auto, using(base::proofs::PickLaws::cases), unfolding(crate::specs::InnerContracts::met_by))]
 fn meets_any(met: bool, name: &[u8]) -> bool
     ensures { result ≡ met_by met name.now }
 {
@@ -60,6 +62,7 @@ fn meets_any(met: bool, name: &[u8]) -> bool
 }
 
 // Where the names end: at most 32, "strictly increasing, with `any`".
+#[tactic(auto, using(crate::proofs::SectionLaws::naming_laws))]
 fn names_section(pack: &[u8]) -> Section
     ensures { result ≡ end_in pack.now names_good (read_names pack.now) }
 {
@@ -95,6 +98,7 @@ fn names_section(pack: &[u8]) -> Section
 }
 
 // The place stored as number k of `places`, where it goes so far.
+#[tactic(auto, using(crate::proofs::SectionLaws::put_out))]
 fn put(places: &mut [usize], k: usize, place: usize)
     ensures { places.new ≡ set places.old k place }
 {
@@ -104,6 +108,7 @@ fn put(places: &mut [usize], k: usize, place: usize)
 }
 
 // Where `count` lists end, with the place and the row of each that is good stored in `places` and `rows`.
+#[tactic(auto, using(crate::proofs::SectionLaws::found_laws))]
 fn lists_section(
     pack: &[u8],
     start: usize,
@@ -138,6 +143,7 @@ fn lists_section(
 }
 
 // The list count at a place, the lists behind it, and the end.
+#[tactic(auto, using(crate::proofs::SectionLaws::rest_laws))]
 fn rest_section(
     pack: &[u8],
     at: usize,
@@ -172,6 +178,7 @@ fn rest_section(
 
 // The verdict on `pack`; where it is accepted, its languages and the place of its guessing section, so that the names stand
 // in `pack[1..guesses]`. `places` gets the place of each list that is found good, in order, and `rows` its row, as far as they go.
+#[tactic(auto, using(crate::proofs::SectionLaws::survey_laws))]
 pub fn survey(pack: &[u8], places: &mut [usize], rows: &mut [Row]) -> Surveyed
     ensures { SurveyIs pack.now places.old rows.old result places.new rows.new }
 {
@@ -194,6 +201,7 @@ pub fn survey(pack: &[u8], places: &mut [usize], rows: &mut [Row]) -> Surveyed
 }
 
 // Whether any bytes are a pack, or the first byte of the section at fault (5).
+#[tactic(auto, using(crate::proofs::NumberLaws::checked_told, crate::proofs::SectionLaws::check_laws))]
 pub fn check_pack(pack: &[u8]) -> Checked
     ensures { checked_numbers result ≡ checked_numbers (verdict_of (pack_of pack.now)) }
 {

@@ -5,6 +5,7 @@ use crate::apply::Applied;
 use crate::set::{Between, ROW, Slots, Store, Target, add_to, copy_text, langs_at};
 
 // The i-th text of set `from` with c behind it goes to its place in set `to`.
+#[tactic(auto, using(crate::proofs::AppendLaws::lengthen_laws))]
 fn lengthen(
     store: &mut Store,
     slots: &mut Slots,
@@ -27,6 +28,7 @@ fn lengthen(
 }
 
 // c behind every text, sorted anew in the other set: each goes to its place among those before it, which is mostly behind them.
+#[tactic(auto, using(crate::proofs::AppendLaws::appending_laws))]
 pub(crate) fn append(store: &mut Store, slots: &mut Slots, sets: Between, c: &[u8]) -> Applied
     requires { BetweenIn (arena store.old slots.old) sets }
     ensures { AppendedTo (arena store.old slots.old) (arena store.new slots.new)

@@ -23,6 +23,7 @@ pub(crate) enum Applied {
 }
 
 // A text with the bytes `more` of an alternative behind it: passed over where nothing is left of its languages, else it enters set `to`.
+#[tactic(auto, using(crate::proofs::ApplyLaws::offer_laws))]
 fn offer(
     store: &mut Store,
     slots: &mut Slots,
@@ -50,6 +51,7 @@ fn offer(
 
 // The languages with which the alternative x is offered to a text with `langs`: none where `before`, the languages of those before it
 // with the same text, leave something of them, since one of those has entered then; else its own.
+#[tactic(auto, using(crate::proofs::ApplyLaws::withheld_laws))]
 fn langs_to_offer(langs: u64, before: u64, x: u64) -> u64
     ensures { result ≡ withheld (codes_narrowed langs before) (langs_of x) }
 {
@@ -60,6 +62,7 @@ fn langs_to_offer(langs: u64, before: u64, x: u64) -> u64
 }
 
 // Under one old text the alternatives in order, until the count reaches the limit.
+#[tactic(auto, using(crate::proofs::ApplyLaws::offering_laws))]
 fn apply_row(
     store: &mut Store,
     slots: &mut Slots,
@@ -105,6 +108,7 @@ fn apply_row(
 }
 
 // Under the i-th text of set `from` the alternatives, into set `to`.
+#[tactic(auto, using(crate::proofs::ApplyLaws::offered_under, crate::proofs::PartLaws::copied_entry))]
 fn apply_text(
     store: &mut Store,
     slots: &mut Slots,
@@ -126,6 +130,7 @@ fn apply_text(
 }
 
 // The old texts in order, under each the alternatives in order, into the other set; when the count reaches the limit, stop.
+#[tactic(auto, using(crate::proofs::ApplyLaws::applying_laws))]
 pub(crate) fn apply(
     store: &mut Store,
     slots: &mut Slots,

@@ -14,6 +14,7 @@ pub(crate) type Alternatives = [u64; TABLE];
 pub(crate) const TABLE: usize = 512;
 
 // The text of the alternative x of e.
+#[tactic(auto, using(crate::proofs::TableLaws::text_laws))]
 pub(crate) fn text_in<'a>(e: &'a [u8], x: u64) -> &'a [u8]
     requires { AltIn e.now x }
     ensures { result.now ≡ (alt_of e.now x).text }
@@ -24,6 +25,7 @@ pub(crate) fn text_in<'a>(e: &'a [u8], x: u64) -> &'a [u8]
 }
 
 // The languages of the alternative y of e where it has the text of x, else none.
+#[tactic(auto, using(crate::proofs::TableLaws::alike_laws))]
 fn langs_if_alike(e: &[u8], x: u64, y: u64) -> u64
     requires { AltIn e.now x × AltIn e.now y }
     ensures { result ≡ langs_if_alike e.now x y }
@@ -36,6 +38,7 @@ fn langs_if_alike(e: &[u8], x: u64, y: u64) -> u64
 }
 
 // The languages, merged, of those of the first n alternatives that have the text of x.
+#[tactic(auto, using(crate::proofs::TableLaws::looking_laws))]
 fn langs_before(e: &[u8], alts: &[u64], n: usize, x: u64) -> u64
     requires { Asks e.now alts.now n x }
     ensures { Before e.now alts.now n (alt_of e.now x).text result }
@@ -51,6 +54,7 @@ fn langs_before(e: &[u8], alts: &[u64], n: usize, x: u64) -> u64
 
 // The alternative x behind the first n, unless those with its text have all its languages: then it adds nothing to any set.
 // Returns how many there are then.
+#[tactic(auto, using(crate::proofs::TableLaws::keep_laws))]
 fn keep(e: &[u8], alts: &mut [u64], n: usize, x: u64) -> usize
     requires { Keeps e.now alts.old n x }
     ensures { KeptIn e.now alts.old alts.new n x result }
@@ -65,6 +69,7 @@ fn keep(e: &[u8], alts: &mut [u64], n: usize, x: u64) -> usize
 }
 
 // The alternatives of e in the table, less those that add nothing. Returns how many there are.
+#[tactic(auto, using(crate::proofs::PhonemeLaws::filling_laws))]
 pub(crate) fn alternatives(e: &[u8], names: &[u8], alts: &mut [u64]) -> usize
     requires { Fills e.now alts.old }
     ensures { AltsAre names.now e.now alts.new result }

@@ -33,6 +33,7 @@ pub(crate) enum Finished {
 }
 
 // The i-th old text, run from a set begun with its languages.
+#[tactic(auto, using(crate::proofs::FinalLaws::text_ran))]
 fn run_text(
     store: &mut Store,
     slots: &mut Slots,
@@ -60,6 +61,7 @@ fn run_text(
 }
 
 // The next old text, run and united into the result.
+#[tactic(auto, using(crate::proofs::FinalLaws::final_text_laws))]
 fn final_text(
     store: &mut Store,
     slots: &mut Slots,
@@ -92,6 +94,7 @@ fn final_text(
 }
 
 // The old texts in order, each run and united into the result.
+#[tactic(auto, using(crate::proofs::FinalLaws::finishing_laws))]
 pub(crate) fn final_pass(
     store: &mut Store,
     slots: &mut Slots,

@@ -1,4 +1,6 @@
 // The sets of texts of engine.rs and the passes over a word: `PhonemeBuilder`, `RulesApplication` and `apply_final_rule`.
+#![tactic(auto)]
+
 mod append;
 mod apply;
 mod expressions;

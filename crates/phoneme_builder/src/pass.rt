@@ -59,6 +59,7 @@ pub(crate) enum Passed {
     TooLong,
 }
 
+#[tactic(auto, using(base::proofs::PickLaws::cases))]
 pub(crate) fn either(a: bool, b: bool) -> bool
     ensures { result ≡ pick a true b }
 {
@@ -72,6 +73,7 @@ pub(crate) fn least_of(a: usize, b: usize) -> usize
 }
 
 // The bytes of a pack's names, behind which its guesses stand.
+#[tactic(auto, using(crate::proofs::CharLaws::names_laws))]
 fn names_in<'a>(pack: &'a [u8], guesses: usize) -> &'a [u8]
     ensures { result.now ≡ names_in pack.now guesses }
 {
@@ -83,6 +85,7 @@ fn names_in<'a>(pack: &'a [u8], guesses: usize) -> &'a [u8]
 }
 
 // The bytes of the character at a place.
+#[tactic(auto, using(crate::proofs::CharLaws::char_laws))]
 fn char_bytes(word: &[u8], place: usize) -> usize
     requires { place < length word.now }
     ensures { (result ≡ step_length (decode_at word.now place)) × StepIn word.now place result }
@@ -103,6 +106,7 @@ fn past(word: &[u8], place: usize, step: usize) -> usize
 }
 
 // The stretch of unmatched characters before a place: skipped in the main pass, appended in a final one.
+#[tactic(auto, using(crate::proofs::StretchLaws::settle_laws))]
 fn settle(store: &mut Store, slots: &mut Slots, by: Pass, word: &[u8], at: Stage) -> Settled
     requires { StageIn (arena store.old slots.old) word.now at }
     ensures { SettledBy (arena store.old slots.old) (arena store.new slots.new)
@@ -133,6 +137,7 @@ fn settle(store: &mut Store, slots: &mut Slots, by: Pass, word: &[u8], at: Stage
 }
 
 // A rule's expression applied, behind the stretch before its place.
+#[tactic(auto, using(crate::proofs::PassLaws::rule_laws))]
 fn apply_rule(
     store: &mut Store,
     slots: &mut Slots,
@@ -167,6 +172,7 @@ fn apply_rule(
 }
 
 // The turn at a place of a word.
+#[tactic(auto, using(crate::proofs::PassLaws::turn_laws))]
 fn turn(
     store: &mut Store,
     slots: &mut Slots,
@@ -227,6 +233,7 @@ fn turn(
 }
 
 // A pass over a word from the texts of one set, in that set and another; the two take turns.
+#[tactic(auto, using(crate::proofs::PassLaws::running_laws))]
 pub(crate) fn run(
     store: &mut Store,
     slots: &mut Slots,

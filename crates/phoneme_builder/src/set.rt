@@ -44,6 +44,7 @@ pub(crate) enum Found {
 }
 
 // The text that a slot names.
+#[tactic(auto, using(crate::proofs::FindLaws::row_is))]
 fn row<'a>(store: &'a [u8], slot: u64) -> &'a [u8]
     requires { first_of slot * ROW + second_of slot ≤ length store.now }
     ensures { result.now ≡ slot_text store.now slot }
@@ -54,6 +55,7 @@ fn row<'a>(store: &'a [u8], slot: u64) -> &'a [u8]
 }
 
 // Which text is asked next: the last one as long as none is known to stand behind, since most go behind it; then the middle one.
+#[tactic(auto, using(crate::proofs::AskLaws::ask_laws))]
 fn ask_next(low: usize, high: usize, count: usize) -> usize
     requires { (low < high) × (high ≤ count) }
     ensures { AsksNext low high count result }
@@ -66,6 +68,7 @@ fn ask_next(low: usize, high: usize, count: usize) -> usize
 }
 
 // Where t stands among the texts, or where it would go, by halves: it stands behind those before `low`, and before those from `high` on.
+#[tactic(auto, using(crate::proofs::FindLaws::find_laws))]
 pub(crate) fn find(store: &[u8], slots: &[u64], count: usize, t: &[u8]) -> Found
     requires { IsSet store.now slots.now count }
     ensures { result ≡ find_l t.now (slot_texts store.now slots.now count) }
@@ -90,6 +93,7 @@ pub(crate) fn find(store: &[u8], slots: &[u64], count: usize, t: &[u8]) -> Found
 }
 
 // Puts v at index p of the first n, and moves the others up by one.
+#[tactic(auto, using(base::proofs::Opening::shift_laws))]
 fn insert_at(slots: &mut [u64], p: usize, n: usize, v: u64)
     requires { Opens slots.old p n }
     ensures { take (n + 1) slots.new ≡ ins_at p v (take n slots.old) }
@@ -106,6 +110,7 @@ fn insert_at(slots: &mut [u64], p: usize, n: usize, v: u64)
 }
 
 // Puts the slot of a text in row n at index p of the first n.
+#[tactic(auto, using(crate::proofs::EnterLaws::slot_small, crate::proofs::EnterLaws::inserted))]
 pub(crate) fn insert_text(slots: &mut [u64], p: usize, n: usize, langs: u64, long: usize)
     requires { InsertsText slots.old p n langs long }
     ensures { take (n + 1) slots.new ≡ ins_at p (slot_of langs n long) (take n slots.old) }
@@ -115,6 +120,7 @@ pub(crate) fn insert_text(slots: &mut [u64], p: usize, n: usize, langs: u64, lon
 
 // Enters the text of `long` bytes in the row behind the others; an equal text already there stays as it was: nothing is added to its
 // languages.
+#[tactic(auto, using(crate::proofs::EnterLaws::enter_laws))]
 fn enter(store: &[u8], slots: &mut [u64], count: usize, long: usize, langs: u64) -> usize
     requires { Enters store.now slots.old count long langs }
     ensures { SetIs store.now slots.new result
@@ -134,6 +140,7 @@ fn enter(store: &[u8], slots: &mut [u64], count: usize, long: usize, langs: u64)
 }
 
 // Copies t into d from index at on.
+#[tactic(auto, using(crate::proofs::PutLaws::put_laws))]
 pub(crate) fn put(d: &mut [u8], at: usize, t: &[u8])
     requires { at + length t.now ≤ length d.old }
     ensures { d.new ≡ put d.old at t.now }
@@ -146,6 +153,7 @@ pub(crate) fn put(d: &mut [u8], at: usize, t: &[u8])
 }
 
 // Writes the text of a and then b into row n.
+#[tactic(auto, using(crate::proofs::AddLaws::write_laws))]
 pub(crate) fn write(store: &mut [u8], n: usize, a: &[u8], b: &[u8])
     requires { n * ROW + (length a.now + length b.now) ≤ length store.old }
     ensures { store.new ≡ put store.old (n * ROW) (a.now ++ b.now) }
@@ -156,6 +164,7 @@ pub(crate) fn write(store: &mut [u8], n: usize, a: &[u8], b: &[u8])
 }
 
 // Adds the text of a and then b; an equal text already there stays as it was. Returns how many there are then.
+#[tactic(auto, using(crate::proofs::AddLaws::add_laws))]
 fn add(store: &mut [u8], slots: &mut [u64], count: usize, a: &[u8], b: &[u8], langs: u64) -> usize
     requires { Enters store.old slots.old count (length a.now + length b.now) langs }
     ensures { SetIs store.new slots.new result
@@ -166,6 +175,7 @@ fn add(store: &mut [u8], slots: &mut [u64], count: usize, a: &[u8], b: &[u8], la
 }
 
 // The same in one of the four sets.
+#[tactic(auto, using(crate::proofs::PartLaws::grown))]
 pub(crate) fn add_to(
     store: &mut Store,
     slots: &mut Slots,
@@ -191,6 +201,7 @@ pub(crate) fn text_of<'a>(store: &'a Store, slots: &Slots, set: usize, i: usize)
 }
 
 // The i-th text of a set, copied to the front of d; returns its length.
+#[tactic(auto, using(crate::proofs::PartLaws::copy_laws))]
 pub(crate) fn copy_text(
     store: &Store,
     slots: &Slots,

@@ -41,6 +41,7 @@ pub(crate) fn second_of(x: u64) -> usize
 }
 
 // A slot with more languages merged into its own.
+#[tactic(auto, using(crate::proofs::SlotLaws::merged_laws))]
 pub(crate) fn merged(slot: u64, langs: u64) -> u64
     requires { Merges slot langs }
     ensures { result ≡ slot_merged slot langs }

@@ -24,6 +24,7 @@ fn insert_row(store: &mut [u8], slots: &mut [u64], p: usize, count: usize, text:
 }
 
 // A text with its languages: an equal text takes its old set merged with `worked`, the set of the text being worked on.
+#[tactic(auto, using(crate::proofs::UniteLaws::unite_laws))]
 fn unite_row(
     store: &mut [u8],
     slots: &mut [u64],
@@ -52,6 +53,7 @@ fn unite_row(
 }
 
 // The same into one of the four sets.
+#[tactic(auto, using(crate::proofs::UniteLaws::united_to))]
 fn unite_to(
     store: &mut Store,
     slots: &mut Slots,
@@ -76,6 +78,7 @@ fn unite_to(
 }
 
 // The i-th text of set `from` into set `to`.
+#[tactic(auto, using(crate::proofs::PartLaws::copied_fits, crate::proofs::UniteLaws::united_text, crate::proofs::PartLaws::copied_entry))]
 fn unite_text(
     store: &mut Store,
     slots: &mut Slots,
@@ -95,6 +98,7 @@ fn unite_text(
 }
 
 // The texts of one text's final run, in order into the result so far of n texts; `worked` is the set of that text.
+#[tactic(auto, using(crate::proofs::UniteLaws::uniting_laws))]
 pub(crate) fn unite(
     store: &mut Store,
     slots: &mut Slots,

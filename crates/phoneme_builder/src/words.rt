@@ -33,6 +33,7 @@ pub enum Worded {
 }
 
 // The set as a number.
+#[tactic(auto, using(crate::proofs::WordLaws::code_by))]
 fn code_of(set: LanguageSet) -> u64
     ensures { CodeOf set result }
 {
@@ -40,6 +41,7 @@ fn code_of(set: LanguageSet) -> u64
 }
 
 // What a pass came to, with the flag up where that of the pass before it was.
+#[tactic(auto, using(crate::proofs::FinalLaws::raised_into), unfolding(crate::specs::InnerContracts::raised_by))]
 fn raised(up: bool, pass: Finished) -> Finished
     ensures { result ≡ raised_by up pass }
 {
@@ -54,6 +56,7 @@ fn raised(up: bool, pass: Finished) -> Finished
 }
 
 // The final passes from the texts of set 0 or 1, into set 0.
+#[tactic(auto, using(crate::proofs::FinalLaws::final_laws))]
 fn final_passes(
     store: &mut Store,
     slots: &mut Slots,
@@ -102,6 +105,7 @@ fn final_passes(
 }
 
 // The word's texts, in set 0.
+#[tactic(auto, using(crate::proofs::FinalLaws::main_laws))]
 fn spell_word(
     store: &mut Store,
     slots: &mut Slots,
@@ -138,6 +142,7 @@ fn spell_word(
 }
 
 // The bytes of the n texts of set 0 with a bar behind each.
+#[tactic(auto, using(crate::proofs::WordLaws::counting_laws))]
 fn bytes_barred(store: &Store, slots: &Slots, n: usize) -> usize
     requires { TextsIn store.now slots.now n }
     ensures { result ≡ barred (texts_in store.now slots.now n) }
@@ -152,6 +157,7 @@ fn bytes_barred(store: &Store, slots: &Slots, n: usize) -> usize
 }
 
 // A bar and t, into out from a place on. Returns the place behind them.
+#[tactic(auto, using(crate::proofs::WordLaws::joining_laws))]
 fn put_barred(out: &mut [u8], at: usize, t: &[u8]) -> usize
     requires { at + 1 + length t.now ≤ length out.old }
     ensures { PutBarred out.old out.new at t.now result }
@@ -162,6 +168,7 @@ fn put_barred(out: &mut [u8], at: usize, t: &[u8]) -> usize
 }
 
 // The n texts of set 0, joined by bars, into out from a place on.
+#[tactic(auto, using(crate::proofs::WordLaws::joining_laws))]
 fn put_joined(store: &Store, slots: &Slots, n: usize, out: &mut [u8], at: usize)
     requires { Joins store.now slots.now n out.old at }
     ensures { out.new ≡ sets out.old at (joined (texts_in store.now slots.now n)) }
@@ -177,6 +184,7 @@ fn put_joined(store: &Store, slots: &Slots, n: usize, out: &mut [u8], at: usize)
 }
 
 // The joined texts of set 0 where they fit into out from a place on. Returns their length.
+#[tactic(auto, using(crate::proofs::WordLaws::giving_laws))]
 fn give(store: &Store, slots: &Slots, n: usize, out: &mut [u8], at: usize) -> usize
     requires { TextsIn store.now slots.now n }
     ensures { GivenIs (texts_in store.now slots.now n) out.old out.new at result }
@@ -198,6 +206,7 @@ fn give(store: &Store, slots: &Slots, n: usize, out: &mut [u8], at: usize) -> us
 
 // A word spelled by the lists of a table over a pack: its texts, joined by bars, go into `out` from `at` on where they fit, else `out`
 // stays as it is. A limit over 256 counts as 256. The first two buffers are lent for the work.
+#[tactic(auto, using(crate::proofs::WordLaws::word_laws))]
 pub fn word(
     store: &mut Store,
     slots: &mut Slots,

@@ -31,7 +31,7 @@ use declared.answers.Alternative.TheVariants.{At, Nothing}
 use Rattle.phonemes.proofs
 use proofs.CutLaws.{cut_order, cut_fits, cut_more, cut_last}
 use proofs.ExprLaws.{text_long, extra_yes, pieces_single, pieces_round}
-use proofs.AltLaws.{Parts-in, parts_behind, parts_past, part_in, part_past, part_none, part_extra, alt_round, alt_single, alt_past}
+use proofs.AltLaws.{parts_in, parts_behind, parts_past, part_in, part_past, part_none, part_extra, alt_round, alt_single, alt_past}
 use Rattle.base.proofs.PickLaws.{pick_true, pick_false, pick_inv, pick_all, and_inv}
 use Rattle.languages.specs.InnerContracts.{BitsBelow}
 use Rattle.base.proofs.Arms.{clash}
@@ -171,11 +171,11 @@ module _ (names e : List ℕ) (from start end : ℕ) (set : LanguageSet) (next :
         let t = inside e in
         let m = cut_fits bar t from h to g in
         elim (dec_lt to (length t)) [
-          | yes l ↦ Parts-in t from h ∙ ap (λ (ps : List (List ℕ)). ps ++ extra t) (cut_more bar t from h to g l)
-              ∙ ap (◌∷◌ (take (to - from) (drop from t))) (sym (Parts-in t (to + 1) (omega arith)))
+          | yes l ↦ parts_in t from h ∙ ap (λ (ps : List (List ℕ)). ps ++ extra t) (cut_more bar t from h to g l)
+              ∙ ap (◌∷◌ (take (to - from) (drop from t))) (sym (parts_in t (to + 1) (omega arith)))
           | no l ↦
               let n : length t ≤ to = omega arith in
-              Parts-in t from h ∙ ap (λ (ps : List (List ℕ)). ps ++ extra t) (cut_last bar t from h to g n)
+              parts_in t from h ∙ ap (λ (ps : List (List ℕ)). ps ++ extra t) (cut_last bar t from h to g n)
               ∙ ap (◌∷◌ (take (to - from) (drop from t))) (sym (parts_behind t (to + 1) (omega arith)))
         ]
 
@@ -230,7 +230,7 @@ pieces_past names e from p q = none_left names _ from (pieces_from e from) (sym 
 
 -- at the start all are left
 start_by : (e : List ℕ) (f : Bool) → first_is round e ≡ f → pieces_from e 0 ≡ pieces_in e
-start_by e true f = round_from e 0 f ∙ Parts-in (inside e) 0 zero-le ∙ sym (pieces_round e true (sym f) (inside e) refl refl)
+start_by e true f = round_from e 0 f ∙ parts_in (inside e) 0 zero-le ∙ sym (pieces_round e true (sym f) (inside e) refl refl)
 start_by e false f = single_from e 0 f refl ∙ sym (pieces_single e false (sym f) refl)
 
 pub pieces_start : (e : List ℕ) → pieces_from e 0 ≡ pieces_in e

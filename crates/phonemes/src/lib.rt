@@ -1,4 +1,6 @@
 // Phoneme expressions (rule.rs): which are well formed, and their alternatives.
+#![tactic(auto)]
+
 mod answers;
 mod phonemes;
 

@@ -11,6 +11,7 @@ use crate::answers::{Alternative, Expression};
 use languages::{LanguageSet, Listed};
 
 // What is between the round brackets.
+#[tactic(auto, using(crate::proofs::ExprLaws::piece_laws))]
 fn between(e: &[u8]) -> &[u8]
     ensures { result.now ≡ inside e.now }
 {
@@ -19,6 +20,7 @@ fn between(e: &[u8]) -> &[u8]
 }
 
 // Where the part that starts at `from` ends: at the next b, or with t.
+#[tactic(auto, using(crate::proofs::CutLaws::cut_laws))]
 fn cut_end(t: &[u8], b: u8, from: usize) -> usize
     requires { from ≤ length t.now }
     ensures { result ≡ cut_end b t.now from }
@@ -27,6 +29,7 @@ fn cut_end(t: &[u8], b: u8, from: usize) -> usize
 }
 
 // Whether the first `[` of an alternative, at p, is closed at its very end.
+#[tactic(auto, using(crate::proofs::ExprLaws::piece_laws))]
 fn piece_formed(a: &[u8], p: usize) -> bool
     requires { p ≡ place_of opening a.now }
     ensures { result ≡ formed_piece a.now }
@@ -39,6 +42,7 @@ fn piece_formed(a: &[u8], p: usize) -> bool
 }
 
 // What is between the first `[` of an alternative, at p, and its last byte.
+#[tactic(auto, using(crate::proofs::ExprLaws::piece_laws))]
 fn names_part(a: &[u8], p: usize) -> &[u8]
     requires { (p ≡ place_of opening a.now) × (p < length a.now) }
     ensures { result.now ≡ box_of a.now }
@@ -52,6 +56,7 @@ fn names_part(a: &[u8], p: usize) -> &[u8]
 }
 
 // The bits of names joined by `+`, or that one of them is not listed.
+#[tactic(auto, using(crate::proofs::CutLaws::naming_laws, languages::proofs::NumberLaws::listed_told, languages::proofs::NumberLaws::listed_one))]
 pub fn names_mask(names: &[u8], joined: &[u8]) -> Listed
     ensures { listed_numbers result ≡ listed_numbers (names_mask names.now (cut_at plus joined.now)) }
 {
@@ -76,6 +81,7 @@ pub fn names_mask(names: &[u8], joined: &[u8]) -> Listed
 }
 
 // The bits of the names of an alternative, whose first `[` is at p; none where it has none.
+#[tactic(auto, using(languages::proofs::NumberLaws::listed_one, crate::proofs::ExprLaws::piece_laws))]
 fn piece_mask(names: &[u8], a: &[u8], p: usize) -> Listed
     requires { p ≡ place_of opening a.now }
     ensures { result ≡ piece_mask names.now a.now }
@@ -88,6 +94,7 @@ fn piece_mask(names: &[u8], a: &[u8], p: usize) -> Listed
 }
 
 // Whether the names of an alternative, whose first `[` is at p, are all listed.
+#[tactic(auto, using(crate::proofs::ExprLaws::piece_laws))]
 fn piece_listed(names: &[u8], a: &[u8], p: usize) -> bool
     requires { p ≡ place_of opening a.now }
     ensures { result ≡ listed_piece names.now a.now }
@@ -99,6 +106,7 @@ fn piece_listed(names: &[u8], a: &[u8], p: usize) -> bool
 }
 
 // The set of an alternative, whose first `[` is at p.
+#[tactic(auto, using(crate::proofs::ExprLaws::piece_laws))]
 fn piece_set(names: &[u8], a: &[u8], p: usize) -> LanguageSet
     requires { p ≡ place_of opening a.now }
     ensures { result ≡ set_of names.now a.now }
@@ -114,6 +122,7 @@ fn piece_set(names: &[u8], a: &[u8], p: usize) -> LanguageSet
 }
 
 // Whether one more empty alternative is added at the end.
+#[tactic(auto, using(base::proofs::PickLaws::cases), unfolding(crate::specs::InnerContracts::has_extra))]
 fn has_extra(t: &[u8]) -> bool
     ensures { result ≡ has_extra t.now }
 {
@@ -124,6 +133,7 @@ fn has_extra(t: &[u8]) -> bool
     }
 }
 
+#[tactic(auto, using(base::proofs::PickLaws::cases), unfolding(crate::specs::InnerContracts::expression_told))]
 fn told_of(count: usize, known: bool) -> Expression
     ensures { result ≡ expression_told count known }
 {
@@ -134,6 +144,7 @@ fn told_of(count: usize, known: bool) -> Expression
     }
 }
 
+#[tactic(auto, using(base::proofs::PickLaws::cases))]
 fn both(a: bool, b: bool) -> bool
     ensures { result ≡ and a b }
 {
@@ -141,6 +152,7 @@ fn both(a: bool, b: bool) -> bool
 }
 
 // The parts of t between the bars, with `more` alternatives behind them.
+#[tactic(auto, using(crate::proofs::CutLaws::judging_laws))]
 fn judge(names: &[u8], t: &[u8], more: usize) -> Expression
     requires { more ≤ 1 }
     ensures { result ≡ judged_pieces names.now more true (cut_at bar t.now) }
@@ -166,6 +178,7 @@ fn judge(names: &[u8], t: &[u8], more: usize) -> Expression
     }
 }
 
+#[tactic(auto, using(crate::proofs::ExprLaws::check_laws))]
 fn check_single(names: &[u8], e: &[u8]) -> Expression
     ensures { result ≡ judged_pieces names.now 0 true (e.now ∷ []) }
 {
@@ -178,6 +191,7 @@ fn check_single(names: &[u8], e: &[u8]) -> Expression
 }
 
 // Whether e is a well-formed expression whose names are all in `names`, strings behind their length bytes.
+#[tactic(auto, using(crate::proofs::ExprLaws::check_laws, crate::proofs::NumberLaws::expression_told_lem))]
 pub fn check_expression(e: &[u8], names: &[u8]) -> Expression
     ensures { expression_numbers result ≡ expression_numbers (checked_of names.now e.now) }
 {
@@ -198,6 +212,7 @@ pub fn check_expression(e: &[u8], names: &[u8]) -> Expression
 }
 
 // The alternative whose bytes are a, of an expression in which it starts at `start`, and where the next one is asked for.
+#[tactic(auto, using(crate::proofs::ExprLaws::piece_laws))]
 fn piece_from(names: &[u8], a: &[u8], start: usize, next: usize) -> Alternative
     requires { start + length a.now < 2 ^ 64 }
     ensures { result ≡ piece_from names.now a.now start next }
@@ -212,6 +227,7 @@ fn piece_from(names: &[u8], a: &[u8], start: usize, next: usize) -> Alternative
 }
 
 // The alternative from a place of t on, which is what stands between round brackets; the one that is added at the end stands behind t.
+#[tactic(auto, using(crate::proofs::AltLaws::part_laws))]
 fn part_from(names: &[u8], t: &[u8], from: usize) -> Alternative
     ensures { result ≡ first_from (from + 1) from names.now (parts_from t.now from) }
 {
@@ -229,6 +245,7 @@ fn part_from(names: &[u8], t: &[u8], from: usize) -> Alternative
 }
 
 // The alternative from a place on, the first one from place 0: each says from where on the next one is asked for.
+#[tactic(auto, using(crate::proofs::AltLaws::alternative_laws))]
 pub fn alternative(e: &[u8], names: &[u8], from: usize) -> Alternative
     ensures { result ≡ alternative_from names.now e.now from }
 {

@@ -30,6 +30,7 @@ const SEPHARDIC: [u8; 62] =
     *b"\x02al\x02el\x02da\x03dal\x02de\x05de la\x03del\x04dela\x05della\x03des\x02di\x02do\x03dos\x02du\x03van\x03von";
 
 // Whether s starts with p and a space.
+#[tactic(auto, using(crate::proofs::PrefixLaws::prefix_laws))]
 fn fits_with_space(s: &[u8], p: &[u8]) -> bool
     ensures { result ≡ prefix_fits p.now s.now }
 {
@@ -42,6 +43,7 @@ fn fits_with_space(s: &[u8], p: &[u8]) -> bool
 }
 
 // Whether a prefix of so many bytes is longer than the longest so far.
+#[tactic(auto, using(crate::proofs::PrefixLaws::prefix_laws))]
 fn is_longer(size: usize, best: Prefix) -> bool
     ensures { result ≡ longer_than best size }
 {
@@ -55,6 +57,7 @@ fn is_longer(size: usize, best: Prefix) -> bool
 }
 
 // The longest prefix of the table that stands before a space at the front of s.
+#[tactic(auto, using(crate::proofs::PrefixLaws::prefix_laws))]
 fn longest_fit(t: &[u8], s: &[u8]) -> Prefix
     ensures { result ≡ led_by (that_fit (strings_of t.now) s.now) }
 {
@@ -80,6 +83,7 @@ fn longest_fit(t: &[u8], s: &[u8]) -> Prefix
 }
 
 // Whether w is a prefix of the table.
+#[tactic(auto, using(crate::proofs::PrefixLaws::prefix_laws))]
 fn is_among(t: &[u8], w: &[u8]) -> bool
     ensures { result ≡ among (strings_of t.now) w.now }
 {
@@ -98,6 +102,7 @@ fn is_among(t: &[u8], w: &[u8]) -> bool
 }
 
 // Where a Generic name is parted: behind `d'`, or else behind the longest prefix that stands before a space.
+#[tactic(auto, using(crate::proofs::PrefixLaws::prefix_laws), unfolding(strings::specs::Reading::strings_of, strings::specs::Reading::strings, base::specs::Pick::pick))]
 pub fn prefix_of(s: &[u8]) -> Prefix
     ensures { result ≡ split_of s.now }
 {
@@ -108,6 +113,7 @@ pub fn prefix_of(s: &[u8]) -> Prefix
 }
 
 // Whether a word is one of the type's prefixes.
+#[tactic(auto, using(crate::proofs::PrefixLaws::prefix_laws), unfolding(crate::specs::Prefixes::prefixes_of, strings::specs::Reading::strings_of, strings::specs::Reading::strings, base::specs::Pick::pick))]
 pub fn is_prefix(kind: NameType, w: &[u8]) -> bool
     ensures { result ≡ is_prefix kind w.now }
 {

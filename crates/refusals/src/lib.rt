@@ -1,4 +1,6 @@
 // The refusals of document 01's table and of the requests of document 02, a name for each number.
+#![tactic(auto)]
+
 ghost use Rattle.std.specs.Prelude.{◌≡◌};
 ghost use Rattle.refusals.specs.Numbers.{number_of};
 
@@ -27,6 +29,7 @@ pub enum Refusal {
 }
 
 // The paper's number of a refusal.
+#[tactic(auto, unfolding(crate::specs::Numbers::number_of))]
 pub fn number_of(refusal: Refusal) -> u8
     ensures { result ≡ number_of refusal }
 {

@@ -193,4 +193,4 @@ module _ (c t : List ℕ) (b r : ℕ) (n : length c ≡ 0 → ⊥) (e : r ≡ re
   unfolding right_bits
   right_whole q d = e ∙ ap (rest_bits t) d ∙ ap (λ (l : List ℕ). rest_bits l (first_byte l)) q ∙ sym (pick_false _ _ _ (ne_eqb _ _ n))
 
-pub ruleset Beside-laws = (rest_box, left_whole, right_whole, cases, rules)
+pub ruleset beside_laws = (rest_box, left_whole, right_whole, cases, rules)

@@ -9,6 +9,7 @@ use crate::boxes::box_inner;
 pub const ALL_BITS: u64 = 0xFFFF_FFFF_FFFF_FFFF;
 
 // The bits of a box with this inside: of all bytes of its characters, or, where it is negated, of all that there are.
+#[tactic(auto, unfolding(crate::specs::InnerContracts::box_bits))]
 fn box_bits(inner: &[u8]) -> u64
     ensures { result ≡ box_bits inner.now }
 {
@@ -20,6 +21,7 @@ fn box_bits(inner: &[u8]) -> u64
 }
 
 // The bits of the rest t of a context; as a literal it has the byte b beside the place.
+#[tactic(auto, unfolding(crate::specs::InnerContracts::rest_bits))]
 fn rest_bits(t: &[u8], b: u8) -> u64
     ensures { result ≡ rest_bits t.now b }
 {
@@ -31,6 +33,7 @@ fn rest_bits(t: &[u8], b: u8) -> u64
 }
 
 // The bits of the bytes that a text may end with where a left context fits it; no byte counts as 0.
+#[tactic(auto, unfolding(crate::specs::InnerContracts::left_bits))]
 pub fn left_bits(context: &[u8]) -> u64
     ensures { result ≡ left_bits context.now }
 {
@@ -42,6 +45,7 @@ pub fn left_bits(context: &[u8]) -> u64
 }
 
 // The bits of the bytes that a text may begin with where a right context fits it; no byte counts as 0.
+#[tactic(auto, unfolding(crate::specs::InnerContracts::right_bits))]
 pub fn right_bits(context: &[u8]) -> u64
     ensures { result ≡ right_bits context.now }
 {

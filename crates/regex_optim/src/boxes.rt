@@ -5,6 +5,7 @@ ghost use Rattle.regex_optim.specs.Contexts.{box_inner, boxed};
 ghost use Rattle.regex_optim.specs.InnerContracts.{empty_rest};
 
 // t without its first and last byte.
+#[tactic(auto, using(crate::proofs::Laws::part_laws))]
 pub(crate) fn box_inner(t: &[u8]) -> &[u8]
     ensures { result.now ≡ box_inner t.now }
 {
@@ -12,6 +13,7 @@ pub(crate) fn box_inner(t: &[u8]) -> &[u8]
     if n < 2 { &t[0..0] } else { &t[1..n - 1] }
 }
 
+#[tactic(auto, using(crate::proofs::Laws::part_laws))]
 pub(crate) fn has_opening(t: &[u8]) -> bool
     ensures { result ≡ has opening t.now }
 {
@@ -19,6 +21,7 @@ pub(crate) fn has_opening(t: &[u8]) -> bool
 }
 
 // Whether t is a box: `[` first, `]` last and no other `[`.
+#[tactic(auto, using(crate::proofs::Laws::part_laws))]
 pub(crate) fn is_boxed(t: &[u8]) -> bool
     ensures { result ≡ boxed t.now }
 {
@@ -34,6 +37,7 @@ pub(crate) fn is_boxed(t: &[u8]) -> bool
 }
 
 // Whether t is `[]`. Most contexts have more bytes, so those are not looked through for another `[`.
+#[tactic(auto, using(crate::proofs::Laws::part_laws))]
 pub(crate) fn is_empty_box(t: &[u8]) -> bool
     ensures { result ≡ empty_rest t.now }
 {

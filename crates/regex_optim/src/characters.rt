@@ -6,6 +6,7 @@ use crate::Letter;
 use letters::Step;
 
 // The first character of x.
+#[tactic(auto, using(crate::proofs::Laws::char_laws))]
 pub(crate) fn first_char(x: &[u8]) -> Letter
     ensures { result ≡ first_char x.now }
 {
@@ -17,6 +18,7 @@ pub(crate) fn first_char(x: &[u8]) -> Letter
 }
 
 // The character that the last n bytes of x are.
+#[tactic(auto, using(crate::proofs::Laws::char_laws))]
 fn back_char(x: &[u8], n: usize) -> Letter
     ensures { result ≡ back_char x.now n }
 {
@@ -37,6 +39,7 @@ fn back_char(x: &[u8], n: usize) -> Letter
 }
 
 // The character that x is.
+#[tactic(auto, using(crate::proofs::Laws::char_laws))]
 pub(crate) fn whole_char(x: &[u8]) -> Letter
     ensures { result ≡ whole_char x.now }
 {
@@ -44,6 +47,7 @@ pub(crate) fn whole_char(x: &[u8]) -> Letter
 }
 
 // The last character of x.
+#[tactic(auto, using(crate::proofs::Laws::part_laws), unfolding(crate::specs::Contexts::last_char))]
 pub(crate) fn last_char(x: &[u8]) -> Letter
     ensures { result ≡ last_char x.now }
 {
@@ -60,6 +64,7 @@ pub(crate) fn last_char(x: &[u8]) -> Letter
 }
 
 // Whether a box of the characters of l takes the character; where it is negated, yes is false.
+#[tactic(auto, using(crate::proofs::Laws::form_laws))]
 pub(crate) fn char_fits(l: &[u8], yes: bool, c: Letter) -> bool
     ensures { result ≡ char_fits yes l.now c }
 {

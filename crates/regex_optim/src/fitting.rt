@@ -10,6 +10,7 @@ use crate::boxes::{box_inner, has_opening};
 use crate::characters::{char_fits, first_char, last_char, whole_char};
 
 // The character that a box with these anchors looks at.
+#[tactic(auto, using(base::proofs::PickLaws::cases), unfolding(crate::specs::InnerContracts::box_char))]
 fn box_char(s: bool, e: bool, x: &[u8]) -> Letter
     ensures { result ≡ box_char s e x.now }
 {
@@ -23,6 +24,7 @@ fn box_char(s: bool, e: bool, x: &[u8]) -> Letter
 }
 
 // Whether the box with this inside and these anchors fits x.
+#[tactic(auto, using(crate::proofs::Laws::form_laws))]
 fn box_fits(inner: &[u8], s: bool, e: bool, x: &[u8]) -> bool
     ensures { result ≡ box_fits inner.now s e x.now }
 {
@@ -32,6 +34,7 @@ fn box_fits(inner: &[u8], s: bool, e: bool, x: &[u8]) -> bool
 }
 
 // Whether the literal t with these anchors fits x.
+#[tactic(auto, using(base::proofs::PickLaws::cases), unfolding(crate::specs::InnerContracts::literal_fits))]
 fn literal_fits(t: &[u8], s: bool, e: bool, x: &[u8]) -> bool
     ensures { result ≡ literal_fits t.now s e x.now }
 {
@@ -49,6 +52,7 @@ fn literal_fits(t: &[u8], s: bool, e: bool, x: &[u8]) -> bool
 }
 
 // Whether the box with this inside fits x and is one: it has no other `[`, which is looked for last.
+#[tactic(auto, using(crate::proofs::Laws::form_laws))]
 fn only_box_fits(inner: &[u8], s: bool, e: bool, x: &[u8]) -> bool
     ensures { result ≡ pick (has opening inner.now) false (box_fits inner.now s e x.now) }
 {
@@ -61,6 +65,7 @@ fn only_box_fits(inner: &[u8], s: bool, e: bool, x: &[u8]) -> bool
 
 // Whether the rest t of a context with these anchors fits x. A box or a literal is compared first, which mostly ends at once, and only
 // then looked through for a `[` that puts it outside the forms.
+#[tactic(auto, using(crate::proofs::Laws::form_laws))]
 fn fits_in(t: &[u8], s: bool, e: bool, x: &[u8]) -> bool
     ensures { result ≡ fits (form_in s e t.now) x.now }
 {
@@ -78,6 +83,7 @@ fn fits_in(t: &[u8], s: bool, e: bool, x: &[u8]) -> bool
 }
 
 // Whether a left context fits the text before a place; one outside the forms never does.
+#[tactic(auto, using(crate::proofs::Laws::form_laws))]
 pub fn left_fits(context: &[u8], before: &[u8]) -> bool
     ensures { result ≡ fits (left_form context.now) before.now }
 {
@@ -89,6 +95,7 @@ pub fn left_fits(context: &[u8], before: &[u8]) -> bool
 }
 
 // Whether a right context fits the text after a pattern; one outside the forms never does.
+#[tactic(auto, using(crate::proofs::Laws::form_laws))]
 pub fn right_fits(context: &[u8], after: &[u8]) -> bool
     ensures { result ≡ fits (right_form context.now) after.now }
 {

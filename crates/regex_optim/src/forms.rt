@@ -7,6 +7,7 @@ ghost use Rattle.regex_optim.specs.InnerContracts.{box_kind, literal_kind};
 use crate::OptimizedRegex;
 use crate::boxes::{has_opening, is_boxed, is_empty_box};
 
+#[tactic(auto, using(base::proofs::PickLaws::cases), unfolding(crate::specs::InnerContracts::box_kind))]
 fn box_kind(s: bool, e: bool) -> OptimizedRegex
     ensures { result ≡ box_kind s e }
 {
@@ -23,6 +24,7 @@ fn box_kind(s: bool, e: bool) -> OptimizedRegex
     }
 }
 
+#[tactic(auto, using(base::proofs::PickLaws::cases), unfolding(crate::specs::InnerContracts::literal_kind))]
 fn literal_kind(n: usize, s: bool, e: bool) -> OptimizedRegex
     ensures { result ≡ literal_kind n s e }
 {
@@ -50,6 +52,7 @@ fn literal_kind(n: usize, s: bool, e: bool) -> OptimizedRegex
 }
 
 // The form of the rest t of a context with these anchors.
+#[tactic(auto, using(crate::proofs::Laws::form_laws))]
 fn form_in(t: &[u8], s: bool, e: bool) -> OptimizedRegex
     ensures { result ≡ kind_of (form_in s e t.now) }
 {
@@ -65,6 +68,7 @@ fn form_in(t: &[u8], s: bool, e: bool) -> OptimizedRegex
 }
 
 // The form of a left context.
+#[tactic(auto, using(crate::proofs::Laws::form_laws, crate::proofs::NumberLaws::form_told))]
 pub fn left_form(context: &[u8]) -> OptimizedRegex
     ensures { form_numbers result ≡ form_numbers (kind_of (left_form context.now)) }
 {
@@ -73,6 +77,7 @@ pub fn left_form(context: &[u8]) -> OptimizedRegex
 }
 
 // The form of a right context.
+#[tactic(auto, using(crate::proofs::Laws::form_laws, crate::proofs::NumberLaws::form_told))]
 pub fn right_form(context: &[u8]) -> OptimizedRegex
     ensures { form_numbers result ≡ form_numbers (kind_of (right_form context.now)) }
 {
@@ -81,6 +86,7 @@ pub fn right_form(context: &[u8]) -> OptimizedRegex
 }
 
 // Whether a left context is an empty box that is not negated.
+#[tactic(auto, using(crate::proofs::Laws::part_laws))]
 pub fn left_is_empty_box(context: &[u8]) -> bool
     ensures { result ≡ empty_box (left_form context.now) }
 {
@@ -88,6 +94,7 @@ pub fn left_is_empty_box(context: &[u8]) -> bool
 }
 
 // Whether a right context is.
+#[tactic(auto, using(crate::proofs::Laws::part_laws))]
 pub fn right_is_empty_box(context: &[u8]) -> bool
     ensures { result ≡ empty_box (right_form context.now) }
 {

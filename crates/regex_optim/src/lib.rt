@@ -1,4 +1,6 @@
 // Contexts: the eight forms of regex_optim.rs, whether a context fits the text before or after a place, and which bytes may stand there.
+#![tactic(auto)]
+
 mod beside;
 mod boxes;
 mod characters;

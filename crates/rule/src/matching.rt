@@ -6,6 +6,7 @@ ghost use Rattle.rule.specs.InnerContracts.{visible, all_visible, visible_litera
 use letters::Step;
 
 // Whether a rule's string may hold the code point: no control, no double quote.
+#[tactic(auto, using(base::proofs::PickLaws::cases), unfolding(crate::specs::Matching::plain_code))]
 fn may_hold(code: u32) -> bool
     ensures { result ≡ plain_code code }
 {
@@ -19,6 +20,7 @@ fn may_hold(code: u32) -> bool
 }
 
 // Whether b is a character from `#` to `~` other than `but`.
+#[tactic(auto, using(base::proofs::PickLaws::cases), unfolding(crate::specs::InnerContracts::visible))]
 fn is_visible(b: u8, but: u8) -> bool
     ensures { result ≡ visible but b }
 {
@@ -31,6 +33,7 @@ fn is_visible(b: u8, but: u8) -> bool
     }
 }
 
+#[tactic(auto, using(crate::proofs::Visible::literal_laws))]
 fn all_visible(s: &[u8], but: u8) -> bool
     ensures { result ≡ all_visible but s.now }
 {
@@ -46,6 +49,7 @@ fn all_visible(s: &[u8], but: u8) -> bool
 }
 
 // Whether s is a text that a rule or guessing line may hold, read character by character.
+#[tactic(auto, using(crate::proofs::MatchLaws::plain_laws))]
 fn reads_as_text(s: &[u8]) -> bool
     ensures { result ≡ rule_text s.now }
 {
@@ -70,6 +74,7 @@ fn reads_as_text(s: &[u8]) -> bool
 }
 
 // Whether s is a text that a rule or guessing line may hold (12 otherwise). Most are known by their bytes.
+#[tactic(auto, using(crate::proofs::Visible::literal_laws))]
 pub fn is_rule_text(s: &[u8]) -> bool
     ensures { result ≡ rule_text s.now }
 {
@@ -81,6 +86,7 @@ pub fn is_rule_text(s: &[u8]) -> bool
 }
 
 // Whether s holds only characters from `#` to `~` and no `[`: then it is a rule text with nothing to be read closer.
+#[tactic(auto, using(crate::proofs::Visible::literal_laws))]
 pub fn is_visible_literal(s: &[u8]) -> bool
     ensures { result ≡ visible_literal s.now }
 {
@@ -88,6 +94,7 @@ pub fn is_visible_literal(s: &[u8]) -> bool
 }
 
 // The first character of a pattern, and 0 where there is none.
+#[tactic(auto, using(crate::proofs::MatchLaws::code_laws))]
 pub fn first_code(s: &[u8]) -> u32
     ensures { result ≡ first_code s.now }
 {
@@ -99,6 +106,7 @@ pub fn first_code(s: &[u8]) -> u32
 }
 
 // Whether a rule of this pattern, left and right context matches at a place of text.
+#[tactic(auto, using(crate::proofs::MatchLaws::match_laws))]
 pub fn rule_matches(pattern: &[u8], left: &[u8], right: &[u8], text: &[u8], at: usize) -> bool
     ensures { result ≡ rule_matches pattern.now left.now right.now text.now at }
 {

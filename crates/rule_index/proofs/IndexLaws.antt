@@ -31,7 +31,7 @@ use specs.GuessContracts.{guesser, guesser_by, GuessesReady, GuessesNoted}
 use specs.InnerContracts.{pack_by, pack_in, found_in, matcher, Blank, ListPlaced, RowPlaces, Cleared, Agree, RowFinds, ListReady, ListStands, ListIndexed, ListsReady, Finds, ListsFound, SurveyLeft, AcceptedIs, IndexIs}
 use Rattle.rule_index.proofs
 use proofs.CellLaws.{row_within, set_here, set_room}
-use proofs.NumberedLaws.{Agree-same, Agree-then, agree_row}
+use proofs.NumberedLaws.{agree_same, agree_then, agree_row}
 use proofs.RowLaws.{never_past, clear_found, row_places}
 use proofs.GuessLaws.{guesser_kept}
 
@@ -52,7 +52,7 @@ blank_finds {s} {row} w = record {
 }
 
 row_kept : {s row : List ℕ} {t u : List (List ℕ)} {n m : ℕ} {rules : List Rule} → n ≤ m → Agree n t u → RowFinds s t n row rules → RowFinds s u m row rules
-row_kept l a w = record { found = λ v b. w.found v (Agree-then l a b) }
+row_kept l a w = record { found = λ v b. w.found v (agree_then l a b) }
 
 no_list : (ls : List (List Rule)) (k : ℕ) → length ls ≤ k → get_or ls k [] ≡ []
 no_list [] k h = refl
@@ -68,7 +68,7 @@ module _ (s : List ℕ) (table : List (List ℕ)) (n : ℕ) (rows : (k : ℕ) �
     (few : length (pack_in s).lists ≤ 98) where
   finds_by : (k : ℕ) (word : List ℕ) (place : ℕ) (t u : Bool) → ltb k 98 ≡ t → ltb place (length word) ≡ u → matcher s table k word place ≡ first_match (get_or (pack_in s).lists k []) word place
   unfolding matcher first_match
-  finds_by k word place true true e f = pick_true _ _ _ (and_yes _ _ e f) ∙ (rows k (ltb-true _ _ e)).found table Agree-same word place
+  finds_by k word place true true e f = pick_true _ _ _ (and_yes _ _ e f) ∙ (rows k (ltb-true _ _ e)).found table agree_same word place
   finds_by k word place true false e f = pick_false _ _ _ (and_second _ _ e f) ∙ sym (past k word place (ltb-false _ _ f))
   finds_by k word place false u e f =
       pick_false _ _ _ (and_first _ _ e) ∙ ap (λ (l : List Rule). first_match l word place) (sym (no_list (pack_in s).lists k (omega (arith, few, ltb-false k 98 e))))
@@ -154,7 +154,7 @@ module _ {s : List ℕ} {table : List (List ℕ)} {list place free : ℕ} (w : L
     room = w.room;
     others = λ k h n. refl;
     kept = λ k h. refl;
-    agree = Agree-same;
+    agree = agree_same;
     more = omega arith;
     few = w.few;
   }
@@ -176,7 +176,7 @@ module _ {s : List ℕ} {table : List (List ℕ)} {list place free : ℕ} (w : L
       room = v.room;
       others = λ k h n. v.others k h n ∙ get_or-set_other table list k row [] n;
       kept = λ k h. v.kept k h ∙ get_or-set_other table list k row [] (λ n. omega (arith, w.row));
-      agree = Agree-then (omega arith) (agree_row w.room list w.row row) v.agree;
+      agree = agree_then (omega arith) (agree_row w.room list w.row row) v.agree;
       more = v.more;
       few = v.few;
     }

@@ -38,7 +38,7 @@ use specs.Rows.{places_row, leads_row, before_row, behind_row, required_row, row
 use specs.InnerContracts.{pack_in, rules_between, lead_of, behind_bits, tried_by, tried_at, rule_in, rule_of, numbered, found_in, ListPlaced, RowPlaces, MarksAre, numbered_in, Agree, ListReady, ListIndexed}
 use Rattle.rule_index.proofs
 use proofs.CellLaws.{set_here, set_room}
-use proofs.NumberedLaws.{numbered_room, numbered_here, numbered_before, numbered_behind, numbered_agree, Agree-same, Agree-then, agree_row}
+use proofs.NumberedLaws.{numbered_room, numbered_here, numbered_before, numbered_behind, numbered_agree, agree_same, agree_then, agree_row}
 
 -- ---- a rule whose pattern begins with a byte of another kind does not match
 
@@ -533,7 +533,7 @@ module _ {s : List ℕ} {t : List (List ℕ)} {list place first : ℕ} (w : List
     roomy = w.room;
     others = λ k h n. refl;
     kept = λ k h. refl;
-    agree = Agree-same;
+    agree = agree_same;
     more = omega arith;
     room = omega (arith, w.few);
     notes = λ u a b h. not_yet (w.blank.clear b h) (alike_same refl);
@@ -613,7 +613,7 @@ module _ {s : List ℕ} {t table : List (List ℕ)} {list place first at left nu
                 })
                 (λ n. omega arith) (some_pattern w.midway h x o pattern b c d e f g end q)
                 (ap (λ (m : ℕ). m % 64) (eb.is ∙ sym (first_byte_lem w.midway h x o pattern b c d e f g end q)))
-                (rw (row₁ list w.row) (w.notes u (Agree-then (omega arith) (Agree-then (omega arith) agree₁ (agree₂ {n = number})) a))))
+                (rw (row₁ list w.row) (w.notes u (agree_then (omega arith) (agree_then (omega arith) agree₁ (agree₂ {n = number})) a))))
 
           pub numbering_turn : Numbering s t list place first (set t₁ list row') end (left - 1) (number + 1)
           numbering_turn = record {
@@ -623,7 +623,7 @@ module _ {s : List ℕ} {t table : List (List ℕ)} {list place first at left nu
             roomy = set_room roomy₁ list numbering_row row' long_row;
             others = λ k l n. get_or-set_other t₁ list k row' [] n ∙ row₁ k l ∙ w.others k l n;
             kept = λ k l. get_or-set_other t₁ list k row' [] (λ n. omega (arith, w.row)) ∙ behind₁ k l ∙ w.kept k l;
-            agree = Agree-then w.more w.agree (Agree-then (omega arith) agree₁ (agree₂ {n = number}));
+            agree = agree_then w.more w.agree (agree_then (omega arith) agree₁ (agree₂ {n = number}));
             more = omega (arith, w.more);
             room = omega (arith, w.room);
             notes = turn_notes;

@@ -17,6 +17,7 @@ use languages::LanguageSet;
 use pack::{GuessAt, NUMBERS};
 
 // The i-th guessing rule noted: what it requires, and its place.
+#[tactic(auto, using(crate::proofs::CellLaws::put_laws))]
 fn note_guess(table: &mut Table, i: usize, required: u64, pairs: u64, place: usize)
     requires { i < 4096 }
     ensures { table.new ≡ put_all table.old required_row i (required ∷ pairs ∷ place ∷ []) }
@@ -28,6 +29,7 @@ fn note_guess(table: &mut Table, i: usize, required: u64, pairs: u64, place: usi
 
 // The pairs that are asked for a pattern: those that it requires where many names are guessed; for a single one they take longer to find
 // than they save.
+#[tactic(auto, using(crate::proofs::GuessLaws::asked_laws))]
 fn pairs_asked(many: bool, pattern: &[u8]) -> u64
     ensures { PairsAsked pattern.now result }
 {
@@ -39,6 +41,7 @@ fn pairs_asked(many: bool, pattern: &[u8]) -> u64
 }
 
 // The guessing rules of the section at a place noted in a table, with their pairs where many names are guessed.
+#[tactic(auto, using(crate::proofs::GuessLaws::noting_laws))]
 pub(crate) fn note_guesses(pack: &[u8], guesses: usize, table: &mut Table, many: bool)
     requires { GuessesReady pack.now guesses table.old }
     ensures { GuessesNoted pack.now guesses table.old table.new }
@@ -68,6 +71,7 @@ pub(crate) fn note_guesses(pack: &[u8], guesses: usize, table: &mut Table, many:
 }
 
 // The languages of `left` that a guessing rule leaves where its pattern matches.
+#[tactic(auto, using(base::proofs::PickLaws::cases))]
 fn left_by(left: u32, accept: u32, mask: u32) -> u32
     ensures { result ≡ pick (eqb accept 0) (without left mask) (bit_and left mask) }
 {
@@ -79,6 +83,7 @@ fn left_by(left: u32, accept: u32, mask: u32) -> u32
 }
 
 // The languages of `left` narrowed by a guessing rule, where its pattern matches; not tried where it would leave all of them.
+#[tactic(auto, using(crate::proofs::GuessLaws::narrow_laws))]
 fn narrow(left: u32, accept: u32, mask: u32, pattern: &[u8], name: &[u8]) -> u32
     ensures { result ≡ narrowed_by name.now (guess accept mask pattern.now) left }
 {
@@ -94,6 +99,7 @@ fn narrow(left: u32, accept: u32, mask: u32, pattern: &[u8], name: &[u8]) -> u32
 }
 
 // The same by the guessing rule at a place; they stay as they are where bytes run out.
+#[tactic(auto, using(crate::proofs::GuessLaws::narrow_at_laws))]
 fn narrow_at(pack: &[u8], at: usize, left: u32, name: &[u8]) -> u32
     ensures { result ≡ narrowed_in name.now (read_guess (drop at pack.now)) left }
 {
@@ -109,6 +115,7 @@ fn narrow_at(pack: &[u8], at: usize, left: u32, name: &[u8]) -> u32
 }
 
 // Whether a signature and pairs have what the i-th guessing rule requires.
+#[tactic(auto, using(crate::proofs::GuessLaws::noted_laws))]
 fn has_required(table: &Table, i: usize, signature: u64, pairs: u64) -> bool
     requires { i < 4096 }
     ensures { result ≡ has_required table.now i signature pairs }
@@ -121,6 +128,7 @@ fn has_required(table: &Table, i: usize, signature: u64, pairs: u64) -> bool
 }
 
 // The same by the i-th guessing rule, for a name of this signature and these pairs: it is not read where they lack what it requires.
+#[tactic(auto, using(crate::proofs::GuessLaws::noted_laws))]
 fn narrow_noted(
     pack: &[u8],
     table: &Table,
@@ -142,6 +150,7 @@ fn narrow_noted(
 }
 
 // The same by the first `count` guessing rules.
+#[tactic(auto, using(crate::proofs::GuessLaws::narrowing_laws))]
 fn narrow_all(pack: &[u8], table: &Table, count: usize, all: u32, name: &[u8]) -> u32
     requires { count ≤ 4096 }
     ensures { result ≡ narrowed_by_first pack.now table.now name.now count all }
@@ -166,6 +175,7 @@ fn noted_count(pack: &[u8], guesses: usize) -> usize
 }
 
 // The set of what is left; "nothing left means Any".
+#[tactic(auto, using(base::proofs::PickLaws::cases), unfolding(pack::specs::Guessing::left_over))]
 fn left_over(left: u32) -> LanguageSet
     ensures { result ≡ left_over left }
 {
@@ -177,6 +187,7 @@ fn left_over(left: u32) -> LanguageSet
 }
 
 // The languages that a lower-cased name is guessed to have, by the table and the guessing section at the place `guesses` of `pack`.
+#[tactic(auto, using(crate::proofs::GuessLaws::guess_laws, languages::proofs::NumberLaws::set_told))]
 pub fn guess_languages(
     pack: &[u8],
     table: &Table,

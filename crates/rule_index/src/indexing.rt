@@ -9,6 +9,7 @@ use crate::rows::{COLUMNS, LISTS, Table, clear_rows, see_rows};
 use pack::{NUMBERS, RuleAt, Surveyed};
 
 // The rules of the list at a place numbered from `first` on and noted in its row. Returns the number behind the last one.
+#[tactic(auto, using(crate::proofs::RowLaws::numbering_laws))]
 fn number_list(pack: &[u8], table: &mut Table, list: usize, place: usize, first: usize) -> usize
     requires list_ready { ListReady pack.now table.old list place first }
     requires place_bound { rule_count pack.now place ≤ 4096 - first }
@@ -51,6 +52,7 @@ fn number_list(pack: &[u8], table: &mut Table, list: usize, place: usize, first:
 
 // The list at a place, whose row has its rules by places: by numbers from `free` on where there are enough. Returns the number that is
 // free then.
+#[tactic(auto, using(crate::proofs::IndexLaws::indexing_laws))]
 fn index_list(pack: &[u8], table: &mut Table, list: usize, place: usize, free: usize) -> usize
     requires { ListStands pack.now table.old list place free }
     ensures { ListIndexed pack.now table.old table.new list place free result }
@@ -64,6 +66,7 @@ fn index_list(pack: &[u8], table: &mut Table, list: usize, place: usize, free: u
 }
 
 // The lists at their places, each found by its row, with numbers from `first` on.
+#[tactic(auto, using(crate::proofs::IndexLaws::listing_laws))]
 fn index_lists(pack: &[u8], places: &[usize], lists: usize, table: &mut Table, first: usize)
     requires lists_ready { ListsReady pack.now places.now lists table.old }
     requires first_bound { first ≤ 4096 }
@@ -86,6 +89,7 @@ fn first_free(many: bool) -> usize
 
 // The table of an accepted pack, in which its survey noted its lists: the rows behind are made blank, its guessing rules noted and its
 // rules numbered.
+#[tactic(auto, using(crate::proofs::IndexLaws::left_laws))]
 fn index_accepted(
     pack: &[u8],
     places: &[usize],
@@ -107,6 +111,7 @@ fn index_accepted(
 // The verdict on a pack, and the table by which its rules are found, whatever the table held before. A refused pack has none.
 // A survey notes the places of the rules. Where many names are spelled by the table they are numbered too, and the pairs of guessing
 // rules are found: a second walk, which pays from the second name on.
+#[tactic(auto, using(crate::proofs::IndexLaws::survey_laws))]
 pub fn index(pack: &[u8], table: &mut Table, many: bool) -> Surveyed
     ensures { IndexIs pack.now result table.new }
 {

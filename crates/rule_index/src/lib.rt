@@ -1,5 +1,7 @@
 // The table of a pack's rules: built, the first rule that matches at a place, and the languages that a name is guessed to have. Nobody
 // else knows its layout.
+#![tactic(auto)]
+
 mod guessing;
 mod indexing;
 mod matching;

@@ -32,6 +32,7 @@ fn step_of(from: usize, to: usize) -> usize
 }
 
 // The first rule that matches, of those that stand from one place to another.
+#[tactic(auto, using(crate::proofs::MatchLaws::finding_laws))]
 fn first_between(pack: &[u8], start: usize, stop: usize, word: &[u8], place: usize) -> Matched
     requires { place < length word.now }
     ensures { FirstBetween pack.now start stop word.now place result }
@@ -73,6 +74,7 @@ fn first_between(pack: &[u8], start: usize, stop: usize, word: &[u8], place: usi
 }
 
 // The rule at a place of the pack, where it matches at a place of a word.
+#[tactic(auto, using(crate::proofs::MatchLaws::one_laws))]
 fn match_one(pack: &[u8], at: usize, word: &[u8], place: usize) -> Matched
     requires { place < length word.now }
     ensures { OneMatch pack.now at word.now place result }
@@ -109,6 +111,7 @@ fn match_one(pack: &[u8], at: usize, word: &[u8], place: usize) -> Matched
 }
 
 // The rule of a number, where it matches; `front` is what the word has at the place.
+#[tactic(auto, using(crate::proofs::MatchLaws::number_laws))]
 fn try_number(
     pack: &[u8],
     table: &Table,
@@ -128,6 +131,7 @@ fn try_number(
 }
 
 // The first rule that matches, of those from one number to another.
+#[tactic(auto, using(crate::proofs::MatchLaws::left_numbers_laws))]
 fn first_numbered(
     pack: &[u8],
     table: &Table,
@@ -174,6 +178,7 @@ fn place_of(number: usize) -> usize
 }
 
 // The first rule that matches, of those that a row has for a kind of byte.
+#[tactic(auto, using(crate::proofs::MatchLaws::found_laws))]
 fn first_found(
     pack: &[u8],
     table: &Table,
@@ -193,6 +198,7 @@ fn first_found(
 }
 
 // The first rule of a list that matches at a place of a word; none where there is no such list or no such place.
+#[tactic(auto, using(crate::proofs::MatchLaws::look_laws))]
 pub fn first_match(pack: &[u8], table: &Table, list: usize, word: &[u8], place: usize) -> Matched
     ensures { FirstMatch pack.now table.now list word.now place result }
 {

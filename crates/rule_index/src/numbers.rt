@@ -24,6 +24,7 @@ pub(crate) struct Front {
 }
 
 // The place of a rule and its marks stored for its number.
+#[tactic(auto, using(crate::proofs::CellLaws::put_laws))]
 pub(crate) fn number_rule(table: &mut Table, number: usize, place: usize, marks: Marks)
     requires { number < 4096 }
     ensures { table.new ≡ numbered_in table.old number place marks }
@@ -42,6 +43,7 @@ fn lead_of(t: &[u8]) -> usize
 }
 
 // The bits of the bytes that may stand behind the first byte of a pattern: by the right context where it has no other.
+#[tactic(auto, using(base::proofs::PickLaws::cases), unfolding(crate::specs::InnerContracts::behind_bits))]
 fn behind_bits(pattern: &[u8], right: &[u8]) -> u64
     ensures { result ≡ behind_bits pattern.now right.now }
 {
@@ -64,6 +66,7 @@ pub(crate) fn marks_of(pattern: &[u8], left: &[u8], right: &[u8]) -> Marks
 }
 
 // What a word has at a place.
+#[tactic(auto, using(crate::proofs::MatchLaws::front_laws))]
 pub(crate) fn front_of(word: &[u8], place: usize) -> Front
     requires { place < length word.now }
     ensures { FrontIs word.now place result }
@@ -78,6 +81,7 @@ pub(crate) fn front_of(word: &[u8], place: usize) -> Front
 }
 
 // Whether a pattern with these first two bytes may stand there; the second is 0, which no pattern has, where there is only one.
+#[tactic(auto, using(base::proofs::PickLaws::cases))]
 fn may_lead(lead: usize, front: Front) -> bool
     ensures { result ≡ pick (eqb lead front.one) true (eqb lead front.two) }
 {
@@ -89,6 +93,7 @@ fn may_lead(lead: usize, front: Front) -> bool
 }
 
 // Whether the rule of a number is tried there: most are passed over by their marks.
+#[tactic(auto, using(crate::proofs::MatchLaws::tried_laws))]
 pub(crate) fn is_tried(table: &Table, number: usize, front: Front) -> bool
     requires { number < 4096 }
     ensures { result ≡ tried_by table.now number front.one front.two front.before front.behind }

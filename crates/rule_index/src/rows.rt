@@ -36,6 +36,7 @@ pub const ROWS: usize = GUESSES + NUMBERS / COLUMNS;
 pub type Table = [[usize; COLUMNS]; ROWS];
 
 // A number stored as the i-th from a row on.
+#[tactic(auto, unfolding(crate::specs::Rows::put_at))]
 pub(crate) fn put_at(table: &mut Table, row: usize, i: usize, value: usize)
     requires { (row ≤ guess_row) × (i < 4096) }
     ensures { table.new ≡ put_at table.old row i value }
@@ -44,6 +45,7 @@ pub(crate) fn put_at(table: &mut Table, row: usize, i: usize, value: usize)
 }
 
 // The i-th number from a row on.
+#[tactic(auto, unfolding(crate::specs::Rows::noted_at))]
 pub(crate) fn noted_at(table: &Table, row: usize, i: usize) -> usize
     requires { (row ≤ guess_row) × (i < 4096) }
     ensures { result ≡ noted_at table.now row i }
@@ -58,6 +60,7 @@ fn numbers_in(row: &[usize]) -> usize
 }
 
 // That each row has its numbers, which the type says of a row that is lent, and only of that one: no work is done here.
+#[tactic(auto, using(crate::proofs::IndexLaws::seen_laws))]
 pub(crate) fn see_rows(table: &Table)
     ensures { Roomy table.now }
 {
@@ -69,6 +72,7 @@ pub(crate) fn see_rows(table: &Table)
 }
 
 // The rows of lists from number `from` on made blank.
+#[tactic(auto, using(crate::proofs::IndexLaws::clearing_laws))]
 pub(crate) fn clear_rows(table: &mut Table, from: usize)
     requires { Roomy table.old }
     ensures { Cleared from table.old table.new }

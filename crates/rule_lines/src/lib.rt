@@ -1,4 +1,6 @@
 // One judgment of a rule: its first fault, and whether it may stand in a pack.
+#![tactic(auto)]
+
 ghost use Rattle.std.specs.Prelude.{◌≡◌};
 ghost use Rattle.regex_optim.specs.Contexts.{left_form, right_form};
 ghost use Rattle.rule_lines.specs.Rules.{rule, length_fault, context_fault, box_fault, contexts_fault, expression_fault, rule_fault, faultless, rule_good};
@@ -19,6 +21,7 @@ pub enum Fault {
 }
 
 // An empty pattern, or a string that is too long.
+#[tactic(auto, using(base::proofs::PickLaws::cases, crate::proofs::Laws::fault_laws), unfolding(crate::specs::Rules::length_fault))]
 fn length_fault(pattern: usize, left: usize, right: usize, expression: usize) -> Fault
     ensures { result ≡ length_fault pattern left right expression }
 {
@@ -48,6 +51,7 @@ fn length_fault(pattern: usize, left: usize, right: usize, expression: usize) ->
 }
 
 // A context outside the forms.
+#[tactic(auto, using(crate::proofs::Laws::fault_laws))]
 fn context_fault(form: OptimizedRegex) -> Fault
     ensures { result ≡ context_fault form }
 {
@@ -60,6 +64,7 @@ fn context_fault(form: OptimizedRegex) -> Fault
 }
 
 // A context that is a box of no characters, not negated: nothing fits it.
+#[tactic(auto, using(crate::proofs::Laws::fault_laws))]
 fn box_fault(left: &[u8], right: &[u8]) -> Fault
     ensures { result ≡ box_fault (left_form left.now) (right_form right.now) }
 {
@@ -77,6 +82,7 @@ fn box_fault(left: &[u8], right: &[u8]) -> Fault
 }
 
 // The first fault of the contexts: 15 (left, then right), 20.
+#[tactic(auto, using(crate::proofs::Laws::fault_laws), unfolding(crate::specs::Rules::contexts_fault))]
 fn contexts_fault(left: &[u8], right: &[u8]) -> Fault
     ensures { result ≡ contexts_fault (left_form left.now) (right_form right.now) }
 {
@@ -90,6 +96,7 @@ fn contexts_fault(left: &[u8], right: &[u8]) -> Fault
 }
 
 // An expression that is not well formed, or a name that is not listed.
+#[tactic(auto, using(crate::proofs::Laws::fault_laws))]
 fn expression_fault(checked: Expression) -> Fault
     ensures { result ≡ expression_fault checked }
 {
@@ -105,6 +112,7 @@ fn expression_fault(checked: Expression) -> Fault
 }
 
 // The first fault of a rule whose strings are texts, in the order 13, 18, 15 (left, then right), 20, 14, 16.
+#[tactic(auto, using(crate::proofs::Laws::fault_laws), unfolding(crate::specs::Rules::rule_fault))]
 pub fn rule_fault(
     names: &[u8],
     pattern: &[u8],
@@ -123,6 +131,7 @@ pub fn rule_fault(
     }
 }
 
+#[tactic(auto, using(crate::proofs::Laws::fault_laws))]
 fn is_faultless(fault: Fault) -> bool
     ensures { result ≡ faultless fault }
 {
@@ -133,6 +142,7 @@ fn is_faultless(fault: Fault) -> bool
 }
 
 // Whether a left context is a text in one of the forms, and no empty box; a visible literal is.
+#[tactic(auto, using(crate::proofs::Laws::string_laws))]
 fn left_good(left: &[u8]) -> bool
     ensures { result ≡ left_good left.now }
 {
@@ -150,6 +160,7 @@ fn left_good(left: &[u8]) -> bool
 }
 
 // Whether a right context is.
+#[tactic(auto, using(crate::proofs::Laws::string_laws))]
 fn right_good(right: &[u8]) -> bool
     ensures { result ≡ right_good right.now }
 {
@@ -167,6 +178,7 @@ fn right_good(right: &[u8]) -> bool
 }
 
 // Whether an expression is a text without a fault; of a visible literal only the round brackets matter.
+#[tactic(auto, using(crate::proofs::Laws::string_laws))]
 fn expression_good(names: &[u8], expression: &[u8]) -> bool
     ensures { result ≡ expression_good names.now expression.now }
 {
@@ -184,6 +196,7 @@ fn expression_good(names: &[u8], expression: &[u8]) -> bool
 }
 
 // Whether the strings of a rule are texts, and none of them but for its length is at fault.
+#[tactic(auto, using(crate::proofs::Laws::rule_laws))]
 fn strings_good(names: &[u8], pattern: &[u8], left: &[u8], right: &[u8], expression: &[u8]) -> bool
     ensures { result ≡ strings_good names.now (rule pattern.now left.now right.now expression.now) }
 {
@@ -203,6 +216,7 @@ fn strings_good(names: &[u8], pattern: &[u8], left: &[u8], right: &[u8], express
 }
 
 // Whether a rule may stand in a pack: each string is a text, and it has no fault. Most strings are known by their bytes.
+#[tactic(auto, using(crate::proofs::Laws::rule_laws))]
 pub fn rule_good(names: &[u8], pattern: &[u8], left: &[u8], right: &[u8], expression: &[u8]) -> bool
     ensures { result ≡ rule_good names.now (rule pattern.now left.now right.now expression.now) }
 {

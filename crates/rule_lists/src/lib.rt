@@ -1,4 +1,6 @@
 // The lists of a pack, from the rule files of a bundle (the loading of rule.rs).
+#![tactic(auto)]
+
 mod lines;
 mod list_writing;
 mod lists;

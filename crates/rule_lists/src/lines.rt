@@ -16,6 +16,7 @@ pub(crate) enum Row {
 }
 
 // The rule of these texts of s, whose line ends at `next`.
+#[tactic(auto, using(crate::proofs::LineLaws::row_laws))]
 fn row_of(
     names: &[u8],
     s: &[u8],
@@ -44,6 +45,7 @@ fn row_of(
 }
 
 // What begins at p, the beginning of a line of s.
+#[tactic(auto, using(crate::proofs::LineLaws::row_laws), unfolding(crate::specs::InnerContracts::row_in))]
 pub(crate) fn row_at(names: &[u8], s: &[u8], p: usize) -> Row
     ensures { result ≡ row_at names.now s.now p }
 {

@@ -24,6 +24,7 @@ pub enum Written {
 }
 
 // Writes the four strings of a rule.
+#[tactic(auto, using(crate::proofs::WritingLaws::writing_laws))]
 fn put_rule(
     s: &[u8],
     pattern: Text,
@@ -42,6 +43,7 @@ fn put_rule(
 }
 
 // Writes the rule of the line that begins at `place` of s.
+#[tactic(auto, using(crate::proofs::WritingLaws::writing_laws))]
 fn put_row(s: &[u8], place: usize, out: &mut [u8], at: usize) -> usize
     ensures { Put out.old out.new at result (row_put s.now place) }
 {
@@ -65,6 +67,7 @@ fn put_at(bundle: &[u8], rows: &[usize], j: usize, out: &mut [u8], at: usize) ->
 }
 
 // Writes the count, and the rules of the first n keys.
+#[tactic(auto, using(crate::proofs::WritingLaws::rows_laws))]
 fn put_rows(
     bundle: &[u8],
     rows: &[usize],

@@ -35,6 +35,7 @@ pub(crate) struct ListName {
 const NAME: usize = 320;
 
 // Writes the list of a listed file.
+#[tactic(auto, using(crate::proofs::FileLaws::file_laws))]
 fn write_list(
     bundle: &[u8],
     names: &[u8],
@@ -72,6 +73,7 @@ fn write_list(
 }
 
 // Writes the name of a type.
+#[tactic(auto, using(crate::proofs::ListLaws::name_laws), unfolding(crate::specs::Lists::type_prefix))]
 fn put_type(kind: NameType, out: &mut [u8], at: usize) -> usize
     ensures { Put out.old out.new at result (type_prefix kind) }
 {
@@ -83,6 +85,7 @@ fn put_type(kind: NameType, out: &mut [u8], at: usize) -> usize
 }
 
 // Writes the name of a list.
+#[tactic(auto, using(crate::proofs::ListLaws::name_laws), unfolding(crate::specs::WritingContracts::list_part))]
 fn put_list(list: ListKind, out: &mut [u8], at: usize) -> usize
     ensures { Put out.old out.new at result (list_part list) }
 {
@@ -94,6 +97,7 @@ fn put_list(list: ListKind, out: &mut [u8], at: usize) -> usize
 }
 
 // Writes the list of a language, or of `common`.
+#[tactic(auto, using(crate::proofs::ListLaws::name_laws))]
 fn write_named(
     name: ListName,
     bundle: &[u8],
@@ -119,6 +123,7 @@ fn write_named(
 }
 
 // The approximate and the exact list of a language, or of `common`.
+#[tactic(auto, using(crate::proofs::ListLaws::list_laws), unfolding(crate::specs::Lists::two_of, crate::specs::WritingContracts::list_name, crate::specs::WritingContracts::list_part))]
 fn write_two(
     kind: NameType,
     bundle: &[u8],
@@ -152,6 +157,7 @@ fn write_two(
 }
 
 // The three lists of a language.
+#[tactic(auto, using(crate::proofs::ListLaws::list_laws), unfolding(crate::specs::Lists::three_of, crate::specs::WritingContracts::list_name, crate::specs::WritingContracts::list_part))]
 fn write_three(
     kind: NameType,
     bundle: &[u8],
@@ -196,6 +202,7 @@ fn write_common(
 }
 
 // The lists of each language, and the common ones.
+#[tactic(auto, using(crate::proofs::ListLaws::all_laws))]
 fn write_all(
     kind: NameType,
     bundle: &[u8],

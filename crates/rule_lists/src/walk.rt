@@ -60,6 +60,7 @@ pub(crate) enum Walked {
 }
 
 // A rule is met in a file whose entry is `own`.
+#[tactic(auto, using(crate::proofs::RuledLaws::ruled_laws))]
 fn on_rule(
     bundle: &[u8],
     task: Task,
@@ -237,6 +238,7 @@ pub(crate) enum Collected {
 }
 
 // A list of so many rules, or the refusal.
+#[tactic(auto, using(crate::specs::InnerContracts::few, crate::specs::InnerContracts::many))]
 fn counted(n: usize) -> Collected
     ensures { CountedAs n result }
 {
@@ -252,6 +254,7 @@ fn counted(n: usize) -> Collected
 }
 
 // Notes the last entries of a listed file, and keeps where all its rules stand.
+#[tactic(auto, using(crate::proofs::WalkLaws::collect_laws))]
 fn survey(
     source: Source,
     bundle: &[u8],
@@ -272,6 +275,7 @@ fn survey(
 }
 
 // Keeps where those rules stand that stay, of a listed file that was surveyed: all, where no include was followed.
+#[tactic(auto, using(crate::proofs::WalkLaws::staying_laws))]
 fn collect_surveyed(
     source: Source,
     surveyed: State,
@@ -310,6 +314,7 @@ fn collect_surveyed(
 
 // Keeps where the rules of a listed file stand, in the order in which they are met. Where no include is followed every rule stays, and
 // one walk is enough.
+#[tactic(auto, using(crate::proofs::WalkLaws::collect_laws))]
 pub(crate) fn collect(
     source: Source,
     bundle: &[u8],

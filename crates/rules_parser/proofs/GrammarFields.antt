@@ -10,7 +10,7 @@ use native.Mathlib.Omega.{arith}
 use lib.Dec.{eqb, ltb}
 use lib.ListN.{length, get_or, drop, length-drop, length-append, get_or-eq_default, drop_of_length-le}
 use lib.Seq.{drop-cons, drop-drop, drop-append_seam, drop-append-le, take-append_seam}
-use borrow.Author.Tests.{lt-ltb, le-ltb, le-leb, ltb-true, ltb-false, eq-eqb, ne_eqb, eqb-true, eqb-false, not_true, not-false}
+use borrow.Author.Tests.{lt-ltb, le-ltb, le-leb, ltb-true, ltb-false, eq-eqb, ne_eqb, eqb-true, eqb-false, not-true, not-false}
 use Rattle.base.specs.Pick.{pick}
 use Rattle.rules_parser.specs as specs
 use specs.Fields.{part_of, passes_of, span_of, span_end, pair_at, text, quoted_at, bare_at, field_at, parted_at, ends_at, tail_ok}
@@ -54,9 +54,9 @@ of_passes NotBlank b e = go (pick_inv _ _ _ _ e)
     go : ((eqb b 32 ≡ true) × (false ≡ true)) ⊎ ((eqb b 32 ≡ false) × (not (eqb b 9) ≡ true)) → BlankByte b → ⊥
     go (inl u) x = absurd (false≢true u.1)
     go (inr u) (inl x) = eqb-false _ _ u.0 x
-    go (inr u) (inr x) = eqb-false _ _ (not_true _ u.1) x
-of_passes NotQuote b e = eqb-false _ _ (not_true _ e)
-of_passes NotLf b e = eqb-false _ _ (not_true _ e)
+    go (inr u) (inr x) = eqb-false _ _ (not-true _ u.1) x
+of_passes NotQuote b e = eqb-false _ _ (not-true _ e)
+of_passes NotLf b e = eqb-false _ _ (not-true _ e)
 
 -- a blank ends a word
 pub blank_ends : (b : ℕ) → BlankByte b → passes_of NotBlank b ≡ false

@@ -33,6 +33,7 @@ pub(crate) enum Field {
 }
 
 // The part of s that a text is, as far as s goes.
+#[tactic(auto, using(crate::proofs::FieldLaws::parts))]
 pub fn part(s: &[u8], text: Text) -> &[u8]
     ensures { result.now ≡ part_of s.now text }
 {
@@ -48,6 +49,7 @@ pub fn part(s: &[u8], text: Text) -> &[u8]
     }
 }
 
+#[tactic(auto, using(crate::proofs::FieldLaws::kinds, base::proofs::PickLaws::cases))]
 fn passes(k: Kind, b: u8) -> bool
     ensures { result ≡ passes_of k b }
 {
@@ -60,6 +62,7 @@ fn passes(k: Kind, b: u8) -> bool
 }
 
 // The first place from p on whose byte is not of the kind.
+#[tactic(auto, using(crate::proofs::FieldLaws::spans))]
 pub(crate) fn span(s: &[u8], p: usize, k: Kind) -> usize
     ensures { result ≡ span_end k s.now p }
 {
@@ -75,6 +78,7 @@ pub(crate) fn span(s: &[u8], p: usize, k: Kind) -> usize
 }
 
 // a and b at p.
+#[tactic(auto, using(base::proofs::PickLaws::cases, crate::proofs::FieldLaws::eqb_by), unfolding(crate::specs::Fields::pair_at))]
 pub(crate) fn pair(s: &[u8], p: usize, a: u8, b: u8) -> bool
     ensures { result ≡ pair_at s.now p a b }
 {
@@ -90,6 +94,7 @@ pub(crate) fn pair(s: &[u8], p: usize, a: u8, b: u8) -> bool
 }
 
 // The quoted string that begins at p.
+#[tactic(auto, using(crate::proofs::FieldLaws::span_low, crate::proofs::FieldLaws::fields))]
 fn quoted_at(s: &[u8], p: usize) -> Field
     ensures { result ≡ quoted_at s.now p }
 {
@@ -111,6 +116,7 @@ fn quoted_at(s: &[u8], p: usize) -> Field
 }
 
 // The bytes up to the next blank, where there is one or more.
+#[tactic(auto, using(crate::proofs::FieldLaws::fields))]
 fn word_at(s: &[u8], p: usize) -> Field
     ensures { result ≡ bare_at s.now p }
 {
@@ -129,6 +135,7 @@ fn word_at(s: &[u8], p: usize) -> Field
 }
 
 // The field that begins at p.
+#[tactic(auto, using(crate::proofs::FieldLaws::fields))]
 pub(crate) fn field_at(s: &[u8], p: usize, k: FieldKind) -> Field
     ensures { result ≡ field_at k s.now p }
 {
@@ -139,6 +146,7 @@ pub(crate) fn field_at(s: &[u8], p: usize, k: FieldKind) -> Field
 }
 
 // The field behind one blank or more.
+#[tactic(auto, using(crate::proofs::FieldLaws::fields))]
 pub(crate) fn parted(s: &[u8], p: usize, k: FieldKind) -> Field
     ensures { result ≡ parted_at k s.now p }
 {
@@ -147,6 +155,7 @@ pub(crate) fn parted(s: &[u8], p: usize, k: FieldKind) -> Field
 }
 
 // Nothing but blanks.
+#[tactic(auto, using(crate::proofs::FieldLaws::fields))]
 pub(crate) fn ends(s: &[u8], p: usize) -> bool
     ensures { result ≡ ends_at s.now p }
 {
@@ -154,6 +163,7 @@ pub(crate) fn ends(s: &[u8], p: usize) -> bool
 }
 
 // Nothing but blanks, and perhaps a comment.
+#[tactic(auto, using(crate::proofs::FieldLaws::fields))]
 pub(crate) fn tail(s: &[u8], p: usize) -> bool
     ensures { result ≡ tail_ok s.now p }
 {

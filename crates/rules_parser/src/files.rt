@@ -22,6 +22,7 @@ pub enum Item {
     Wrong,
 }
 
+#[tactic(auto, using(base::proofs::PickLaws::cases), unfolding(crate::specs::Files::counted_of))]
 fn counted(n: usize, b: u8) -> usize
     requires { n < 2 ^ 63 }
     ensures { result ≡ counted_of n b }
@@ -30,6 +31,7 @@ fn counted(n: usize, b: u8) -> usize
 }
 
 // The first */ from p on.
+#[tactic(auto, using(crate::proofs::FileLaws::closes))]
 fn close_at(s: &[u8], p: usize) -> Close
     ensures { result ≡ close_at s.now p }
 {
@@ -56,6 +58,7 @@ fn line_end(s: &[u8], p: usize) -> usize
 }
 
 // Where the text of the line from p up to e ends: before the LF, and before a CR that stands right before it.
+#[tactic(auto, using(crate::proofs::FileLaws::ends))]
 fn text_end(s: &[u8], p: usize, e: usize) -> usize
     requires { e ≡ line_end s.now p }
     ensures { result ≡ text_end s.now p }
@@ -72,6 +75,7 @@ fn text_end(s: &[u8], p: usize, e: usize) -> usize
 }
 
 // Where the next line begins after one that ends at e; the end where there is none.
+#[tactic(auto, using(base::proofs::PickLaws::cases), unfolding(crate::specs::InnerContracts::behind_line))]
 fn behind_line(s: &[u8], e: usize) -> usize
     ensures { result ≡ behind_line s.now e }
 {
@@ -79,6 +83,7 @@ fn behind_line(s: &[u8], e: usize) -> usize
 }
 
 // From p to the end e of its line there are but blanks.
+#[tactic(auto, using(crate::proofs::FileLaws::ends))]
 fn rest_blank(s: &[u8], p: usize, e: usize) -> bool
     requires { e ≡ line_end s.now p }
     ensures { result ≡ rest_blank s.now p }
@@ -87,6 +92,7 @@ fn rest_blank(s: &[u8], p: usize, e: usize) -> bool
 }
 
 // The comment that the first text from p on opens.
+#[tactic(auto, using(crate::proofs::FileLaws::comments))]
 fn comment(s: &[u8], p: usize) -> Item
     ensures { result ≡ comment_at s.now p }
 {
@@ -111,6 +117,7 @@ fn comment(s: &[u8], p: usize) -> Item
 }
 
 // The line that begins at p, or the lines that a comment takes.
+#[tactic(auto, using(crate::proofs::NumberLaws::item_told, crate::proofs::FileLaws::items, crate::proofs::FileLaws::text_in_lem))]
 pub fn read_item(kind: FileKind, s: &[u8], p: usize) -> Item
     ensures { item_numbers result ≡ item_numbers (item_at kind s.now p) }
 {

@@ -14,6 +14,7 @@ pub struct Strings {
 }
 
 // What stands between the next two quotes from p on.
+#[tactic(auto, using(crate::proofs::RuleStrings::strings))]
 fn string_from(s: &[u8], p: usize) -> Text
     ensures value { result ≡ string_from s.now p }
     ensures len_in_bounds { result.start + result.len ≤ length s.now }
@@ -31,6 +32,7 @@ fn string_from(s: &[u8], p: usize) -> Text
 }
 
 // The next four strings from p on: those of the rule, where the line that begins at p is one.
+#[tactic(auto, using(crate::proofs::RuleStrings::strings))]
 pub fn rule_strings(s: &[u8], p: usize) -> Strings
     ensures { result ≡ strings_from s.now p }
 {

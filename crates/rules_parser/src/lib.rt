@@ -1,4 +1,6 @@
 // The lines of rule files, guessing files and language lists ("Rule files and includes"; the Rust's rules_parser.rs).
+#![tactic(auto)]
+
 mod fields;
 mod files;
 mod known;

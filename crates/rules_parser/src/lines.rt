@@ -45,6 +45,7 @@ pub(crate) enum Line {
 }
 
 // Whether a field is a text that a rule or guessing line may hold.
+#[tactic(auto, using(crate::proofs::LineLaws::texts))]
 fn text_good(s: &[u8], text: Text) -> bool
     ensures { result ≡ text_at s.now text }
 {
@@ -52,6 +53,7 @@ fn text_good(s: &[u8], text: Text) -> bool
 }
 
 // A rule of four fields, where each is a text.
+#[tactic(auto, using(base::proofs::PickLaws::cases, base::proofs::PickLaws::pick_no, base::proofs::PickLaws::and_second, base::proofs::PickLaws::yes_by, base::proofs::PickLaws::no_by), unfolding(crate::specs::Lines::rule_told))]
 fn rule_told(s: &[u8], pattern: Text, left: Text, right: Text, expression: Text) -> Line
     ensures { result ≡ rule_told s.now pattern left right expression }
 {
@@ -75,6 +77,7 @@ fn rule_told(s: &[u8], pattern: Text, left: Text, right: Text, expression: Text)
 }
 
 // The last two of four strings, a and b being the first two.
+#[tactic(auto, using(crate::proofs::LineLaws::in_order, base::proofs::PickLaws::cases), unfolding(crate::specs::Lines::last_two))]
 fn last_two(s: &[u8], a: Text, b: Text, p: usize) -> Line
     ensures { result ≡ last_two s.now a b p }
 {
@@ -96,6 +99,7 @@ fn last_two(s: &[u8], a: Text, b: Text, p: usize) -> Line
 }
 
 // Four quoted strings from p on.
+#[tactic(auto, using(crate::proofs::LineLaws::in_order, base::proofs::PickLaws::cases), unfolding(crate::specs::Lines::four_at))]
 fn four(s: &[u8], p: usize) -> Line
     ensures { result ≡ four_at s.now p }
 {
@@ -111,6 +115,7 @@ fn four(s: &[u8], p: usize) -> Line
 }
 
 // Blanks and a file name from p on.
+#[tactic(auto, using(crate::proofs::LineLaws::in_order, base::proofs::PickLaws::cases), unfolding(crate::specs::Lines::include_at))]
 fn include(s: &[u8], p: usize) -> Line
     ensures { result ≡ include_at s.now p }
 {
@@ -144,6 +149,7 @@ fn rule_line(s: &[u8], p: usize) -> Line
 }
 
 // A guessing rule whose accept field is given, where the others are texts.
+#[tactic(auto, using(base::proofs::PickLaws::cases), unfolding(crate::specs::Lines::guess_told))]
 fn guess_told(s: &[u8], pattern: Text, names: Text, accept: bool) -> Line
     ensures { result ≡ guess_told s.now pattern names accept }
 {
@@ -162,6 +168,7 @@ fn guess_told(s: &[u8], pattern: Text, names: Text, accept: bool) -> Line
 }
 
 // A guessing rule of three fields.
+#[tactic(auto, using(crate::proofs::LineLaws::texts))]
 fn accept_told(s: &[u8], pattern: Text, names: Text, accept: Text) -> Line
     ensures { result ≡ accept_told s.now pattern names accept }
 {
@@ -175,6 +182,7 @@ fn accept_told(s: &[u8], pattern: Text, names: Text, accept: Text) -> Line
 }
 
 // The last field of three, and the end of the line.
+#[tactic(auto, using(crate::proofs::LineLaws::in_order, base::proofs::PickLaws::cases), unfolding(crate::specs::Lines::guess_end))]
 fn guess_end(s: &[u8], pattern: Text, names: Text, p: usize) -> Line
     ensures { result ≡ guess_end s.now pattern names p }
 {
@@ -191,6 +199,7 @@ fn guess_end(s: &[u8], pattern: Text, names: Text, p: usize) -> Line
 }
 
 // Pattern, names and `true` or `false` from p on.
+#[tactic(auto, using(crate::proofs::LineLaws::in_order, base::proofs::PickLaws::cases), unfolding(crate::specs::Lines::guess_at))]
 fn guess_line(s: &[u8], p: usize) -> Line
     ensures { result ≡ guess_at s.now p }
 {
@@ -210,6 +219,7 @@ fn guess_line(s: &[u8], p: usize) -> Line
 }
 
 // A language name, where it is one.
+#[tactic(auto, using(crate::proofs::LineLaws::texts))]
 fn name_told(s: &[u8], name: Text) -> Line
     ensures { result ≡ name_told s.now name }
 {
@@ -223,6 +233,7 @@ fn name_told(s: &[u8], name: Text) -> Line
 }
 
 // One name from p on.
+#[tactic(auto, using(crate::proofs::LineLaws::in_order, base::proofs::PickLaws::cases), unfolding(crate::specs::Lines::name_at))]
 fn name_line(s: &[u8], p: usize) -> Line
     ensures { result ≡ name_at s.now p }
 {
@@ -239,6 +250,7 @@ fn name_line(s: &[u8], p: usize) -> Line
 }
 
 // The line whose first text, no comment, stands at p.
+#[tactic(auto, using(crate::proofs::LineLaws::any_line))]
 fn told_line(kind: FileKind, s: &[u8], p: usize) -> Line
     ensures { result ≡ told_at kind s.now p }
 {
@@ -250,6 +262,7 @@ fn told_line(kind: FileKind, s: &[u8], p: usize) -> Line
 }
 
 // The line from p to the end of s.
+#[tactic(auto, using(crate::proofs::LineLaws::any_line))]
 pub(crate) fn read_line(kind: FileKind, s: &[u8], p: usize) -> Line
     ensures { result ≡ line_at kind s.now p }
 {

@@ -1,4 +1,6 @@
 // Parts of texts: what a text begins and ends with, where a byte or a character stands in it, and a text without its anchors.
+#![tactic(auto)]
+
 ghost use Rattle.std.specs.Prelude.{◌≡◌};
 ghost use Rattle.letters.specs.Reading.{codes_of};
 ghost use Rattle.texts.specs.Parts.{first_byte, last_byte, first_is, last_is, place_of, has, prefix_of, suffix_of, without_caret, without_dollar};
@@ -9,6 +11,7 @@ use letters::Step;
 pub use signatures::{bit_of, has_bits, signature};
 
 // The first byte of s, and 0 where it has none.
+#[tactic(auto, using(crate::proofs::Laws::parts_laws))]
 pub fn first_byte(s: &[u8]) -> u8
     ensures { result ≡ first_byte s.now }
 {
@@ -16,6 +19,7 @@ pub fn first_byte(s: &[u8]) -> u8
 }
 
 // The last byte of s, and 0 where it has none.
+#[tactic(auto, using(crate::proofs::Laws::parts_laws))]
 pub fn last_byte(s: &[u8]) -> u8
     ensures { result ≡ last_byte s.now }
 {
@@ -24,6 +28,7 @@ pub fn last_byte(s: &[u8]) -> u8
 }
 
 // Whether the first byte of s is b.
+#[tactic(auto, using(crate::proofs::Laws::parts_laws))]
 pub fn first_is(s: &[u8], b: u8) -> bool
     ensures { result ≡ first_is b s.now }
 {
@@ -31,6 +36,7 @@ pub fn first_is(s: &[u8], b: u8) -> bool
 }
 
 // Whether the last byte of s is b.
+#[tactic(auto, using(crate::proofs::Laws::parts_laws))]
 pub fn last_is(s: &[u8], b: u8) -> bool
     ensures { result ≡ last_is b s.now }
 {
@@ -39,6 +45,7 @@ pub fn last_is(s: &[u8], b: u8) -> bool
 }
 
 // The place of the first b in s, and s's length where there is none.
+#[tactic(auto, using(crate::proofs::Laws::parts_laws))]
 pub fn find_byte(s: &[u8], b: u8) -> usize
     ensures { result ≡ place_of b s.now }
 {
@@ -53,6 +60,7 @@ pub fn find_byte(s: &[u8], b: u8) -> usize
 }
 
 // Whether s begins with t.
+#[tactic(auto, using(crate::proofs::Laws::parts_laws))]
 pub fn starts_with(s: &[u8], t: &[u8]) -> bool
     ensures { result ≡ prefix_of t.now s.now }
 {
@@ -70,6 +78,7 @@ pub fn starts_with(s: &[u8], t: &[u8]) -> bool
 }
 
 // Whether s ends with t.
+#[tactic(auto, using(crate::proofs::Laws::parts_laws))]
 pub fn ends_with(s: &[u8], t: &[u8]) -> bool
     ensures { result ≡ suffix_of t.now s.now }
 {
@@ -83,6 +92,7 @@ pub fn ends_with(s: &[u8], t: &[u8]) -> bool
 }
 
 // s without one leading `^`.
+#[tactic(auto, using(crate::proofs::Laws::anchor_laws))]
 pub fn without_caret(s: &[u8]) -> &[u8]
     ensures { result.now ≡ without_caret s.now }
 {
@@ -90,6 +100,7 @@ pub fn without_caret(s: &[u8]) -> &[u8]
 }
 
 // s without one trailing `$`.
+#[tactic(auto, using(crate::proofs::Laws::anchor_laws))]
 pub fn without_dollar(s: &[u8]) -> &[u8]
     ensures { result.now ≡ without_dollar s.now }
 {
@@ -102,6 +113,7 @@ pub fn without_dollar(s: &[u8]) -> &[u8]
 }
 
 // Whether the character k is among those of l, read character by character.
+#[tactic(auto, using(crate::proofs::Chars::seeking_laws))]
 fn reads_char(l: &[u8], k: u32) -> bool
     ensures { result ≡ has k (codes_of l.now) }
 {
@@ -125,6 +137,7 @@ fn reads_char(l: &[u8], k: u32) -> bool
 }
 
 // Whether the character k is among those of l. One of a single byte is told by its bytes: no other character has that byte.
+#[tactic(auto, using(crate::proofs::Chars::byte_laws))]
 pub fn has_char(l: &[u8], k: u32) -> bool
     ensures { result ≡ has k (codes_of l.now) }
 {

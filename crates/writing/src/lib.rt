@@ -1,4 +1,6 @@
 // Writing what fits, and telling where it ends: so one function both measures an answer and writes it.
+#![tactic(auto)]
+
 ghost use Rattle.std.specs.Prelude.{◌≡◌, min};
 ghost use mathlib.Core.List.{◌∷◌};
 ghost use Rattle.writing.specs.InnerContracts.{Put, cap};
@@ -7,6 +9,7 @@ ghost use Rattle.writing.specs.InnerContracts.{Put, cap};
 const CAP: usize = 0x8000_0000_0000_0000;
 
 // Writes b at the place, where there is room, and gives the next place.
+#[tactic(auto, using(crate::proofs::Laws::writing_laws))]
 pub fn push(out: &mut [u8], at: usize, b: u8) -> usize
     ensures { Put out.old out.new at result (b ∷ mathlib.Core.List.[]) }
 {
@@ -28,6 +31,7 @@ fn place_of(at: usize) -> usize
 }
 
 // Writes s from the place on, as far as there is room.
+#[tactic(auto, using(crate::proofs::Laws::writing_laws))]
 pub fn copy(s: &[u8], out: &mut [u8], at: usize) -> usize
     ensures { Put out.old out.new at result s.now }
 {

@@ -1,9 +1,0 @@
-use mathlib.Core.Path.{sym}
-use lib.ListN.{get_or-eq_default}
-use borrow.Author.Rules.{rules}
-use Rattle.letters.proofs.utf8.byte_at.Statement.{statement}
-use Rattle.letters.proofs.utf8.byte_at.Tie as tie
-
-pub byte-at-spec : {M : Type 1} → statement M
-byte-at-spec =
-    tie.close (tie.spec (λ c. search rules) (λ c. search rules) (λ c. sym (get_or-eq_default c.before.args.s.now 0 c.if1.false)))

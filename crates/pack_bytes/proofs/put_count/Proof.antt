@@ -1,8 +1,0 @@
-use borrow.Author.Rules.{rules}
-use Rattle.pack_bytes.proofs.PutLaws.{put_laws}
-use Rattle.pack_bytes.proofs.put_count.Statement.{statement}
-use Rattle.pack_bytes.proofs.put_count.Tie as tie
-
-pub put-count-spec : {M : Type 1} → statement M
-put-count-spec =
-    tie.close (tie.spec (λ c. search rules) (λ c κs. search rules) (λ c. search rules) (λ c κs. search rules) (λ c. search rules) (λ c. search put_laws))

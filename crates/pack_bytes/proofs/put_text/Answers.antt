@@ -1,0 +1,5 @@
+use Rattle.pack_bytes.proofs.PutLaws.{put_laws}
+use Rattle.pack_bytes.proofs.put_text.Goals as goal
+
+pub returns : goal.returns
+returns c = search put_laws

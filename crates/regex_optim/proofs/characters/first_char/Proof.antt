@@ -1,8 +1,0 @@
-use Rattle.regex_optim.proofs.Laws.{char_laws}
-use Rattle.regex_optim.proofs.characters.first_char.Statement.{statement}
-use Rattle.regex_optim.proofs.characters.first_char.Tie as tie
-
-pub first-char-spec : {M : Type 1} → statement M
-first-char-spec =
-    tie.close (tie.spec (λ c κs. search char_laws) (λ c. search char_laws) (λ c. search char_laws) (λ c. search char_laws) (λ c. search char_laws)
-    (λ c. search char_laws) (λ c. search char_laws))

@@ -1,8 +1,0 @@
-use Rattle.regex_optim.proofs.Laws.{form_laws}
-use Rattle.regex_optim.proofs.fitting.left_fits.Statement.{statement}
-use Rattle.regex_optim.proofs.fitting.left_fits.Tie as tie
-
-pub left-fits-spec : {M : Type 1} → statement M
-left-fits-spec =
-    tie.close (tie.spec (λ c. search form_laws) (λ c κs. search form_laws) (λ c κs. search form_laws) (λ c κs. search form_laws)
-    (λ c. search form_laws))

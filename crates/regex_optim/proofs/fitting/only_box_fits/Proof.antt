@@ -1,7 +1,0 @@
-use Rattle.regex_optim.proofs.Laws.{form_laws}
-use Rattle.regex_optim.proofs.fitting.only_box_fits.Statement.{statement}
-use Rattle.regex_optim.proofs.fitting.only_box_fits.Tie as tie
-
-pub only-box-fits-spec : {M : Type 1} → statement M
-only-box-fits-spec =
-    tie.close (tie.spec (λ c κs. search form_laws) (λ c κs. search form_laws) (λ c. search form_laws) (λ c. search form_laws))

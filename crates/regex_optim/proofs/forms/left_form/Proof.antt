@@ -1,8 +1,0 @@
-use Rattle.regex_optim.proofs.NumberLaws.{form_told}
-use Rattle.regex_optim.proofs.Laws.{form_laws}
-use Rattle.regex_optim.proofs.forms.left_form.Statement.{statement}
-use Rattle.regex_optim.proofs.forms.left_form.Tie as tie
-
-pub left-form-spec : {M : Type 1} → statement M
-left-form-spec =
-    tie.close (tie.spec (λ c κs. search form_laws) (λ c κs. search form_laws) (λ c κs. search form_laws) (λ c. search (form_told, form_laws)))

@@ -1,9 +1,0 @@
-use Rattle.rule_lines.proofs.Laws.{string_laws}
-use Rattle.rule_lines.proofs.left_good.Statement.{statement}
-use Rattle.rule_lines.proofs.left_good.Tie as tie
-
-pub left-good-spec : {M : Type 1} → statement M
-left-good-spec =
-    tie.close (tie.spec (λ c κs. search string_laws) (λ c κs. search string_laws) (λ c κs. search string_laws)
-    (λ c κs. search string_laws) (λ c κs. search string_laws) (λ c κs. search string_laws) (λ c. search string_laws)
-    (λ c. search string_laws) (λ c. search string_laws) (λ c. search string_laws))

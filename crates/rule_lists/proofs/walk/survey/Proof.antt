@@ -1,8 +1,0 @@
-use borrow.Author.Rules.{rules}
-use Rattle.rule_lists.proofs.WalkLaws.{collect_laws}
-use Rattle.rule_lists.proofs.walk.survey.Statement.{statement}
-use Rattle.rule_lists.proofs.walk.survey.Tie as tie
-
-pub survey-spec : {M : Type 1} → statement M
-survey-spec =
-    tie.close (tie.spec (λ c κs. (search rules, search collect_laws)) (λ c. search rules) (λ c. search rules) (λ c. search collect_laws))

@@ -1,0 +1,12 @@
+use Rattle.rules_parser.proofs.LineLaws.{in_order}
+use Rattle.base.proofs.PickLaws.{cases}
+use Rattle.rules_parser.specs.Lines.{include_at}
+use Rattle.rules_parser.proofs.lines.include.Goals as goal
+
+pub returns-then-ends : goal.returns-then-ends
+unfolding include_at
+returns-then-ends c = search (in_order, cases)
+
+pub returns-else-ends : goal.returns-else-ends
+unfolding include_at
+returns-else-ends c = search (in_order, cases)
