@@ -106,11 +106,11 @@ module _ {limit : ℕ} {alts : List Alternative} {l r : List Entry} (e : Applied
 
   -- what is held comes from an old text and an alternative
   pub apply_from : {t : Text} {g : LanguageSet} → Holds r t g → From l alts t g
-  go (inr x') = elim x' [ ]
   apply_from {t} {g} h = go (enter_sound run h)
     where
       go : Holds (candidates l alts) t g ⊎ Holds [] t g → From l alts t g
       go (inl k) = candidates_from l alts k
+      go (inr x') = elim x' [ ]
 
   pub apply_increasing : Increasing (texts_of r)
   unfolding Increasing

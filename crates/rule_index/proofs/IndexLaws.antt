@@ -40,7 +40,7 @@ use proofs.GuessLaws.{guesser_kept}
 past_held : {s names : List ℕ} {at : ℕ} {rs : List Rule} (word : List ℕ) (place : ℕ) → length word ≤ place → RulesAt s names at rs → first_match rs word place ≡ none
 unfolding first_match
 past_held word place h no_rule = refl
-past_held {names = names} word place h (one_rule {r = r} p w v k l) = pick_false _ _ _ (never_past r word place (good_rule names r k).«pattern-some» h) ∙ past_held word place h l
+past_held {names = names} word place h (one_rule {r = r} p w v k l) = pick_false _ _ _ (never_past r word place (good_rule names r k).pattern_some h) ∙ past_held word place h l
 
 -- ---- rows
 

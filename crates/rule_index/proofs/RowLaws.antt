@@ -137,7 +137,7 @@ pub data Stand (reads : ℕ → Rule → ℕ → Type 0) (to : ℕ) : ℕ → Li
   stand_none : Stand reads to to []
   stand_rule : {at next : ℕ} {r : Rule} {rs : List Rule} → reads at r next → Stand reads to next rs → Stand reads to at (r ∷ rs)
 
-stand_more : (reads : ℕ → Rule → ℕ → Type 0) {from at : ℕ} (next : ℕ) {rs : List Rule} (r : Rule) → reads at r next → Stand reads at from rs → Stand reads next from (rs ++ r ∷ [])
+stand_more : (reads : ℕ → Rule → ℕ → Type 0) {at from : ℕ} (next : ℕ) {rs : List Rule} (r : Rule) → reads at r next → Stand reads at from rs → Stand reads next from (rs ++ r ∷ [])
 stand_more reads next r o stand_none = stand_rule o stand_none
 stand_more reads next r o (stand_rule p w) = stand_rule p (stand_more reads next r o w)
 
@@ -276,11 +276,11 @@ module _ (s : List ℕ) (table : List (List ℕ)) where
   placed_order stand_none = omega arith
   placed_order (stand_rule o w) = omega (arith, placed_order w, o.forward)
 
-  placed_read : (f : ℕ) {to at : ℕ} {rs : List Rule} → to - NUMBERS ≤ at - NUMBERS + f → Stand (PlacedAt s) to at rs → rules_between f s (at - NUMBERS) (to - NUMBERS) ≡ rs
+  placed_read : {to at : ℕ} (f : ℕ) {rs : List Rule} → to - NUMBERS ≤ at - NUMBERS + f → Stand (PlacedAt s) to at rs → rules_between f s (at - NUMBERS) (to - NUMBERS) ≡ rs
   unfolding rules_between behind
-  placed_read f {to = to} h stand_none = no_places f (to - NUMBERS) (to - NUMBERS) (omega arith)
+  placed_read {to = to} f h stand_none = no_places f (to - NUMBERS) (to - NUMBERS) (omega arith)
   placed_read zero h (stand_rule o w) = let no_way : ⊥ = omega (arith, placed_order w, o.forward, o.low) in absurd no_way
-  placed_read (suc f) {to} {at} h (stand_rule {next = n} {r = r} o w) =
+  placed_read {to} {at} (suc f) h (stand_rule {next = n} {r = r} o w) =
       pick_true _ _ _ (lt-ltb (at - NUMBERS) (to - NUMBERS) (omega (arith, placed_order w, o.forward, o.low)))
       ∙ rw (o.reads, place_drop s (n - NUMBERS) o.fits) (ap (λ (l : List Rule). r ∷ l) (placed_read f (omega (arith, o.forward, o.low)) w))
 
@@ -411,7 +411,7 @@ module _ {s : List ℕ} {whole before : List Rule} {at left : ℕ} (w : Midway s
     some_by : Next s w.names at left w.rest → 0 < length (take (b - pattern) (drop pattern s))
     some_by (next r rs n l) =
         let k = held_by s w.names at pattern b c d e f g end r rs (sym q ∙ o) l in
-        rw k.pattern (good_rule w.names r k.good).«pattern-some»
+        rw k.pattern (good_rule w.names r k.good).pattern_some
 
     some_bytes : 0 < length (take (b - pattern) (drop pattern s))
     some_bytes = some_by here

@@ -17,7 +17,7 @@ use specs.Grammar.{Every, Other, Blanks, FirstLine, at_end, at_lf, at_cr_lf, Unc
 use Rattle.rules_parser.proofs as own
 use own.FileLaws.{close_step, next_more, next_none, text_cr, text_lf, text_empty, text_last}
 use own.Ahead.{pick_where}
-use own.GrammarFields.{Of, Stops, split, spanned, span_is, span_least, IsPlace-in, place_more, byte_is, next_is, pair_is, pair_told}
+use own.GrammarFields.{Of, Stops, split, spanned, span_is, span_least, place_in_lem, place_more, byte_is, next_is, pair_is, pair_told}
 use specs.declared.fields.Kind.TheVariants.{Blank, NotLf}
 use specs.declared.files.Close.{Close}
 use specs.declared.files.Close.TheVariants.{At, Open}
@@ -93,14 +93,14 @@ cut s p l left (at_end h e f) =
 cut s p l left (at_lf h c e) =
     let q : p + length l ≡ span_end NotLf s p = sym (span_is s p NotLf l (10 ∷ left) e h refl) in
     let d = place_more s p l (10 ∷ left) e in
-    let o = IsPlace-in s (p + length l) 10 left d in
+    let o = place_in_lem s (p + length l) 10 left d in
     record { end = lf_end s p l left (last_of l) c e q o; next = rw (← next_more s p (p + length l) q o) (next_is s (p + length l) 10 left d); rest = 10 ∷ left; whole = e }
 cut s p l left (at_cr_lf h e) =
     let m : List ℕ = l ++ 13 ∷ [] in
     let w : drop p s ≡ m ++ 10 ∷ left = e ∙ sym (append_assoc l (13 ∷ []) (10 ∷ left)) in
     let q : p + length m ≡ span_end NotLf s p = sym (span_is s p NotLf m (10 ∷ left) w (every_both (Other 10) l (13 ∷ []) h ((λ x. omega arith), tt)) refl) in
     let d = place_more s p m (10 ∷ left) w in
-    let o = IsPlace-in s (p + length m) 10 left d in
+    let o = place_in_lem s (p + length m) 10 left d in
     let n : p + length m - 1 ≡ p + length l = omega (arith, length-append l (13 ∷ [])) in
     let g : get_or s (p + length m - 1) 0 ≡ 13 = rw n (byte_is s (p + length l) 13 (10 ∷ left) (place_more s p l (13 ∷ 10 ∷ left) e)) in
     record { end = sym (text_cr s p (p + length m) q o (omega (arith, length-append l (13 ∷ []))) g) ∙ n; next = rw (← next_more s p (p + length m) q o) (next_is s (p + length m) 10 left d); rest = 13 ∷ 10 ∷ left; whole = e }
@@ -193,11 +193,11 @@ unfolding line_ends
 close_complete s i n [] rest q m e u f g =
     let a : i + 2 ≡ q = omega arith in
     let b : n + 1 ≡ m = omega arith in
-    close_step s i n (IsPlace-in s i 42 (47 ∷ rest) e) ∙ pick_true _ _ _ (pair_is s i 42 47 rest e) ∙ (cc)
+    close_step s i n (place_in_lem s i 42 (47 ∷ rest) e) ∙ pick_true _ _ _ (pair_is s i 42 47 rest e) ∙ (cc)
 close_complete s i n (b ∷ body) rest q m e u f g =
     let c = counted_ends n b body in
     let d : get_or s i 0 ≡ b = byte_is s i b (body ++ 42 ∷ 47 ∷ rest) e in
-    close_step s i n (IsPlace-in s i b (body ++ 42 ∷ 47 ∷ rest) e) ∙ pick_false _ _ _ (not_here s i b body rest e u _ refl)
+    close_step s i n (place_in_lem s i b (body ++ 42 ∷ 47 ∷ rest) e) ∙ pick_false _ _ _ (not_here s i b body rest e u _ refl)
     ∙ rw d (close_complete s (i + 1) (counted_of n b) body rest q m (next_is s i b (body ++ 42 ∷ 47 ∷ rest) e) (λ x y h. u (b ∷ x) y (ap (λ (l : List ℕ). b ∷ l) h)) (omega arith) (omega (arith, c)))
 
 pub record Closed (s t : List ℕ) (i n q m : ℕ) : Type 0 where

@@ -12,7 +12,7 @@ use specs.Files.{item_at, items_of}
 use specs.Grammar.{FoundItem, wrong, found_of, Begins, Reads, over, next, stop}
 use Rattle.rules_parser.proofs as own
 use own.Laws.{items_start, items_end, items_passed, items_tells, items_wrong, passed_goes, tells_goes}
-use own.GrammarFields.{IsPlace-in, place_some}
+use own.GrammarFields.{place_in_lem, place_some}
 use specs.declared.lines.FileKind.{FileKind}
 use specs.declared.files.Item.{Item}
 use specs.declared.files.Item.TheVariants.{Passed, Tells, Wrong}
@@ -57,19 +57,19 @@ from_complete : {k : FileKind} {r : List ℕ} {xs : List FoundItem} → Reads k 
 unfolding found_of More Begun
 from_complete {k} over s p e = sym (ap (map (found_of s)) (items_end k s p (omega (arith, length-drop p s, ap length e))))
 from_complete {k} (next {b} {t} {left} {x} {xs} w h) s p e =
-    go (item_at k s p) refl (item_complete k s p (IsPlace-in s p b t e) (rw e w)) (from_complete h s)
+    go (item_at k s p) refl (item_complete k s p (place_in_lem s p b t e) (rw e w)) (from_complete h s)
   where
     go : (i : Item) → item_at k s p ≡ i → Item-as s i x left → ((q : ℕ) → drop q s ≡ left → xs ≡ map (found_of s) (items_at k s q))
         → x ∷ xs ≡ map (found_of s) (items_at k s p)
     go (Passed m q) f a ih = let g = a.found in let j = ih q a.more in rw (items_passed k s p m q f) (cc)
     go (Tells u q) f a ih = let g = a.found in let j = ih q a.more in rw (items_tells k s p u q f) (cc)
     go Wrong f a ih = absurd a.more
-from_complete {k} (stop {b} {t} n) s p e = go (item_at k s p) refl (item_sound k s p (IsPlace-in s p b t e))
+from_complete {k} (stop {b} {t} n) s p e = go (item_at k s p) refl (item_sound k s p (place_in_lem s p b t e))
   where
     go : (i : Item) → item_at k s p ≡ i → Begun k s p i → wrong ∷ [] ≡ map (found_of s) (items_at k s p)
     go (Passed m q) f w = absurd (n _ _ (rw e at w))
     go (Tells u q) f w = absurd (n _ _ (rw e at w))
-    go Wrong f w = rw (items_wrong k s p (IsPlace-in s p b t e) f) refl
+    go Wrong f w = rw (items_wrong k s p (place_in_lem s p b t e) f) refl
 
 left_one : (s left left' : List ℕ) (i : Item) → More s left i → More s left' i → left ≡ left'
 unfolding More

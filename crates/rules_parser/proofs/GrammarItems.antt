@@ -13,7 +13,7 @@ use specs.Files.{close_at, next_line, on_close, comment_at, on_line, item_at}
 use specs.Grammar.{Every, Other, BlankByte, Blanks, OpeningLine, CommentLine, FirstLine, at_end, at_lf, at_cr_lf, Said, said_of, FoundItem, passed, said, found_of, Block, Begins, blank, comment, block, says, next}
 use Rattle.rules_parser.proofs as own
 use own.Ahead.{pick_where}
-use own.GrammarFields.{Of, Stops, span_is, IsPlace-in, place_more, text_ends, plain}
+use own.GrammarFields.{Of, Stops, span_is, place_in_lem, place_more, text_ends, plain}
 use own.GrammarLaws.{Means, line_sound, Tells-as, blank_complete, comment_complete, opening_complete, says_complete}
 use own.GrammarEnds.{every_both, cut, lined, line_text, rest_complete, rest_sound, Closes, close_complete, close_sound}
 use specs.declared.fields.Kind.TheVariants.{Blank as blanks}
@@ -130,7 +130,7 @@ module _ (k : FileKind) (s : List ℕ) (p : ℕ) (o : p < length s) (n : ℕ) (l
       let g : close_at s (a + 2) ≡ At m n = close_complete s (a + 2) 0 b.body b.behind m n e b.closes refl (omega (arith, b.counts)) in
       let i : drop m s ≡ b.behind = place_more s (a + 2 + length b.body) (42 ∷ 47 ∷ []) b.behind (place_more s (a + 2) b.body (42 ∷ 47 ∷ b.behind) e) in
       let j : FirstLine (drop m s) b.trail left = rw i b.ends in
-      rw (opening_item k s p o h.text h.left h.line (opens h.text h.left h.line), q, pick_false _ _ _ (lt-leb _ _ (IsPlace-in s a 47 (42 ∷ r) d)), g, pick_true _ _ _ (rest_complete s m b.trail left j b.trails))
+      rw (opening_item k s p o h.text h.left h.line (opens h.text h.left h.line), q, pick_false _ _ _ (lt-leb _ _ (place_in_lem s a 47 (42 ∷ r) d)), g, pick_true _ _ _ (rest_complete s m b.trail left j b.trails))
       (record { found = refl; more = (cut s m b.trail left j).next })
 
 -- what begins at p is given so

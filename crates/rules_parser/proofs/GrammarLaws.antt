@@ -19,7 +19,7 @@ use specs.Lines.{on_field, text_at, rule_told, last_two, four_at, include_word, 
 use specs.Grammar.{Shape, ◌⨾◌, Just, Anything, Every, NoBlank, Blanks, Gap, Word, CommentLine, OpeningLine, Said, rule, include, guess, name, said_of, Printable, TextString, TextWord, RuleLine, IncludeLine, verdict, GuessLine, NameLine, LineSays, is_rule, is_include, is_guess, is_name}
 use Rattle.rules_parser.proofs as own
 use own.Ahead.{pick_where}
-use own.GrammarFields.{Of, Stops, spanned, span_is, IsPlace-in, place_more, text_ends, plain, pair_not, pair_told, Written, Where, Met, field_met, Parted, parted_met, Given, Follows, field_given, parted_given, blanks_follow, gap_follows, ends_in, ends_is, ends_told, pair_behind, tail_is, lead, tail_told}
+use own.GrammarFields.{Of, Stops, spanned, span_is, place_in_lem, place_more, text_ends, plain, pair_not, pair_told, Written, Where, Met, field_met, Parted, parted_met, Given, Follows, field_given, parted_given, blanks_follow, gap_follows, ends_in, ends_is, ends_told, pair_behind, tail_is, lead, tail_told}
 use specs.declared.fields.Kind.TheVariants.{Blank as blanks}
 use specs.declared.fields.FieldKind.{FieldKind}
 use specs.declared.fields.FieldKind.TheVariants.{Quoted, Plain}
@@ -266,7 +266,7 @@ told_at_lem : (k : FileKind) (s : List ℕ) (p : ℕ) (x : List ℕ) (c : ℕ) (
 unfolding line_at Of Stops
 told_at_lem k s p x c y e h n f g =
     let q : span_end blanks s p ≡ p + length x = span_is s p blanks x (c ∷ y) e h (text_ends c n) in
-    rw q (pick_false _ _ _ (lt-leb _ _ (IsPlace-in s (p + length x) c y (place_more s p x (c ∷ y) e))) ∙ pick_false _ _ _ f ∙ pick_false _ _ _ g)
+    rw q (pick_false _ _ _ (lt-leb _ _ (place_in_lem s (p + length x) c y (place_more s p x (c ∷ y) e))) ∙ pick_false _ _ _ f ∙ pick_false _ _ _ g)
 
 told_other : (k : FileKind) (s : List ℕ) (p : ℕ) (x : List ℕ) (c : ℕ) (y : List ℕ) → drop p s ≡ x ++ c ∷ y → Blanks x → NoBlank c → (c ≡ 47 → ⊥)
     → line_at k s p ≡ told_at k s (p + length x)
@@ -296,7 +296,7 @@ module _ (s z : List ℕ) (p : ℕ) where
       let m : y ≡ 34 ∷ v = d₁ ∙ ap (λ (v : List ℕ). v ++ y₁) h₁.0 in
       let j : drop (p + length x) s ≡ y = place_more s p x y d in
       let f : prefix_of include_word (drop (p + length x) s) ≡ false = rw (j ∙ m) refl in
-      told_by (told_other Rules s p x 34 v (d ∙ ap (λ (v : List ℕ). x ++ v) m) h (plain 34 (omega arith)) (λ n. omega arith) ∙ pick_false _ _ _ (lt-leb _ _ (IsPlace-in s _ 34 v (j ∙ m))) ∙ pick_false _ _ _ f)
+      told_by (told_other Rules s p x 34 v (d ∙ ap (λ (v : List ℕ). x ++ v) m) h (plain 34 (omega arith)) (λ n. omega arith) ∙ pick_false _ _ _ (lt-leb _ _ (place_in_lem s _ 34 v (j ∙ m))) ∙ pick_false _ _ _ f)
       (four_complete s z (p + length x) y j a l r e (x₁, y₁, d₁, (h₁, t₁), o))
 
   include_said : (n : List ℕ) → IncludeLine n (drop p s) → Tells-as (s ++ z) (line_at Rules s p) (include n)
@@ -306,7 +306,7 @@ module _ (s z : List ℕ) (p : ℕ) where
       let v : List ℕ = drop 1 include_word ++ y₁ in
       let j : drop (p + length x) s ≡ y = place_more s p x y d in
       let f : prefix_of include_word (drop (p + length x) s) ≡ true = rw (j ∙ m) refl in
-      told_by (told_other Rules s p x 35 v (d ∙ ap (λ (v : List ℕ). x ++ v) m) h (plain 35 (omega arith)) (λ n. omega arith) ∙ pick_false _ _ _ (lt-leb _ _ (IsPlace-in s _ 35 v (j ∙ m))) ∙ pick_true _ _ _ f)
+      told_by (told_other Rules s p x 35 v (d ∙ ap (λ (v : List ℕ). x ++ v) m) h (plain 35 (omega arith)) (λ n. omega arith) ∙ pick_false _ _ _ (lt-leb _ _ (place_in_lem s _ 35 v (j ∙ m))) ∙ pick_true _ _ _ f)
       (include_complete s z (p + length x) y j n (x₁, y₁, d₁, h₁, o))
 
   name_said : (n : List ℕ) → NameLine n (drop p s) → language_name n ≡ true → Tells-as (s ++ z) (line_at Languages s p) (name n)

@@ -86,7 +86,7 @@ module _ (s : List ℕ) (p : ℕ) (h : p < length s) (t : Bool) (e : t ≡ prefi
   unfolding rule_at
   rule_four f g = g ∙ sym (pick_false _ _ _ (lt-leb _ _ h) ∙ pick_false _ _ _ (sym begins ∙ f))
 
-pub ruleset rules = (rule_past, rule_include, rule_four)
+pub ruleset rule_steps = (rule_past, rule_include, rule_four)
 
 -- ---- any line
 module _ (k : FileKind) (s : List ℕ) (p : ℕ) (l : Line) where

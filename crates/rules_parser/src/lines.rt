@@ -134,6 +134,7 @@ fn include(s: &[u8], p: usize) -> Line
 }
 
 // A rule or an include.
+#[tactic(auto, using(crate::proofs::LineLaws::rule_steps))]
 fn rule_line(s: &[u8], p: usize) -> Line
     ensures { result ≡ rule_at s.now p }
 {
