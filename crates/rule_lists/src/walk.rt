@@ -104,6 +104,7 @@ fn on_rule(
 
 // Reads the file of an include's name, where it may be nested and is one of the list's first 256, and is in the bundle.
 #[cycle(follow_walk)]
+#[tactic(auto, using(crate::proofs::FollowLaws::follow_laws))]
 fn follow(
     at: IncludeAt,
     task: Task,
@@ -160,6 +161,7 @@ fn follow(
 
 // Reads a file line by line; its own entry is the last that was followed.
 #[cycle(follow_walk)]
+#[tactic(auto, using(crate::proofs::GoingLaws::going_laws))]
 fn walk(
     source: Source,
     task: Task,
