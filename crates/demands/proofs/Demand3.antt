@@ -11,7 +11,7 @@ use Rattle.languages.specs.Sets.{narrowed, is_empty}
 use Rattle.languages.specs.declared.sets.LanguageSet.{LanguageSet}
 use Rattle.choices.specs.Texts.{Text}
 use Rattle.choices.specs.Apply.{Alternative, Places, Entry, texts_of, NextSet, overlong, next_set, apply, start}
-use Rattle.choices.specs.Choices.{◌∈◌, Choice, end, choose, spelt, leaves, Holds, first, First, Increasing}
+use Rattle.choices.specs.Choices.{◌∈◌, Choice, end, choose, spelt, leaves, Holds, first, later, First, Increasing}
 use Rattle.base.proofs.Arms.{clash}
 use Rattle.choices.proofs.SetLaws.{times_one}
 use Rattle.choices.proofs.ApplyLaws.{Applied, From, from, holds_eq, apply_from, apply_has, apply_increasing}
@@ -137,11 +137,12 @@ moved {g} {places} p =
     path_j (λ (h : LanguageSet) (q : g ≡ h). (c : Choice h places) → (d : Choice g places) × (spelt d ≡ spelt c) × (leaves d ≡ leaves c))
     (λ c. (c, refl, refl)) p
 
-from_start : {g h : LanguageSet} {places : Places} {t : Text} → Spelled (start g) places t h
+from_start : {g : LanguageSet} {places : Places} {t : Text} {h : LanguageSet} → Spelled (start g) places t h
     → (c : Choice g places) × (spelt c ≡ t) × (leaves c ≡ h)
 from_start (spelled (first p q) c) =
     let m = moved q c in
     (m.0, m.1 ∙ ap (λ (s : Text). s ++ spelt c) p, m.2)
+from_start (spelled (later x) c) = elim x [ ]
 
 start_agree : (g : LanguageSet) (turns : List Turn) → AlikeAgree g turns → (k : ℕ) (t u : Text) (i h : LanguageSet)
     → Holds (start g) t i → Holds (start g) u h → (c : Choice i (take k (rule_places turns))) (d : Choice h (take k (rule_places turns)))
@@ -151,6 +152,8 @@ start_agree g turns a k t u i h (first p q) (first p' q') c d e =
     let m = moved q c in
     let n = moved q' d in
     sym m.2 ∙ a k m.0 n.0 (m.1 ∙ (rw (← p, ← p') at e) ∙ sym n.1) ∙ n.2
+start_agree g turns a k t u i h (first p q) (later x) c d e = elim x [ ]
+start_agree g turns a k t u i h (later x) _ c d e = elim x [ ]
 
 -- the two conditions, and a choice's text
 has_choice : (limit : ℕ) (g : LanguageSet) (turns : List Turn) (l : List Entry) → Passing limit turns (start g) l

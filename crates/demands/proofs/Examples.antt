@@ -169,6 +169,9 @@ cd_only : (c : Choice Any (places_in cd)) → leaves c ≡ de
 unfolding computing leaves
 cd_only (choose x here n (choose y here m end)) = clash (cc)
 cd_only (choose x (there here) n (choose y here m end)) = refl
+cd_only (choose _ here n (choose y (there x) m _)) = elim x [ ]
+cd_only (choose _ (there here) n (choose y (there x) m _)) = elim x [ ]
+cd_only (choose x (there (there h)) n _) = elim h [ ]
 
 -- ---- the limit is reached: `e`, limit 1
 

@@ -88,7 +88,7 @@ module _ (afresh : Text → Spelt) (low : (t : Text) → NameBelow (afresh t)) w
   and_below : (x : Spelt) (ws : List Text) → NameBelow x → NameBelow (and_words afresh x ws)
   unfolding and_words
   and_below x [] h = h
-  and_below x (w ∷ ws) h = and_below _ ws (hyphened_below x _ h (low w))
+  and_below x (w ∷ ws) h = and_below (hyphened x (afresh w)) ws (hyphened_below x _ h (low w))
 
   each_below : (ws : List Text) → NameBelow (each_word afresh ws)
   unfolding NameBelow each_word

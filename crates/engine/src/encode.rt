@@ -243,6 +243,7 @@ fn both(first: AnswerEnd, second: AnswerEnd, at: usize) -> AnswerEnd
 // A name spelled, into `out` from `at` on, as far as there is room: by its prefix, the remainder and the joined name both, or by its
 // words.
 #[cycle(spell_bracketed_spell_name_spell_words)]
+#[tactic(auto, using(crate::proofs::NameLaws::name_laws))]
 pub(crate) fn spell_name(
     store: &mut Store,
     slots: &mut Slots,
@@ -277,6 +278,7 @@ pub(crate) fn spell_name(
 
 // A name spelled afresh, between brackets.
 #[cycle(spell_bracketed_spell_name_spell_words)]
+#[tactic(auto, using(crate::proofs::NameLaws::bracketed_laws))]
 fn spell_bracketed(
     store: &mut Store,
     slots: &mut Slots,
@@ -305,6 +307,7 @@ fn spell_bracketed(
 
 // Each word of a name spelled afresh, a hyphen between them.
 #[cycle(spell_bracketed_spell_name_spell_words)]
+#[tactic(auto, using(crate::proofs::NameLaws::words_laws))]
 fn spell_words(
     store: &mut Store,
     slots: &mut Slots,

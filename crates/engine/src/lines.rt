@@ -52,6 +52,7 @@ fn line_length(n: usize) -> usize
 }
 
 // A number in decimal, from a place on. Returns the place behind it.
+#[tactic(auto, using(crate::proofs::LineLaws::lines_laws))]
 fn put_decimal(n: usize, out: &mut [u8], at: usize) -> usize
     ensures { Put out.old out.new at result (decimal n) }
 {

@@ -26,7 +26,7 @@ use Rattle.rule_lists.specs.Outcomes.{Loading, fine, not_loaded, and_load}
 use Rattle.loader.specs.Files.{Kept, keeps, fault, on_kept, told_in}
 use Rattle.base.proofs.PickLaws.{and_yes}
 use Rattle.pack_bytes.specs.InnerContracts.{Each, none, more}
-use rules_parser.contracts.{items_at}
+use rules_parser.InnerContracts.{items_at}
 
 pub fine_is : {A : Type 0} {x y : A} → fine x ≡ fine y → x ≡ y
 fine_is e = cc

@@ -47,8 +47,8 @@ use specs.declared.language_list.Names.{Names}
 use specs.declared.language_list.Names.TheVariants as names
 use Rattle.base.proofs.PickLaws.{pick_true, pick_false, and_inv, tests}
 use Rattle.held.specs.Met.{bytes_of_all}
-use bundles.Contracts.{files_of}
-use rule_lists.Contracts.{WrittenIs}
+use bundles.InnerContracts.{files_of}
+use rule_lists.InnerContracts.{WrittenIs}
 use lib.Seq.{sets, set-set, set_comm}
 use specs.Guesses.{guesses_in, counted_guesses, guesses_of}
 use specs.declared.guesses.Guessed.{Guessed}

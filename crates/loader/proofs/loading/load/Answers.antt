@@ -1,0 +1,11 @@
+use Rattle.loader.proofs.LoadingLaws.{loading}
+use Rattle.loader.proofs.loading.load.Goals as goal
+
+pub returns-then-check_bundle : goal.returns-then-check_bundle
+returns-then-check_bundle c = search loading
+
+pub returns-else-check_bundle : goal.returns-else-check_bundle
+returns-else-check_bundle c = search loading
+
+pub returns-in-Unknown : goal.returns-in-Unknown
+returns-in-Unknown c = search loading

@@ -1,0 +1,14 @@
+use Rattle.loader.proofs.LoadingLaws.{answers}
+use Rattle.loader.proofs.loading.load_pack.Goals as goal
+
+pub returns-then-out-length : goal.returns-then-out-length
+returns-then-out-length c = search answers
+
+pub returns-then-length-le-OWN : goal.returns-then-length-le-OWN
+returns-then-length-le-OWN c = copied
+
+pub returns-else-length-le-OWN : goal.returns-else-length-le-OWN
+returns-else-length-le-OWN c = search answers
+
+pub returns-in-Refused : goal.returns-in-Refused
+returns-in-Refused c = search answers
