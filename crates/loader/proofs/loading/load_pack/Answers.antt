@@ -1,11 +1,12 @@
-use Rattle.loader.proofs.LoadingLaws.{answers}
+use Rattle.loader.proofs.LoadingLaws.{answers, answer_copied}
 use Rattle.loader.proofs.loading.load_pack.Goals as goal
 
 pub returns-then-out-length : goal.returns-then-out-length
 returns-then-out-length c = search answers
 
+-- what was made in the call's own buffer is copied
 pub returns-then-length-le-OWN : goal.returns-then-length-le-OWN
-returns-then-length-le-OWN c = copied
+returns-then-length-le-OWN c = ?
 
 pub returns-else-length-le-OWN : goal.returns-else-length-le-OWN
 returns-else-length-le-OWN c = search answers
