@@ -90,8 +90,9 @@ fn write_path(rt: &HostRuntime, path: &[u8], pack: &[u8]) {
 
 // Loads a bundle, and writes its pack or prints its refusal.
 fn answer(rt: &HostRuntime, name_type: u32, bundle: &[u8]) -> io::Result<()> {
-    let mut pack = pack_room(rt.alloc())?;
-    match loader::load(name_type, bundle, pack.as_mut_slice()) {
+    let mut room = pack_room(rt.alloc())?;
+    let pack = room.as_mut_slice();
+    match loader::load(name_type, bundle, pack) {
         Loaded::Done { length } => write(rt, &pack[0..length]),
         Loaded::Refused { why, place, file } => {
             print_refusal(rt, refusals::number_of(why) as u32, place, file)
