@@ -12,7 +12,6 @@ use loader::Loaded;
 use pack::Checked;
 
 // The code of an answer; `tail` takes its place (or how many bytes were written) and its flag.
-#[tactic(auto, using(crate::proofs::FlatLaws::flat_laws))]
 fn number(s: Spelled, tail: &mut [u64]) -> u32
     requires { 2 ≤ length tail.old }
     ensures { TailIs s tail.old tail.new result }
@@ -32,7 +31,6 @@ fn number(s: Spelled, tail: &mut [u64]) -> u32
 }
 
 // The pack of a bundle: the code; `tail` takes bytes written or place, and the file's number.
-#[tactic(auto, using(crate::proofs::FlatLaws::flat_laws))]
 pub fn bm_load(name_type: u32, bundle: &[u8], out: &mut [u8], tail: &mut [u64]) -> u32
     ensures { LoadFlat (written (load_of name_type bundle.now))
         out.old out.new tail.old tail.new result }
@@ -55,7 +53,6 @@ pub fn bm_load(name_type: u32, bundle: &[u8], out: &mut [u8], tail: &mut [u64]) 
 }
 
 // 0, or 5; `tail` takes the place.
-#[tactic(auto, using(crate::proofs::FlatLaws::flat_laws))]
 pub fn bm_check(pack: &[u8], tail: &mut [u64]) -> u32
     ensures { CheckFlat pack.now tail.old tail.new result }
 {
@@ -75,7 +72,6 @@ pub fn bm_check(pack: &[u8], tail: &mut [u64]) -> u32
 }
 
 // A name's key, its languages guessed: the code; `tail` takes bytes written or place, and the flag.
-#[tactic(auto, using(crate::proofs::FlatLaws::flat_laws))]
 pub fn bm_spell(
     name_type: u32,
     rule_type: u32,
@@ -103,7 +99,6 @@ pub fn bm_spell(
 }
 
 // The same with given languages.
-#[tactic(auto, using(crate::proofs::FlatLaws::flat_laws))]
 pub fn bm_spell_given(
     name_type: u32,
     rule_type: u32,
@@ -146,7 +141,6 @@ fn start_of(given: u32, kind: u32, bits: u32) -> Start
 
 // The lines of a block of names: 0, and `tail` takes how much was read and how much written; or 9, and `tail` takes the length that the
 // first line needs. `given` 0 guesses, else kind and bits count.
-#[tactic(auto, using(crate::proofs::FlatLaws::flat_laws))]
 pub fn bm_spell_lines(
     name_type: u32,
     rule_type: u32,
