@@ -85,9 +85,13 @@ fn words_of(text: &str) -> &str {
 
 // Puts a colon and why something failed on standard error.
 fn say_why(rt: &HostRuntime, why: Error) -> io::Result<()> {
-    let text = format!(in rt.alloc(); "{why}")?;
-    let words = words_of(text.as_str());
-    eprintln!(rt; ": {words}")
+    match format!(in rt.alloc(); "{why}") {
+        Ok(text) => {
+            let words = words_of(text.as_str());
+            eprintln!(rt; ": {words}")
+        }
+        Err(_) => eprintln!(rt; ": {why}"),
+    }
 }
 
 // Says what failed, and why.
