@@ -197,13 +197,9 @@ fn take_new(
     take_path(rt, &path[0..n], name, store, ends, t)
 }
 
-// Whether a file of a folder can have a name and `.txt` behind it: 251 bytes at most, none of them a slash or 0; and whether
-// it can be opened: std knows no name that is not UTF-8.
+// Whether a file of a folder can have a name and `.txt` behind it: 251 bytes at most, none of them a slash or 0.
 fn is_file_name(name: &[u8]) -> bool {
     if name.len() > 251 {
-        return false;
-    }
-    if str::from_utf8(name).is_err() {
         return false;
     }
     let mut i: usize = 0;
@@ -234,9 +230,14 @@ pub fn take(
     if has(store, ends, t.count, name) {
         return t;
     }
-    if is_file_name(name) {
-        return take_new(rt, dir, name, store, ends, t);
+    if !is_file_name(name) {
+        words::unnamed(rt, name);
+        return t;
     }
-    words::unnamed(rt, name);
-    t
+    // std opens no file whose name is not UTF-8
+    if str::from_utf8(name).is_err() {
+        words::unopened(rt, name);
+        return t;
+    }
+    take_new(rt, dir, name, store, ends, t)
 }

@@ -19,6 +19,11 @@ pub fn unnamed(rt: &HostRuntime, name: &[u8]) {
     left_out(rt, name, b": not a file's name\n");
 }
 
+// Says that an include names a file that cannot be opened, whether or not the folder has it.
+pub fn unopened(rt: &HostRuntime, name: &[u8]) {
+    left_out(rt, name, b": not a name in UTF-8\n");
+}
+
 // Says that there is no language list.
 pub fn no_list(rt: &HostRuntime, dir: &[u8]) {
     say(rt, b"bundle: no language list in ");
