@@ -1,4 +1,4 @@
-/* The static library libbm.a (`rt staticlib bm`): rule files loaded and keys of names, for C.
+/* The static library libbm.a (`bin/libbm`): rule files loaded and keys of names, for C.
    Each call answers with its code (0 done, else the number of the refusal); `tail` takes its other numbers. Where `tail` has
    fewer elements than a call needs, the answer is 255 and nothing is written. A refused call leaves `out` as it was. Any
    bytes and any numbers may be given: no call has to be checked first. A pointer must not be null, and `out` and `tail`

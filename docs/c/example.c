@@ -1,5 +1,5 @@
 /* The keys of the names given as arguments, by a pack: example PACK NAME..
-   Build: rt staticlib bm, then cc -o example docs/c/example.c target/staticlib/libbm.a */
+   Build: bin/libbm, then cc -o example docs/c/example.c target/staticlib/libbm.a */
 #include <inttypes.h>
 #include <stdio.h>
 #include <string.h>

@@ -1,10 +1,13 @@
 // Answers cases: for each line of standard input that is a case, a line of what the port says of it, and `?` for any
 // other line. A case is a word and its fields, parted by blanks.
+#![tactic(auto)]
+
 mod loading_cases;
 mod spelling_cases;
 mod words_cases;
 
 use cases::Said;
+use std::io;
 
 // How long the pack and the bundle are that are kept, and how many bytes of output wait.
 #[derive(Clone, Copy)]
@@ -35,6 +38,7 @@ fn said_of(
 
 // Puts what is said of a line, and answers how many bytes of output wait then.
 fn answer(
+    rt: &HostRuntime,
     command: usize,
     given: &[u8],
     tells: &[usize; 9],
@@ -45,14 +49,15 @@ fn answer(
     used: usize,
 ) -> usize {
     let said = said_of(command, given, tells, made, kept, files);
-    cases::say(said, given, tells, made, out, used)
+    cases::say(rt, said, given, tells, made, out, used)
 }
 
 // Takes a line's bytes where it gives them for that and there is room, and answers how many are held now.
 fn replace_held(gives: bool, bytes: &[u8], into: &mut [u8], held: usize) -> usize {
     if gives {
         if bytes.len() <= into.len() {
-            return bytes::copy(bytes, into);
+            into[..bytes.len()].copy_from_slice(bytes);
+            return bytes.len();
         }
     }
     held
@@ -60,6 +65,7 @@ fn replace_held(gives: bool, bytes: &[u8], into: &mut [u8], held: usize) -> usiz
 
 // Answers a line, and keeps the pack or the bundle that it gives.
 fn turn(
+    rt: &HostRuntime,
     line: &[u8],
     given: &mut [u8],
     made: &mut [u8],
@@ -71,6 +77,7 @@ fn turn(
     let mut tells = [0usize; 9];
     let command = cases::read(line, given, &mut tells);
     let used = answer(
+        rt,
         command,
         given,
         &tells,
@@ -91,6 +98,7 @@ fn turn(
 // Answers every line of the input. The turns are counted down, from a number that no run uses up, since a proved loop
 // ends.
 fn serve(
+    rt: &HostRuntime,
     block: &mut [u8],
     line: &mut [u8],
     given: &mut [u8],
@@ -99,7 +107,7 @@ fn serve(
     bundle: &mut [u8],
     out: &mut [u8],
 ) {
-    let mut s = cases::next(block, line, cases::start());
+    let mut s = cases::next(rt, block, line, cases::start());
     let mut held = Held {
         pack: 0,
         bundle: 0,
@@ -108,6 +116,7 @@ fn serve(
     let mut turns = u64::MAX;
     while turns > 0 && s.open {
         held = turn(
+            rt,
             cases::part(line, 0, s.size),
             given,
             made,
@@ -116,28 +125,30 @@ fn serve(
             out,
             held,
         );
-        s = cases::next(block, line, s);
+        s = cases::next(rt, block, line, s);
         turns -= 1;
     }
-    cases::flush(out, held.used);
+    cases::flush(rt, out, held.used);
 }
 
-fn main() {
+fn main(rt: HostRuntime) -> io::Result<()> {
     // a line of 200,000 bytes and one more, and the bytes that such a line can give in hex; a pack and a bundle of 98,304 bytes
-    let mut block = io::large_buffer();
-    let mut line = [0u8; 200001];
-    let mut given = [0u8; 100000];
-    let mut made = [0u8; 100000];
-    let mut pack = [0u8; 98304];
-    let mut bundle = [0u8; 98304];
-    let mut out = io::large_buffer();
+    let mut block = vec![in rt.alloc(); 0u8; 65536]?;
+    let mut line = vec![in rt.alloc(); 0u8; 200001]?;
+    let mut given = vec![in rt.alloc(); 0u8; 100000]?;
+    let mut made = vec![in rt.alloc(); 0u8; 100000]?;
+    let mut pack = vec![in rt.alloc(); 0u8; 98304]?;
+    let mut bundle = vec![in rt.alloc(); 0u8; 98304]?;
+    let mut out = vec![in rt.alloc(); 0u8; 65536]?;
     serve(
-        &mut block,
-        &mut line,
-        &mut given,
-        &mut made,
-        &mut pack,
-        &mut bundle,
-        &mut out,
+        &rt,
+        block.as_mut_slice(),
+        line.as_mut_slice(),
+        given.as_mut_slice(),
+        made.as_mut_slice(),
+        pack.as_mut_slice(),
+        bundle.as_mut_slice(),
+        out.as_mut_slice(),
     );
+    Ok(())
 }

@@ -1,4 +1,4 @@
-// The face for C: numbers by value and lent slices, each a pointer and a length. An answer is its code; `tail` takes the other
+// The face for C, which crate bm_c exports: numbers by value and lent slices. An answer is its code; `tail` takes the other
 // numbers. Where `tail` has no room for them, the answer is 255 and nothing is written.
 ghost use Rattle.std.specs.Prelude.{◌≡◌, ◌≤◌, length};
 ghost use Rattle.loader.specs.Loading.{load_of, written};
@@ -12,7 +12,6 @@ use loader::Loaded;
 use pack::Checked;
 
 // The code of an answer; `tail` takes its place (or how many bytes were written) and its flag.
-#[tactic(auto, using(crate::proofs::FlatLaws::flat_laws))]
 fn number(s: Spelled, tail: &mut [u64]) -> u32
     requires { 2 ≤ length tail.old }
     ensures { TailIs s tail.old tail.new result }
@@ -32,9 +31,7 @@ fn number(s: Spelled, tail: &mut [u64]) -> u32
 }
 
 // The pack of a bundle: the code; `tail` takes bytes written or place, and the file's number.
-#[unsafe(no_mangle)]
-#[tactic(auto, using(crate::proofs::FlatLaws::flat_laws))]
-pub extern "C" fn bm_load(name_type: u32, bundle: &[u8], out: &mut [u8], tail: &mut [u64]) -> u32
+pub fn bm_load(name_type: u32, bundle: &[u8], out: &mut [u8], tail: &mut [u64]) -> u32
     ensures { LoadFlat (written (load_of name_type bundle.now))
         out.old out.new tail.old tail.new result }
 {
@@ -56,9 +53,7 @@ pub extern "C" fn bm_load(name_type: u32, bundle: &[u8], out: &mut [u8], tail: &
 }
 
 // 0, or 5; `tail` takes the place.
-#[unsafe(no_mangle)]
-#[tactic(auto, using(crate::proofs::FlatLaws::flat_laws))]
-pub extern "C" fn bm_check(pack: &[u8], tail: &mut [u64]) -> u32
+pub fn bm_check(pack: &[u8], tail: &mut [u64]) -> u32
     ensures { CheckFlat pack.now tail.old tail.new result }
 {
     if tail.len() < 1 {
@@ -77,9 +72,7 @@ pub extern "C" fn bm_check(pack: &[u8], tail: &mut [u64]) -> u32
 }
 
 // A name's key, its languages guessed: the code; `tail` takes bytes written or place, and the flag.
-#[unsafe(no_mangle)]
-#[tactic(auto, using(crate::proofs::FlatLaws::flat_laws))]
-pub extern "C" fn bm_spell(
+pub fn bm_spell(
     name_type: u32,
     rule_type: u32,
     concat: u32,
@@ -106,9 +99,7 @@ pub extern "C" fn bm_spell(
 }
 
 // The same with given languages.
-#[unsafe(no_mangle)]
-#[tactic(auto, using(crate::proofs::FlatLaws::flat_laws))]
-pub extern "C" fn bm_spell_given(
+pub fn bm_spell_given(
     name_type: u32,
     rule_type: u32,
     concat: u32,
@@ -150,9 +141,7 @@ fn start_of(given: u32, kind: u32, bits: u32) -> Start
 
 // The lines of a block of names: 0, and `tail` takes how much was read and how much written; or 9, and `tail` takes the length that the
 // first line needs. `given` 0 guesses, else kind and bits count.
-#[unsafe(no_mangle)]
-#[tactic(auto, using(crate::proofs::FlatLaws::flat_laws))]
-pub extern "C" fn bm_spell_lines(
+pub fn bm_spell_lines(
     name_type: u32,
     rule_type: u32,
     concat: u32,

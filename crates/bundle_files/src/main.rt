@@ -1,18 +1,26 @@
 // Makes a bundle: `bundle TYPE DIR OUT` takes the language list of a type from the folder DIR, every file that the list needs and
 // every file that these include, and writes them to OUT as a bundle.
+#![tactic(auto)]
+
 mod needed;
 mod sorting;
 mod taken;
 mod words;
 
-ghost use Rattle.std.specs.Prelude.{◌≡◌, length};
+ghost use Rattle.std.specs.Prelude.{◌≡◌, IfOk, vec_len};
+
+use std::alloc::{AllocError, Global};
+use std::io;
+
+// The longest path that is read.
+const LONGEST: usize = 4096;
 
 // Zeros for the files, and for the bundle that is made of them. The contract gives only the length, so that no caller's proof sees
 // the zeros.
-fn room() -> [u8; 1048576]
-    ensures { 1048576 ≡ length result }
+fn room(alloc: Global) -> Result<Vec<u8>, AllocError>
+    ensures { IfOk result (λ room. 1048576 ≡ vec_len room) }
 {
-    [0; 1048576]
+    vec![in alloc; 0u8; 1048576]
 }
 
 // What the names of a type's files begin with.
@@ -27,46 +35,53 @@ fn prefix(name_type: u32) -> [u8; 3] {
 }
 
 // Writes a bundle to the file that argument 3 names.
-fn write(bundle: &[u8]) {
-    let mut path = io::buffer();
-    let n = os::arg(3, &mut path);
-    if os::errno() != 0 {
-        program_io::failed(b"bundle: OUT");
-        return;
+fn write(rt: &HostRuntime, bundle: &[u8]) {
+    let mut path = [0u8; LONGEST];
+    match program_io::argument(rt, 3, &mut path) {
+        Ok(n) => write_path(rt, &path[..n], bundle),
+        Err(why) => program_io::failed(rt, b"bundle: OUT", why),
     }
-    if !program_io::write_file(&path[..n], bundle) {
-        words::unwritable(&path[..n]);
+}
+
+// Writes a bundle to the file of a path.
+fn write_path(rt: &HostRuntime, path: &[u8], bundle: &[u8]) {
+    if let Err(why) = program_io::write_file(rt, path, bundle) {
+        words::unwritable(rt, path, why);
     }
 }
 
 // Makes the bundle of a type from the files of a folder.
-fn make(name_type: u32, dir: &[u8]) {
-    let mut store = room();
+fn make(rt: &HostRuntime, name_type: u32, dir: &[u8]) -> io::Result<()> {
+    let mut store = room(rt.alloc())?;
     let mut ends = [0usize; 512];
-    let files = needed::take_all(dir, &prefix(name_type), &mut store, &mut ends);
+    let files = needed::take_all(rt, dir, &prefix(name_type), store.as_mut_slice(), &mut ends);
     if files.good {
-        let mut bundle = room();
-        let n = sorting::sorted(&store, &ends, files.count, &mut bundle);
-        write(&bundle[0..n]);
+        let mut bundle = room(rt.alloc())?;
+        let n = sorting::sorted(&store, &ends, files.count, bundle.as_mut_slice());
+        write(rt, &bundle[0..n]);
+    }
+    Ok(())
+}
+
+// Makes the bundle of a type from the folder that argument 2 names. What is answered by an error is that memory ran out.
+fn run(rt: &HostRuntime, name_type: u32) -> io::Result<()> {
+    let mut dir = [0u8; LONGEST];
+    match program_io::argument(rt, 2, &mut dir) {
+        Ok(n) => make(rt, name_type, &dir[..n]),
+        Err(why) => {
+            program_io::failed(rt, b"bundle: DIR", why);
+            Ok(())
+        }
     }
 }
 
-// Makes the bundle of a type from the folder that argument 2 names.
-fn run(name_type: u32) {
-    let mut dir = io::buffer();
-    let n = os::arg(2, &mut dir);
-    if os::errno() != 0 {
-        program_io::failed(b"bundle: DIR");
-        return;
-    }
-    make(name_type, &dir[..n]);
-}
-
-fn main() {
-    let name_type = program_io::name_type_at(1);
-    if os::arg_count() == 4 && name_type.good && name_type.value < 3 {
-        run(name_type.value);
+fn main(rt: HostRuntime) {
+    let name_type = program_io::name_type_at(&rt, 1);
+    if program_io::argument_count(&rt) == 4 && name_type.good && name_type.value < 3 {
+        if let Err(why) = run(&rt, name_type.value) {
+            program_io::failed(&rt, b"bundle", why);
+        }
     } else {
-        words::usage();
+        words::usage(&rt);
     }
 }

@@ -32,7 +32,7 @@ fn no_name(next: usize) -> Line
 // Where the line behind p's begins.
 fn behind(s: &[u8], p: usize) -> usize {
     if p < s.len() {
-        return bytes::scan::find(s, p, s.len(), b'\n') + 1;
+        return p + program_io::length_before(&s[p..], b'\n') + 1;
     }
     p
 }
@@ -73,6 +73,7 @@ fn put_name(prefix: &[u8], kind: &[u8], language: &[u8], buf: &mut [u8]) -> usiz
 
 // Takes a type's file of a kind, and of a language where the kind has one.
 fn take_typed(
+    rt: &HostRuntime,
     dir: &[u8],
     prefix: &[u8],
     kind: &[u8],
@@ -83,11 +84,12 @@ fn take_typed(
 ) -> Taken {
     let mut name = [0u8; 256];
     let n = put_name(prefix, kind, language, &mut name);
-    taken::take(dir, &name[0..n], store, ends, t)
+    taken::take(rt, dir, &name[0..n], store, ends, t)
 }
 
 // Takes the three rule files of a language.
 fn take_language(
+    rt: &HostRuntime,
     dir: &[u8],
     prefix: &[u8],
     language: &[u8],
@@ -95,13 +97,14 @@ fn take_language(
     ends: &mut [usize],
     t: Taken,
 ) -> Taken {
-    let t = take_typed(dir, prefix, b"_rules_", language, store, ends, t);
-    let t = take_typed(dir, prefix, b"_approx_", language, store, ends, t);
-    take_typed(dir, prefix, b"_exact_", language, store, ends, t)
+    let t = take_typed(rt, dir, prefix, b"_rules_", language, store, ends, t);
+    let t = take_typed(rt, dir, prefix, b"_approx_", language, store, ends, t);
+    take_typed(rt, dir, prefix, b"_exact_", language, store, ends, t)
 }
 
 // Takes what a line of a file names: a language's files in the list, a file in a rule file.
 fn take_named(
+    rt: &HostRuntime,
     kind: FileKind,
     dir: &[u8],
     prefix: &[u8],
@@ -114,14 +117,15 @@ fn take_named(
         return t;
     }
     match kind {
-        FileKind::Languages => take_language(dir, prefix, name, store, ends, t),
+        FileKind::Languages => take_language(rt, dir, prefix, name, store, ends, t),
         FileKind::Guesses => t,
-        FileKind::Rules => taken::take(dir, name, store, ends, t),
+        FileKind::Rules => taken::take(rt, dir, name, store, ends, t),
     }
 }
 
 // Takes what the lines of file i name. The turns are counted down, from a number that no file uses up, since a proved loop ends.
 fn take_lines(
+    rt: &HostRuntime,
     kind: FileKind,
     i: usize,
     dir: &[u8],
@@ -144,7 +148,7 @@ fn take_lines(
         );
         let n = line.len;
         p = line.next;
-        t = take_named(kind, dir, prefix, &buf[0..n], store, ends, t);
+        t = take_named(rt, kind, dir, prefix, &buf[0..n], store, ends, t);
         turns -= 1;
     }
     t
@@ -152,6 +156,7 @@ fn take_lines(
 
 // Takes what the files from file `from` on include, files taken for that among them.
 fn take_included(
+    rt: &HostRuntime,
     from: usize,
     dir: &[u8],
     prefix: &[u8],
@@ -162,40 +167,60 @@ fn take_included(
     let mut t = t;
     let mut i = from;
     while i < 512 && i < t.count {
-        t = take_lines(FileKind::Rules, i, dir, prefix, store, ends, t);
+        t = take_lines(rt, FileKind::Rules, i, dir, prefix, store, ends, t);
         i += 1;
     }
     t
 }
 
 // Takes the rule files that belong to no language.
-fn take_common(dir: &[u8], prefix: &[u8], store: &mut [u8], ends: &mut [usize], t: Taken) -> Taken {
-    let t = take_typed(dir, prefix, b"_approx_", b"common", store, ends, t);
-    take_typed(dir, prefix, b"_exact_", b"common", store, ends, t)
+fn take_common(
+    rt: &HostRuntime,
+    dir: &[u8],
+    prefix: &[u8],
+    store: &mut [u8],
+    ends: &mut [usize],
+    t: Taken,
+) -> Taken {
+    let t = take_typed(rt, dir, prefix, b"_approx_", b"common", store, ends, t);
+    take_typed(rt, dir, prefix, b"_exact_", b"common", store, ends, t)
 }
 
 // Takes what the language list, file 0, needs. The guessing file stands before the rule files: it includes none.
-fn take_needed(dir: &[u8], prefix: &[u8], store: &mut [u8], ends: &mut [usize], t: Taken) -> Taken {
-    let t = take_typed(dir, prefix, b"_lang", b"", store, ends, t);
+fn take_needed(
+    rt: &HostRuntime,
+    dir: &[u8],
+    prefix: &[u8],
+    store: &mut [u8],
+    ends: &mut [usize],
+    t: Taken,
+) -> Taken {
+    let t = take_typed(rt, dir, prefix, b"_lang", b"", store, ends, t);
     let from = t.count;
-    let t = take_lines(FileKind::Languages, 0, dir, prefix, store, ends, t);
-    let t = take_common(dir, prefix, store, ends, t);
-    take_included(from, dir, prefix, store, ends, t)
+    let t = take_lines(rt, FileKind::Languages, 0, dir, prefix, store, ends, t);
+    let t = take_common(rt, dir, prefix, store, ends, t);
+    take_included(rt, from, dir, prefix, store, ends, t)
 }
 
 // Takes all files of a type that a bundle needs.
-pub fn take_all(dir: &[u8], prefix: &[u8], store: &mut [u8], ends: &mut [usize]) -> Taken {
+pub fn take_all(
+    rt: &HostRuntime,
+    dir: &[u8],
+    prefix: &[u8],
+    store: &mut [u8],
+    ends: &mut [usize],
+) -> Taken {
     let none = Taken {
         count: 0,
         good: true,
     };
-    let t = take_typed(dir, prefix, b"_languages", b"", store, ends, none);
+    let t = take_typed(rt, dir, prefix, b"_languages", b"", store, ends, none);
     if t.count == 0 {
-        words::no_list(dir);
+        words::no_list(rt, dir);
         return Taken {
             count: 0,
             good: false,
         };
     }
-    take_needed(dir, prefix, store, ends, t)
+    take_needed(rt, dir, prefix, store, ends, t)
 }

@@ -4,6 +4,11 @@ ghost use Rattle.std.specs.Prelude.{◌+◌, ◌≤◌, length};
 
 use crate::words;
 use program_io::Filled;
+use std::io::{Error, ErrorKind};
+use std::str;
+
+// A path that fills so many bytes is too long.
+const LONGEST: usize = 4096;
 
 // How many files were taken. `good` is false once one could not be: then no more are.
 #[derive(Clone, Copy)]
@@ -106,20 +111,20 @@ fn put_path(dir: &[u8], name: &[u8], buf: &mut [u8]) -> usize
 }
 
 // A file that cannot be read: it may be missing.
-fn not_read(name: &[u8], path: &[u8], t: Taken) -> Taken {
-    if os::errno() == libc::ENOENT {
-        words::missing(name);
+fn not_read(rt: &HostRuntime, name: &[u8], path: &[u8], why: Error, t: Taken) -> Taken {
+    if why.kind() == ErrorKind::NotFound {
+        words::missing(rt, name);
         return t;
     }
-    words::unreadable(path);
+    words::unreadable(rt, path, why);
     over()
 }
 
 // Notes the file that was read up to `end`, unless the bundle, with the 2 bytes of its count, is then over 1 MiB.
-fn note_end(path: &[u8], end: usize, ends: &mut [usize], t: Taken) -> Taken {
+fn note_end(rt: &HostRuntime, path: &[u8], end: usize, ends: &mut [usize], t: Taken) -> Taken {
     let count = t.count;
     if end > 1048574 {
-        words::too_large(path);
+        words::too_large(rt, path);
         return over();
     }
     if count < ends.len() {
@@ -129,7 +134,7 @@ fn note_end(path: &[u8], end: usize, ends: &mut [usize], t: Taken) -> Taken {
             good: true,
         };
     }
-    words::too_many(path);
+    words::too_many(rt, path);
     over()
 }
 
@@ -142,17 +147,17 @@ fn used(store: &[u8], ends: &[usize], count: usize) -> usize
 }
 
 // Reads a file to the start of out, as a bundle has it, and answers its length there: all of out where it is too long.
-fn read_whole(path: &[u8], name: &[u8], out: &mut [u8]) -> Filled
+fn read_whole(rt: &HostRuntime, path: &[u8], name: &[u8], out: &mut [u8]) -> Filled
     ensures { result.have ≤ length out.new }
 {
     let start = name.len() + 5;
     if out.len() < start {
         return Filled {
             have: out.len(),
-            failed: false,
+            failed: None,
         };
     }
-    let content = program_io::read_file(path, &mut out[start..]);
+    let content = program_io::read_file(rt, path, &mut out[start..]);
     let len = content.have;
     put_head(out, name, len);
     Filled {
@@ -162,20 +167,34 @@ fn read_whole(path: &[u8], name: &[u8], out: &mut [u8]) -> Filled
 }
 
 // Takes the file of a path.
-fn take_path(path: &[u8], name: &[u8], store: &mut [u8], ends: &mut [usize], t: Taken) -> Taken {
+fn take_path(
+    rt: &HostRuntime,
+    path: &[u8],
+    name: &[u8],
+    store: &mut [u8],
+    ends: &mut [usize],
+    t: Taken,
+) -> Taken {
     let at = used(store, ends, t.count);
-    let read = read_whole(path, name, &mut store[at..]);
-    if read.failed {
-        return not_read(name, path, t);
+    let read = read_whole(rt, path, name, &mut store[at..]);
+    if let Some(why) = read.failed {
+        return not_read(rt, name, path, why, t);
     }
-    note_end(path, at + read.have, ends, t)
+    note_end(rt, path, at + read.have, ends, t)
 }
 
 // Takes the file of a name that no taken file has.
-fn take_new(dir: &[u8], name: &[u8], store: &mut [u8], ends: &mut [usize], t: Taken) -> Taken {
-    let mut path = io::buffer();
+fn take_new(
+    rt: &HostRuntime,
+    dir: &[u8],
+    name: &[u8],
+    store: &mut [u8],
+    ends: &mut [usize],
+    t: Taken,
+) -> Taken {
+    let mut path = [0u8; LONGEST];
     let n = put_path(dir, name, &mut path);
-    take_path(&path[0..n], name, store, ends, t)
+    take_path(rt, &path[0..n], name, store, ends, t)
 }
 
 // Whether a file of a folder can have a name and `.txt` behind it: 251 bytes at most, none of them a slash or 0.
@@ -197,16 +216,28 @@ fn is_file_name(name: &[u8]) -> bool {
 }
 
 // Takes the file of a name, where it is not taken yet and the folder has it.
-pub fn take(dir: &[u8], name: &[u8], store: &mut [u8], ends: &mut [usize], t: Taken) -> Taken {
+pub fn take(
+    rt: &HostRuntime,
+    dir: &[u8],
+    name: &[u8],
+    store: &mut [u8],
+    ends: &mut [usize],
+    t: Taken,
+) -> Taken {
     if !t.good {
         return t;
     }
     if has(store, ends, t.count, name) {
         return t;
     }
-    if is_file_name(name) {
-        return take_new(dir, name, store, ends, t);
+    if !is_file_name(name) {
+        words::unnamed(rt, name);
+        return t;
     }
-    words::unnamed(name);
-    t
+    // std opens no file whose name is not UTF-8
+    if str::from_utf8(name).is_err() {
+        words::unopened(rt, name);
+        return t;
+    }
+    take_new(rt, dir, name, store, ends, t)
 }

@@ -65,7 +65,7 @@ pub fn read(line: &[u8], given: &mut [u8], tells: &mut [usize; 9]) -> usize {
     let kinds =
         b"h/h/h/h/h/h/h/hh/hh/hh/hh/hh/hh/hh/ss/ss/s/s/nn/hhhhn//nnnnnnh/nnnnnh/nnnnnnnh/nn/nnnnnh";
     let from = fields::past_blanks(line, 0);
-    let to = bytes::scan::find(line, from, line.len(), b' ');
+    let to = from + program_io::length_before(&line[from..], b' ');
     let command = lists::place_of(words, &line[from..to]);
     if fields::read(lists::text_at(kinds, command), &line[to..], given, tells) {
         return command;

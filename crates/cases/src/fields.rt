@@ -122,7 +122,7 @@ pub(crate) fn read(kinds: &[u8], rest: &[u8], given: &mut [u8], tells: &mut [usi
     while i < kinds.len() {
         let kind = kinds[i];
         let from = past_blanks(rest, at);
-        at = bytes::scan::find(rest, from, rest.len(), b' ');
+        at = from + program_io::length_before(&rest[from..], b' ');
         let t = told(kind, &rest[from..at], given, used);
         if t == BAD {
             return false;

@@ -23,12 +23,12 @@ pub fn start() -> Input {
 }
 
 // Reads a block, and answers how many bytes it has: none once the input has ended.
-fn read_block(block: &mut [u8]) -> usize
+fn read_block(rt: &HostRuntime, block: &mut [u8]) -> usize
     ensures { result ≤ length block.new }
 {
-    let filled = program_io::fill(libc::STDIN_FILENO, block);
-    if filled.failed {
-        os::fail(b"read");
+    let filled = program_io::fill(&mut rt.stdin(), block);
+    if let Some(why) = filled.failed {
+        program_io::explain(rt, b"read", why);
     }
     filled.have
 }
@@ -53,13 +53,13 @@ fn turns_left(turns: u64, have: usize) -> u64
 }
 
 // The line after s.
-pub fn next(block: &mut [u8], line: &mut [u8], s: Input) -> Input {
+pub fn next(rt: &HostRuntime, block: &mut [u8], line: &mut [u8], s: Input) -> Input {
     let mut have = least(s.have, block.len());
     let mut at = least(s.at, have);
     let mut size: usize = 0;
     let mut turns = u64::MAX;
     while turns > 0 {
-        let end = bytes::scan::find(block, at, have, b'\n');
+        let end = at + program_io::length_before(&block[at..have], b'\n');
         size = program_io::append(line, size, &block[at..end]);
         if end < have {
             return Input {
@@ -70,7 +70,7 @@ pub fn next(block: &mut [u8], line: &mut [u8], s: Input) -> Input {
             };
         }
         at = 0;
-        have = read_block(block);
+        have = read_block(rt, block);
         turns = turns_left(turns, have);
     }
     Input {

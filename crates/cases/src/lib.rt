@@ -1,5 +1,7 @@
 // What the program ask needs that no crate above pack has: lines of standard input, the cases in them, what the lower
 // crates say of a case, and the line that says it.
+#![tactic(auto)]
+
 mod commands;
 mod fields;
 mod input;

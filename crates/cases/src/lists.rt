@@ -6,7 +6,7 @@ pub(crate) fn place_of(list: &[u8], text: &[u8]) -> usize {
     let mut at: usize = 0;
     let mut place: usize = 0;
     while at < list.len() {
-        let to = bytes::scan::find(list, at, list.len(), b'/');
+        let to = at + program_io::length_before(&list[at..], b'/');
         if letters::same(&list[at..to], text) {
             return place;
         }
@@ -21,7 +21,7 @@ fn behind(list: &[u8], at: usize) -> usize
     requires { at ≤ length list.now }
     ensures { result ≤ length list.now }
 {
-    let to = bytes::scan::find(list, at, list.len(), b'/');
+    let to = at + program_io::length_before(&list[at..], b'/');
     if to < list.len() { to + 1 } else { to }
 }
 
@@ -33,7 +33,7 @@ pub(crate) fn text_at(list: &[u8], place: usize) -> &[u8] {
         at = behind(list, at);
         left -= 1;
     }
-    let to = bytes::scan::find(list, at, list.len(), b'/');
+    let to = at + program_io::length_before(&list[at..], b'/');
     &list[at..to]
 }
 

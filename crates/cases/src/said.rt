@@ -81,37 +81,37 @@ pub(crate) fn flag(is: bool) -> Said {
 }
 
 // Writes out what waits.
-pub fn flush(out: &[u8], used: usize) {
-    if !io::write_all(libc::STDOUT_FILENO, lists::part(out, 0, used)) {
-        os::fail(b"write");
+pub fn flush(rt: &HostRuntime, out: &[u8], used: usize) {
+    if let Err(why) = rt.write_all(lists::part(out, 0, used)) {
+        program_io::explain(rt, b"write", why);
     }
 }
 
 // How many bytes wait: none once they were many and are written out.
-fn waiting(out: &[u8], used: usize) -> usize {
+fn waiting(rt: &HostRuntime, out: &[u8], used: usize) -> usize {
     if used < 32768 {
         return used;
     }
-    flush(out, used);
+    flush(rt, out, used);
     0
 }
 
 // Puts bytes.
-fn put(out: &mut [u8], used: usize, src: &[u8]) -> usize {
-    let used = waiting(out, used);
+fn put(rt: &HostRuntime, out: &mut [u8], used: usize, src: &[u8]) -> usize {
+    let used = waiting(rt, out, used);
     program_io::append(out, used, src)
 }
 
 // Puts a word of the list.
-fn put_word(word: usize, out: &mut [u8], used: usize) -> usize {
+fn put_word(rt: &HostRuntime, word: usize, out: &mut [u8], used: usize) -> usize {
     let words =
         b"/ /?/-/text/ok/:/less/equal/greater/any/none/some:/some /ill /5 /AllStringsMatcher /IsEmpty /Equals /StartsWith /EndsWith /EqualsChar /StartsWithChar /EndsWithChar /nothing";
-    put(out, used, lists::text_at(words, word))
+    put(rt, out, used, lists::text_at(words, word))
 }
 
 // Puts a word, and a number if it is one.
-fn put_count(word: usize, n: usize, out: &mut [u8], used: usize) -> usize {
-    let used = put_word(word, out, used);
+fn put_count(rt: &HostRuntime, word: usize, n: usize, out: &mut [u8], used: usize) -> usize {
+    let used = put_word(rt, word, out, used);
     if n == NO_NUMBER {
         return used;
     }
@@ -119,12 +119,12 @@ fn put_count(word: usize, n: usize, out: &mut [u8], used: usize) -> usize {
 }
 
 // Puts a number and a blank, if it is one.
-fn put_number(n: usize, out: &mut [u8], used: usize) -> usize {
+fn put_number(rt: &HostRuntime, n: usize, out: &mut [u8], used: usize) -> usize {
     if n == NO_NUMBER {
         return used;
     }
     let used = program_io::append_decimal(out, used, n as u64);
-    put_word(BLANK, out, used)
+    put_word(rt, BLANK, out, used)
 }
 
 // The digit of hex for a value.
@@ -135,32 +135,32 @@ fn glyph(d: u8) -> u8
 }
 
 // Puts a byte in hex.
-fn put_byte(b: u8, out: &mut [u8], used: usize) -> usize {
-    put(out, used, &[glyph(b / 16), glyph(b % 16)])
+fn put_byte(rt: &HostRuntime, b: u8, out: &mut [u8], used: usize) -> usize {
+    put(rt, out, used, &[glyph(b / 16), glyph(b % 16)])
 }
 
 // Puts bytes in hex, and `-` for none.
-fn put_bytes(s: &[u8], out: &mut [u8], used: usize) -> usize {
+fn put_bytes(rt: &HostRuntime, s: &[u8], out: &mut [u8], used: usize) -> usize {
     if s.len() == 0 {
-        return put_word(DASH, out, used);
+        return put_word(rt, DASH, out, used);
     }
     let mut used = used;
     let mut i: usize = 0;
     while i < s.len() {
-        used = put_byte(s[i], out, used);
+        used = put_byte(rt, s[i], out, used);
         i += 1;
     }
     used
 }
 
 // Puts each code point of s.
-fn put_codes(s: &[u8], out: &mut [u8], used: usize) -> usize {
-    let mut used = put_word(TEXT, out, used);
+fn put_codes(rt: &HostRuntime, s: &[u8], out: &mut [u8], used: usize) -> usize {
+    let mut used = put_word(rt, TEXT, out, used);
     let mut p: usize = 0;
     loop {
         match letters::decode(s, p) {
             letters::Step::Char { code, len } => {
-                used = put_count(BLANK, code as usize, out, used);
+                used = put_count(rt, BLANK, code as usize, out, used);
                 p += len;
             }
             _ => {
@@ -171,15 +171,29 @@ fn put_codes(s: &[u8], out: &mut [u8], used: usize) -> usize {
 }
 
 // Puts numbers and bytes.
-fn put_line(x: usize, y: usize, z: usize, s: &[u8], out: &mut [u8], used: usize) -> usize {
-    let used = put_number(x, out, used);
-    let used = put_number(y, out, used);
-    let used = put_number(z, out, used);
-    put_bytes(s, out, used)
+fn put_line(
+    rt: &HostRuntime,
+    x: usize,
+    y: usize,
+    z: usize,
+    s: &[u8],
+    out: &mut [u8],
+    used: usize,
+) -> usize {
+    let used = put_number(rt, x, out, used);
+    let used = put_number(rt, y, out, used);
+    let used = put_number(rt, z, out, used);
+    put_bytes(rt, s, out, used)
 }
 
 // Puts an alternative of e behind a blank.
-fn put_alternative(a: Alternative, e: &[u8], out: &mut [u8], used: usize) -> usize {
+fn put_alternative(
+    rt: &HostRuntime,
+    a: Alternative,
+    e: &[u8],
+    out: &mut [u8],
+    used: usize,
+) -> usize {
     match a {
         Alternative::At {
             start,
@@ -187,10 +201,11 @@ fn put_alternative(a: Alternative, e: &[u8], out: &mut [u8], used: usize) -> usi
             set,
             next: _,
         } => {
-            let used = put_word(BLANK, out, used);
-            let used = put_bytes(lists::part(e, start, end), out, used);
-            let used = put_word(COLON, out, used);
+            let used = put_word(rt, BLANK, out, used);
+            let used = put_bytes(rt, lists::part(e, start, end), out, used);
+            let used = put_word(rt, COLON, out, used);
             put_count(
+                rt,
                 languages_cases::set_word(set, SOME),
                 languages_cases::set_bits(set),
                 out,
@@ -215,13 +230,20 @@ fn behind(a: Alternative) -> usize {
 }
 
 // Puts the first n alternatives of e.
-fn put_alternatives(n: usize, e: &[u8], names: &[u8], out: &mut [u8], used: usize) -> usize {
-    let mut used = put_word(GOOD, out, used);
+fn put_alternatives(
+    rt: &HostRuntime,
+    n: usize,
+    e: &[u8],
+    names: &[u8],
+    out: &mut [u8],
+    used: usize,
+) -> usize {
+    let mut used = put_word(rt, GOOD, out, used);
     let mut i: usize = 0;
     let mut from: usize = 0;
     while i < n {
         let a = phonemes::alternative(e, names, from);
-        used = put_alternative(a, e, out, used);
+        used = put_alternative(rt, a, e, out, used);
         from = behind(a);
         i += 1;
     }
@@ -229,18 +251,27 @@ fn put_alternatives(n: usize, e: &[u8], names: &[u8], out: &mut [u8], used: usiz
 }
 
 // Puts what is said, less the end of its line.
-fn put_said(said: Said, a: &[u8], b: &[u8], made: &[u8], out: &mut [u8], used: usize) -> usize {
+fn put_said(
+    rt: &HostRuntime,
+    said: Said,
+    a: &[u8],
+    b: &[u8],
+    made: &[u8],
+    out: &mut [u8],
+    used: usize,
+) -> usize {
     match said {
         Said::Nothing => used,
-        Said::Count(word, n) => put_count(word, n, out, used),
-        Said::Line(x, y, z, n) => put_line(x, y, z, lists::part(made, 0, n), out, used),
-        Said::Codes => put_codes(a, out, used),
-        Said::Alternatives(n) => put_alternatives(n, a, b, out, used),
+        Said::Count(word, n) => put_count(rt, word, n, out, used),
+        Said::Line(x, y, z, n) => put_line(rt, x, y, z, lists::part(made, 0, n), out, used),
+        Said::Codes => put_codes(rt, a, out, used),
+        Said::Alternatives(n) => put_alternatives(rt, n, a, b, out, used),
     }
 }
 
 // Puts the line of what is said, where it has one.
 pub fn say(
+    rt: &HostRuntime,
     said: Said,
     given: &[u8],
     tells: &[usize; 9],
@@ -250,9 +281,9 @@ pub fn say(
 ) -> usize {
     let a = fields::bytes_of(given, tells, 0);
     let b = fields::bytes_of(given, tells, 1);
-    let end = put_said(said, a, b, made, out, used);
+    let end = put_said(rt, said, a, b, made, out, used);
     if end == used {
         return used;
     }
-    put(out, end, b"\n")
+    put(rt, out, end, b"\n")
 }

@@ -8,11 +8,11 @@ pub enum Call {
 }
 
 // A call with settings, once its languages are known.
-fn with_settings(start: Start) -> Call {
-    let name_type = program_io::number_at(2);
-    let rule_type = program_io::number_at(3);
-    let concat = program_io::number_at(4);
-    let limit = program_io::number_at(5);
+fn with_settings(rt: &HostRuntime, start: Start) -> Call {
+    let name_type = program_io::number_at(rt, 2);
+    let rule_type = program_io::number_at(rt, 3);
+    let concat = program_io::number_at(rt, 4);
+    let limit = program_io::number_at(rt, 5);
     if name_type.good && rule_type.good && concat.good && limit.good {
         return Call::Good {
             settings: Settings {
@@ -28,14 +28,17 @@ fn with_settings(start: Start) -> Call {
 }
 
 // A call with settings and languages.
-fn with_languages() -> Call {
-    let kind = program_io::number_at(6);
-    let bits = program_io::number_at(7);
+fn with_languages(rt: &HostRuntime) -> Call {
+    let kind = program_io::number_at(rt, 6);
+    let bits = program_io::number_at(rt, 7);
     if kind.good && bits.good {
-        return with_settings(Start::Given {
-            kind: kind.value,
-            bits: bits.value,
-        });
+        return with_settings(
+            rt,
+            Start::Given {
+                kind: kind.value,
+                bits: bits.value,
+            },
+        );
     }
     Call::Bad
 }
@@ -54,16 +57,16 @@ fn usual() -> Call {
 }
 
 // The program's call, by how many arguments it has, its own name among them.
-pub fn read() -> Call {
-    let count = os::arg_count();
+pub fn read(rt: &HostRuntime) -> Call {
+    let count = program_io::argument_count(rt);
     if count == 2 {
         return usual();
     }
     if count == 6 {
-        return with_settings(Start::Guessed);
+        return with_settings(rt, Start::Guessed);
     }
     if count == 8 {
-        return with_languages();
+        return with_languages(rt);
     }
     Call::Bad
 }

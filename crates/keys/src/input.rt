@@ -41,13 +41,13 @@ pub fn goes_on(s: Input) -> bool {
 
 // Reads standard input behind the `had` bytes of buf, and answers how many buf then holds: all that it can, unless the
 // input has ended.
-fn more(buf: &mut [u8], had: usize) -> usize
+fn more(rt: &HostRuntime, buf: &mut [u8], had: usize) -> usize
     requires { had ≤ length buf.old }
     ensures { (had ≤ result) × (result ≤ length buf.new) }
 {
-    let filled = program_io::fill(libc::STDIN_FILENO, &mut buf[had..]);
-    if filled.failed {
-        program_io::failed(b"keys: standard input");
+    let filled = program_io::fill(&mut rt.stdin(), &mut buf[had..]);
+    if let Some(why) = filled.failed {
+        program_io::failed(rt, b"keys: standard input", why);
     }
     had + filled.have
 }
@@ -65,15 +65,15 @@ fn shift(buf: &mut [u8], from: usize, to: usize)
 }
 
 // Passes over the rest of a line. Answers how many bytes behind it were read, which then stand at the start of buf.
-fn skip(buf: &mut [u8]) -> usize
+fn skip(rt: &HostRuntime, buf: &mut [u8]) -> usize
     ensures { result ≤ length buf.old }
 {
     let mut turns = u64::MAX;
     let mut have = buf.len();
     let mut end = have;
     while turns > 0 && end == have && have > 0 {
-        have = more(buf, 0);
-        end = bytes::scan::find(buf, 0, have, b'\n');
+        have = more(rt, buf, 0);
+        end = program_io::length_before(&buf[..have], b'\n');
         turns -= 1;
     }
     if end < have {
@@ -84,11 +84,11 @@ fn skip(buf: &mut [u8]) -> usize
 }
 
 // A line that fills buf with no end to it: of it stay 127 bytes and a line feed.
-fn cut(buf: &mut [u8]) -> Input
+fn cut(rt: &HostRuntime, buf: &mut [u8]) -> Input
     requires { 128 ≤ length buf.old }
     ensures { Waits result (length buf.old) }
 {
-    let n = skip(&mut buf[128..]);
+    let n = skip(rt, &mut buf[128..]);
     buf[127] = b'\n';
     Input {
         from: 0,
@@ -121,7 +121,7 @@ fn last(buf: &mut [u8], have: usize) -> Input
 }
 
 // The next block, of which no whole line waits yet: what waits, at the start of buf, and what can be read behind it.
-pub(crate) fn read_on(buf: &mut [u8], s: Input) -> Input
+pub(crate) fn read_on(rt: &HostRuntime, buf: &mut [u8], s: Input) -> Input
     requires { (128 ≤ length buf.old) × Waits s (length buf.old) }
     ensures { Waits result (length buf.new) }
 {
@@ -129,16 +129,16 @@ pub(crate) fn read_on(buf: &mut [u8], s: Input) -> Input
     let to = s.have;
     shift(buf, from, to);
     let had = to - from;
-    let have = more(buf, had);
+    let have = more(rt, buf, had);
     if have < buf.len() {
         return last(buf, have);
     }
-    if bytes::scan::find(buf, had, have, b'\n') < have {
+    if program_io::length_before(&buf[had..have], b'\n') < have - had {
         return Input {
             from: 0,
             have,
             open: true,
         };
     }
-    cut(buf)
+    cut(rt, buf)
 }

@@ -1,22 +1,29 @@
 // Prints the keys of names: `keys PACK [TYPE KIND CONCAT LIMIT [SETKIND BITS]]` reads the pack file PACK and then names,
 // one a line, on standard input, and prints a line for each.
+#![tactic(auto)]
+
 mod call;
 mod failure;
 mod input;
 
-ghost use Rattle.std.specs.Prelude.{◌≡◌, ◌≤◌, ◌-◌, length};
+ghost use Rattle.std.specs.Prelude.{◌≡◌, ◌≤◌, ◌-◌, IfOk, length, vec_len};
 ghost use Rattle.keys.specs.InnerContracts.{Waits, Within};
 
 use beider_morse::{Lines, Settings, Start};
 use call::Call;
 use input::Input;
+use std::alloc::{AllocError, Global};
+use std::io;
+
+// The longest path that is read.
+const LONGEST: usize = 4096;
 
 // Zeros for the lines of a block; a line that is longer than this is refused with 9. The contract gives only the length,
 // so that no caller's proof sees the zeros.
-fn room() -> [u8; 1048576]
-    ensures { 1048576 ≡ length result }
+fn room(alloc: Global) -> Result<Vec<u8>, AllocError>
+    ensures { IfOk result (λ room. 1048576 ≡ vec_len room) }
 {
-    [0; 1048576]
+    vec![in alloc; 0u8; 1048576]
 }
 
 // The lines of the whole names of a block, as many as fit. All that this program uses of the face are two bounds.
@@ -27,20 +34,22 @@ fn spell_block(settings: Settings, start: Start, pack: &[u8], block: &[u8], out:
 }
 
 // Writes lines out, and answers whether that could be done.
-fn print(lines: &[u8]) -> bool {
-    if io::write_all(libc::STDOUT_FILENO, lines) {
-        return true;
+fn print(rt: &HostRuntime, lines: &[u8]) -> bool {
+    match rt.write_all(lines) {
+        Ok(()) => true,
+        Err(why) => {
+            program_io::failed(rt, b"keys: standard output", why);
+            false
+        }
     }
-    program_io::failed(b"keys: standard output");
-    false
 }
 
 // Prints lines and passes over the names that they answer. Where that cannot be done the work is over.
-fn answered(lines: &[u8], read: usize, s: Input) -> Input
+fn answered(rt: &HostRuntime, lines: &[u8], read: usize, s: Input) -> Input
     requires { (s.from ≤ s.have) × (read ≤ s.have - s.from) }
     ensures { Waits result s.have }
 {
-    if print(lines) {
+    if print(rt, lines) {
         return Input {
             from: s.from + read,
             have: s.have,
@@ -51,14 +60,14 @@ fn answered(lines: &[u8], read: usize, s: Input) -> Input
 }
 
 // Goes on behind the names of a block that are answered. A line that has no room ends the work; none is longer than the buffer.
-fn passed(lines: Lines, out: &[u8], s: Input) -> Input
+fn passed(rt: &HostRuntime, lines: Lines, out: &[u8], s: Input) -> Input
     requires { (s.from ≤ s.have) × Within lines (s.have - s.from) (length out.now) }
     ensures { Waits result s.have }
 {
     match lines {
-        Lines::Done { read, written } => answered(&out[0..written], read, s),
+        Lines::Done { read, written } => answered(rt, &out[0..written], read, s),
         Lines::NoRoom { needed: _ } => {
-            failure::no_room();
+            failure::no_room(rt);
             input::ended()
         }
     }
@@ -66,6 +75,7 @@ fn passed(lines: Lines, out: &[u8], s: Input) -> Input
 
 // Answers the whole lines that wait, or reads on where none does.
 fn turn(
+    rt: &HostRuntime,
     settings: Settings,
     start: Start,
     pack: &[u8],
@@ -78,59 +88,84 @@ fn turn(
 {
     let from = s.from;
     let have = s.have;
-    if bytes::scan::find(buf, from, have, b'\n') < have {
+    if program_io::length_before(&buf[from..have], b'\n') < have - from {
         let lines = spell_block(settings, start, pack, &buf[from..have], out);
-        return passed(lines, out, s);
+        return passed(rt, lines, out, s);
     }
-    input::read_on(buf, s)
+    input::read_on(rt, buf, s)
 }
 
 // Answers every name of the input. The turns are counted down, from a number that no run uses up, since a proved loop
 // ends.
-fn serve(settings: Settings, start: Start, pack: &[u8], buf: &mut [u8], out: &mut [u8])
+fn serve(
+    rt: &HostRuntime,
+    settings: Settings,
+    start: Start,
+    pack: &[u8],
+    buf: &mut [u8],
+    out: &mut [u8],
+)
     requires { 128 ≤ length buf.old }
 {
     let mut s = input::start();
     let mut turns = u64::MAX;
     while turns > 0 && input::goes_on(s) {
-        s = turn(settings, start, pack, buf, out, s);
+        s = turn(rt, settings, start, pack, buf, out, s);
         turns -= 1;
     }
 }
 
 // Answers the names by a pack, unless the pack file is longer than a pack may be.
-fn answer(settings: Settings, start: Start, pack: &[u8]) {
+fn answer(rt: &HostRuntime, settings: Settings, start: Start, pack: &[u8]) -> io::Result<()> {
     if pack.len() > 49152 {
-        print(b"5 49152\n");
-        return;
+        print(rt, b"5 49152\n");
+        return Ok(());
     }
-    let mut buf = io::large_buffer();
-    let mut out = room();
-    serve(settings, start, pack, &mut buf, &mut out);
+    let mut buf = vec![in rt.alloc(); 0u8; 65536]?;
+    let mut out = room(rt.alloc())?;
+    serve(
+        rt,
+        settings,
+        start,
+        pack,
+        buf.as_mut_slice(),
+        out.as_mut_slice(),
+    );
+    Ok(())
 }
 
-// Reads the pack file and answers the names.
-fn run(settings: Settings, start: Start) {
-    let mut path = io::buffer();
-    let n = os::arg(1, &mut path);
-    if os::errno() != 0 {
-        program_io::failed(b"keys: PACK");
-        return;
-    }
+// Reads the pack file of a path and answers the names.
+fn run_path(rt: &HostRuntime, settings: Settings, start: Start, path: &[u8]) -> io::Result<()> {
     // a byte more than a pack may have
-    let mut pack = [0u8; 49153];
-    let filled = program_io::read_file(&path[..n], &mut pack);
-    if filled.failed {
-        failure::unreadable(&path[..n]);
-        return;
-    }
+    let mut pack = vec![in rt.alloc(); 0u8; 49153]?;
+    let filled = program_io::read_file(rt, path, pack.as_mut_slice());
     let have = filled.have;
-    answer(settings, start, &pack[0..have]);
+    if let Some(why) = filled.failed {
+        failure::unreadable(rt, path, why);
+        return Ok(());
+    }
+    answer(rt, settings, start, &pack[0..have])
 }
 
-fn main() {
-    match call::read() {
-        Call::Bad => failure::usage(),
-        Call::Good { settings, start } => run(settings, start),
+// Answers the names by the pack file that argument 1 names. What is answered by an error is that memory ran out.
+fn run(rt: &HostRuntime, settings: Settings, start: Start) -> io::Result<()> {
+    let mut path = [0u8; LONGEST];
+    match program_io::argument(rt, 1, &mut path) {
+        Ok(n) => run_path(rt, settings, start, &path[..n]),
+        Err(why) => {
+            program_io::failed(rt, b"keys: PACK", why);
+            Ok(())
+        }
+    }
+}
+
+fn main(rt: HostRuntime) {
+    match call::read(&rt) {
+        Call::Bad => failure::usage(&rt),
+        Call::Good { settings, start } => {
+            if let Err(why) = run(&rt, settings, start) {
+                program_io::failed(&rt, b"keys", why);
+            }
+        }
     }
 }

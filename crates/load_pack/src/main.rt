@@ -1,30 +1,37 @@
 // Loads a bundle: `load TYPE BUNDLE PACK` reads the bundle file BUNDLE, writes its pack to PACK and prints `0 LENGTH`. Where the
 // bundle is refused it prints code, place and file, and PACK stays as it was.
+#![tactic(auto)]
+
 mod words;
 
-ghost use Rattle.std.specs.Prelude.{◌≡◌, ◌≤◌, length};
+ghost use Rattle.std.specs.Prelude.{◌≡◌, ◌≤◌, IfOk, length, vec_len};
 
 use loader::Loaded;
+use std::alloc::{AllocError, Global};
+use std::io;
+
+// The longest path that is read.
+const LONGEST: usize = 4096;
 
 // Zeros for the bundle file, a byte more than it may have. The contract gives only the length, so that no caller's proof sees the
 // zeros.
-fn bundle_room() -> [u8; 1048577]
-    ensures { 1048577 ≡ length result }
+fn bundle_room(alloc: Global) -> Result<Vec<u8>, AllocError>
+    ensures { IfOk result (λ room. 1048577 ≡ vec_len room) }
 {
-    [0; 1048577]
+    vec![in alloc; 0u8; 1048577]
 }
 
 // Zeros for the pack.
-fn pack_room() -> [u8; 1048576]
-    ensures { 1048576 ≡ length result }
+fn pack_room(alloc: Global) -> Result<Vec<u8>, AllocError>
+    ensures { IfOk result (λ room. 1048576 ≡ vec_len room) }
 {
-    [0; 1048576]
+    vec![in alloc; 0u8; 1048576]
 }
 
 // Prints a line.
-fn print(line: &[u8]) {
-    if !io::write_all(libc::STDOUT_FILENO, line) {
-        program_io::failed(b"load: standard output");
+fn print(rt: &HostRuntime, line: &[u8]) {
+    if let Err(why) = rt.write_all(line) {
+        program_io::failed(rt, b"load: standard output", why);
     }
 }
 
@@ -50,78 +57,85 @@ fn put_refusal(code: u32, place: usize, file: usize, buf: &mut [u8]) -> usize
 }
 
 // Prints that a pack of so many bytes was written.
-fn print_done(len: usize) {
+fn print_done(rt: &HostRuntime, len: usize) {
     let mut line = [0u8; 64];
     let n = put_done(len, &mut line);
-    print(&line[0..n]);
+    print(rt, &line[0..n]);
 }
 
 // Prints a refusal.
-fn print_refusal(code: u32, place: usize, file: usize) {
+fn print_refusal(rt: &HostRuntime, code: u32, place: usize, file: usize) {
     let mut line = [0u8; 64];
     let n = put_refusal(code, place, file, &mut line);
-    print(&line[0..n]);
-    program_io::refused();
+    print(rt, &line[0..n]);
+    program_io::refused(rt);
 }
 
 // Writes a pack to the file that argument 3 names, and says so.
-fn write(pack: &[u8]) {
-    let mut path = io::buffer();
-    let n = os::arg(3, &mut path);
-    if os::errno() != 0 {
-        program_io::failed(b"load: PACK");
-        return;
+fn write(rt: &HostRuntime, pack: &[u8]) {
+    let mut path = [0u8; LONGEST];
+    match program_io::argument(rt, 3, &mut path) {
+        Ok(n) => write_path(rt, &path[..n], pack),
+        Err(why) => program_io::failed(rt, b"load: PACK", why),
     }
-    if program_io::write_file(&path[..n], pack) {
-        print_done(pack.len());
-    } else {
-        words::unwritable(&path[..n]);
+}
+
+// Writes a pack to the file of a path, and says so.
+fn write_path(rt: &HostRuntime, path: &[u8], pack: &[u8]) {
+    match program_io::write_file(rt, path, pack) {
+        Ok(()) => print_done(rt, pack.len()),
+        Err(why) => words::unwritable(rt, path, why),
     }
 }
 
 // Loads a bundle, and writes its pack or prints its refusal.
-fn answer(name_type: u32, bundle: &[u8]) {
-    let mut pack = pack_room();
-    match loader::load(name_type, bundle, &mut pack) {
-        Loaded::Done { length } => write(&pack[0..length]),
+fn answer(rt: &HostRuntime, name_type: u32, bundle: &[u8]) -> io::Result<()> {
+    let mut room = pack_room(rt.alloc())?;
+    let pack = room.as_mut_slice();
+    match loader::load(name_type, bundle, pack) {
+        Loaded::Done { length } => write(rt, &pack[0..length]),
         Loaded::Refused { why, place, file } => {
-            print_refusal(refusals::number_of(why) as u32, place, file)
+            print_refusal(rt, refusals::number_of(why) as u32, place, file)
+        }
+    }
+    Ok(())
+}
+
+// Reads the bundle file of a path and loads it.
+fn run_path(rt: &HostRuntime, name_type: u32, path: &[u8]) -> io::Result<()> {
+    let mut bundle = bundle_room(rt.alloc())?;
+    let read = program_io::read_file(rt, path, bundle.as_mut_slice());
+    let have = read.have;
+    if let Some(why) = read.failed {
+        words::unreadable(rt, path, why);
+        return Ok(());
+    }
+    if have > 1048576 {
+        words::too_large(rt, path);
+        return Ok(());
+    }
+    answer(rt, name_type, &bundle[0..have])
+}
+
+// Loads the bundle that argument 2 names. What is answered by an error is that memory ran out.
+fn run(rt: &HostRuntime, name_type: u32) -> io::Result<()> {
+    let mut path = [0u8; LONGEST];
+    match program_io::argument(rt, 2, &mut path) {
+        Ok(n) => run_path(rt, name_type, &path[..n]),
+        Err(why) => {
+            program_io::failed(rt, b"load: BUNDLE", why);
+            Ok(())
         }
     }
 }
 
-// Reads the bundle file of a path and loads it.
-fn run_path(name_type: u32, path: &[u8]) {
-    let mut bundle = bundle_room();
-    let read = program_io::read_file(path, &mut bundle);
-    let have = read.have;
-    if read.failed {
-        words::unreadable(path);
-        return;
-    }
-    if have > 1048576 {
-        words::too_large(path);
-        return;
-    }
-    answer(name_type, &bundle[0..have]);
-}
-
-// Loads the bundle that argument 2 names.
-fn run(name_type: u32) {
-    let mut path = io::buffer();
-    let n = os::arg(2, &mut path);
-    if os::errno() != 0 {
-        program_io::failed(b"load: BUNDLE");
-        return;
-    }
-    run_path(name_type, &path[..n]);
-}
-
-fn main() {
-    let name_type = program_io::name_type_at(1);
-    if os::arg_count() == 4 && name_type.good {
-        run(name_type.value);
+fn main(rt: HostRuntime) {
+    let name_type = program_io::name_type_at(&rt, 1);
+    if program_io::argument_count(&rt) == 4 && name_type.good {
+        if let Err(why) = run(&rt, name_type.value) {
+            program_io::failed(&rt, b"load", why);
+        }
     } else {
-        words::usage();
+        words::usage(&rt);
     }
 }

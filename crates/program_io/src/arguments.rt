@@ -1,4 +1,10 @@
-// The numbers that arguments are.
+// The program's arguments, and the numbers that they are.
+ghost use Rattle.std.specs.Prelude.{◌≤◌, IfOk, length};
+
+use std::env::FillError;
+use std::io;
+use std::io::Error;
+use std::rt::Env;
 
 // A number, where the argument is one.
 #[derive(Clone, Copy)]
@@ -59,22 +65,51 @@ fn named(text: &[u8]) -> Number {
     decimal(text)
 }
 
-// The number that argument i is.
-pub fn number_at(i: usize) -> Number {
-    let mut text = io::buffer();
-    let n = os::arg(i, &mut text);
-    if os::errno() != 0 {
-        return bad();
+// The longest argument that is read: a path has at most as many bytes.
+const LONGEST: usize = 4096;
+
+// The system's numbers for an argument that there is not, and for one that is too long.
+const EINVAL: i32 = 22;
+
+const ENAMETOOLONG: i32 = 36;
+
+// How many arguments there are, the program's own name among them.
+pub fn argument_count(env: &impl Env) -> usize {
+    let mut none = [0u8; 1];
+    for i in 0..usize::MAX {
+        match env.arg(i, &mut none) {
+            Err(FillError::NotPresent) => return i,
+            Err(FillError::TooLong) | Ok(_) => {}
+        }
     }
-    decimal(&text[..n])
+    usize::MAX
+}
+
+// Puts argument i at the start of buf, and answers how many bytes it has.
+pub fn argument(env: &impl Env, i: usize, buf: &mut [u8]) -> io::Result<usize>
+    ensures { IfOk result (λ n. n ≤ length buf.new) }
+{
+    match env.arg(i, buf) {
+        Ok(n) => Ok(n),
+        Err(FillError::NotPresent) => Err(Error::from_raw_os_error(EINVAL)),
+        Err(FillError::TooLong) => Err(Error::from_raw_os_error(ENAMETOOLONG)),
+    }
+}
+
+// The number that argument i is.
+pub fn number_at(env: &impl Env, i: usize) -> Number {
+    let mut text = [0u8; LONGEST];
+    match env.arg(i, &mut text) {
+        Ok(n) => decimal(&text[..n]),
+        Err(_) => bad(),
+    }
 }
 
 // The name type that argument i is.
-pub fn name_type_at(i: usize) -> Number {
-    let mut text = io::buffer();
-    let n = os::arg(i, &mut text);
-    if os::errno() != 0 {
-        return bad();
+pub fn name_type_at(env: &impl Env, i: usize) -> Number {
+    let mut text = [0u8; LONGEST];
+    match env.arg(i, &mut text) {
+        Ok(n) => named(&text[..n]),
+        Err(_) => bad(),
     }
-    named(&text[..n])
 }

@@ -1,62 +1,64 @@
-// Whole files. Where a function here fails, errno says why.
+// Whole files.
 ghost use Rattle.std.specs.Prelude.{◌≤◌, length};
 
-// How many bytes a buffer holds, and whether a read failed.
+use std::io::{Error, ErrorKind, Read};
+use std::rt::Files;
+use std::{fs, io, str};
+
+// How many bytes a buffer holds, and why a read failed, where one did.
 #[derive(Clone, Copy)]
 pub struct Filled {
     pub have: usize,
-    pub failed: bool,
+    pub failed: Option<Error>,
 }
 
 // Reads until buf is full, the input ends or a read fails.
-pub fn fill(fd: i32, buf: &mut [u8]) -> Filled
+pub fn fill(input: &mut impl Read, buf: &mut [u8]) -> Filled
     ensures { result.have ≤ length buf.new }
 {
     let mut have: usize = 0;
     while have < buf.len() {
-        let got = libc::read(fd, &mut buf[have..]);
-        let more = io::count(got, &buf[have..]);
-        if more == 0 {
-            return Filled {
-                have,
-                failed: got < 0,
-            };
+        match input.read(&mut buf[have..]) {
+            Ok(0) => return Filled { have, failed: None },
+            Ok(more) => have += more,
+            Err(why) => {
+                return Filled {
+                    have,
+                    failed: Some(why),
+                };
+            }
         }
-        have += more;
     }
-    Filled {
-        have,
-        failed: false,
+    Filled { have, failed: None }
+}
+
+// A path as text, since std opens no path that is not UTF-8.
+fn text_of(path: &[u8]) -> io::Result<&str> {
+    match str::from_utf8(path) {
+        Ok(text) => Ok(text),
+        Err(_) => Err(Error::new(ErrorKind::InvalidFilename, "a path that is not UTF-8")),
     }
+}
+
+// Opens a file for reading.
+fn open<R: Files>(files: &R, path: &[u8]) -> io::Result<R::File> {
+    fs::open(files, text_of(path)?)
 }
 
 // Reads a file, as far as buf goes.
-pub fn read_file(path: &[u8], buf: &mut [u8]) -> Filled
+pub fn read_file(files: &impl Files, path: &[u8], buf: &mut [u8]) -> Filled
     ensures { result.have ≤ length buf.new }
 {
-    let fd = os::open_read(path);
-    if fd < 0 {
-        return Filled {
+    match open(files, path) {
+        Ok(mut file) => fill(&mut file, buf),
+        Err(why) => Filled {
             have: 0,
-            failed: true,
-        };
+            failed: Some(why),
+        },
     }
-    let filled = fill(fd, buf);
-    if filled.failed {
-        return filled;
-    }
-    libc::close(fd);
-    filled
 }
 
-// Makes a file of these bytes, or puts them in the place of those that it has, and answers whether that could be done.
-pub fn write_file(path: &[u8], content: &[u8]) -> bool {
-    let fd = os::open_overwrite(path);
-    if fd < 0 {
-        return false;
-    }
-    if io::write_all(fd, content) {
-        return libc::close(fd) == 0;
-    }
-    false
+// Makes a file of these bytes, or puts them in the place of those that it has.
+pub fn write_file(files: &impl Files, path: &[u8], content: &[u8]) -> io::Result<()> {
+    fs::write(files, text_of(path)?, content)
 }

@@ -1,13 +1,26 @@
 // Short texts put together in a buffer, and the word that something went wrong.
 ghost use Rattle.std.specs.Prelude.{◌≤◌, length};
 
+use crate::files::read_file;
+use std::fs::OpenOptions;
+use std::io::{Error, Write};
+use std::rt::Files;
+use std::{io, str};
+
+// How many bytes stand before the first b in s: all of them where it has none.
+pub fn length_before(s: &[u8], b: u8) -> usize
+    ensures { result ≤ length s.now }
+{
+    s.iter().position(|x| *x == b).unwrap_or(s.len())
+}
+
 // Puts bytes behind the `used` ones of buf, and answers how many those then are: all of buf where there is no room.
 pub fn append(buf: &mut [u8], used: usize, src: &[u8]) -> usize
     ensures { result ≤ length buf.new }
 {
     if used <= buf.len() {
         if src.len() <= buf.len() - used {
-            bytes::copy(src, &mut buf[used..]);
+            buf[used..used + src.len()].copy_from_slice(src);
             return used + src.len();
         }
     }
@@ -18,23 +31,77 @@ pub fn append(buf: &mut [u8], used: usize, src: &[u8]) -> usize
 pub fn append_decimal(buf: &mut [u8], used: usize, n: u64) -> usize
     ensures { result ≤ length buf.new }
 {
-    let mut digits = [0u8; 20];
-    let k = io::decimal(n, &mut digits);
-    append(buf, used, &digits[..k])
+    let mut digits = itoa::Buffer::new();
+    append(buf, used, digits.format(n).as_bytes())
+}
+
+// Whether descriptor 3 is open for writing: the last digit of its flags is how it was opened, and 0 is for reading.
+fn is_listened_to(files: &impl Files) -> bool {
+    let mut info = [0u8; 256];
+    let n = read_file(files, b"/proc/self/fdinfo/3", &mut info).have;
+    match str::from_utf8(&info[..n]) {
+        Ok(text) => text
+            .lines()
+            .any(|line| line.starts_with("flags:") && !line.ends_with('0')),
+        Err(_) => false,
+    }
+}
+
+// Writes bytes to descriptor 3.
+fn write_to_caller(files: &impl Files, bytes: &[u8]) -> io::Result<()> {
+    let mut caller = OpenOptions::new().append(true).open(files, "/dev/fd/3")?;
+    caller.write_all(bytes)
+}
+
+// Tells the caller by bytes on descriptor 3, if it listens there.
+fn tell(files: &impl Files, bytes: &[u8]) {
+    if is_listened_to(files) {
+        let _ = write_to_caller(files, bytes);
+    }
 }
 
 // Tells the caller by a byte on descriptor 3, which the programs of bin/ turn into exit status 2: a program has none of its own.
-pub fn mark() {
-    io::write_all(3, b"2");
+pub fn mark(files: &impl Files) {
+    tell(files, b"2");
 }
 
 // Tells the caller likewise that what was asked for is refused: exit status 1.
-pub fn refused() {
-    io::write_all(3, b"1");
+pub fn refused(files: &impl Files) {
+    tell(files, b"1");
 }
 
-// Says what failed, and why the system says that it did.
-pub fn failed(what: &[u8]) {
-    os::fail(what);
-    mark();
+// Puts words on standard error. Where that cannot be done there is nowhere to say so.
+pub fn say(rt: &HostRuntime, words: &[u8]) {
+    let _ = rt.stderr().write_all(words);
+}
+
+// What the system calls an error: std puts its number behind that.
+fn words_of(text: &str) -> &str {
+    match text.split_once(" (os error ") {
+        Some((words, _)) => words,
+        None => text,
+    }
+}
+
+// Puts a colon and why something failed on standard error.
+fn say_why(rt: &HostRuntime, why: Error) -> io::Result<()> {
+    match format!(in rt.alloc(); "{why}") {
+        Ok(text) => {
+            let words = words_of(text.as_str());
+            eprintln!(rt; ": {words}")
+        }
+        Err(_) => eprintln!(rt; ": {why}"),
+    }
+}
+
+// Says what failed, and why.
+pub fn explain(rt: &HostRuntime, what: &[u8], why: Error) {
+    say(rt, what);
+    let _ = say_why(rt, why);
+}
+
+// Says what failed, and why, and tells the caller.
+pub fn failed(rt: &HostRuntime, what: &[u8], why: Error) {
+    explain(rt, what, why);
+    mark(rt);
 }

@@ -1,0 +1,11 @@
+use Rattle.bm.proofs.FlatLaws.{flat_laws}
+use Rattle.bm.proofs.flat.bm_load.Goals as goal
+
+pub returns-then-tail-lt2 : goal.returns-then-tail-lt2
+returns-then-tail-lt2 c = search flat_laws
+
+pub returns-in-Done : goal.returns-in-Done
+returns-in-Done c = search flat_laws
+
+pub returns-in-Refused : goal.returns-in-Refused
+returns-in-Refused c = search flat_laws
