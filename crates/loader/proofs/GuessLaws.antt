@@ -9,8 +9,6 @@ use lib.Bits.{bit_or, bit_and, or_lt, and_zero_r}
 use lib.Dec.{eqb, leb}
 use lib.ListN.{length}
 use lib.Pow.{pow_pos}
-use types.Run.{OneOf, miss}
-use denote.Enum.Declared.{tag_of}
 use mir.Syntax.{w64}
 use mir.Val.{Fits, bool_byte}
 use borrow.Author.Tests.{lt-ltb, le-ltb, ltb-false, ne_eqb}
@@ -34,7 +32,6 @@ use Rattle.rules_parser.specs as rules_parser
 use rules_parser.Fields.{part_of}
 use rules_parser.Files.{item_at}
 use Rattle.rules_parser.proofs.Laws.{passed_goes, tells_goes, guess_pattern}
-use Rattle.rules_parser.specs.contracts.lines.Clause.{the_type}
 use rules_parser.declared.fields.Text.{Text}
 use rules_parser.declared.lines.FileKind.TheVariants.{Guesses}
 use rules_parser.declared.lines.Clause.{Clause}
@@ -134,11 +131,11 @@ from_next n g (fine gs) o o₁ at p r o' y w =
     (w.0, w.1 ∙ ap (λ (k : ℕ). Done k w.0) size, put_then y w.2)
 from_next n g (not_loaded c l f) o o₁ at p r o' y w = w
 
-other : (names s : List ℕ) (t : Clause) → OneOf (0 ∷ 1 ∷ 3 ∷ []) (tag_of the_type t) → guess_of names s t ≡ fault LineUnreadable
+other : (names s : List ℕ) (t : Clause) → ((a b : Text) (v : Bool) → t ≡ told.Guess a b v → ⊥) → guess_of names s t ≡ fault LineUnreadable
 unfolding guess_of
 other names s (told.Rule a b c d) h = refl
 other names s (told.Include a) h = refl
-other names s (told.Guess a b v) h = absurd (miss (0 ∷ 1 ∷ 3 ∷ []) 2 tt h)
+other names s (told.Guess a b v) h = absurd (h a b v refl)
 other names s (told.Name a) h = refl
 
 -- n rules were written up to the place `at` of o, and the file is read up to its place p, in line l
@@ -197,7 +194,7 @@ module _ {names s : List ℕ} {f : ℕ} {o₀ : List ℕ} {at₀ : ℕ} {o : Lis
       faulty : (c : Refusal) → guess_of names s t ≡ fault c → GuessesAre names s f o₀ at₀ (Refused c l f) o
       faulty c m = stops c (told_fault (guess_of names s) f Guesses s l p t i c here_tells m)
 
-      pub writing_other : OneOf (0 ∷ 1 ∷ 3 ∷ []) (tag_of the_type t) → GuessesAre names s f o₀ at₀ (Refused LineUnreadable l f) o
+      pub writing_other : ((a b : Text) (v : Bool) → t ≡ told.Guess a b v → ⊥) → GuessesAre names s f o₀ at₀ (Refused LineUnreadable l f) o
       writing_other h = faulty LineUnreadable (other names s t h)
 
       module _ (a b : Text) (v : Bool) (g : t ≡ told.Guess a b v) (pattern joined : List ℕ) (ea : pattern ≡ part_of s a) (eb : joined ≡ part_of s b)

@@ -23,7 +23,7 @@ pub returns-in-Fault : goal.returns-in-Fault
 returns-in-Fault c = search writes
 
 pub returns-in_default : goal.returns-in_default
-returns-in_default c = ?
+returns-in_default c = search writes
 
 pub returns-in-Wrong : goal.returns-in-Wrong
 returns-in-Wrong c = search writes

@@ -6,7 +6,8 @@ returns-then-out-length c = search answers
 
 -- what was made in the call's own buffer is copied
 pub returns-then-length-le-OWN : goal.returns-then-length-le-OWN
-returns-then-length-le-OWN c = ?
+returns-then-length-le-OWN c =
+    answer_copied _ _ _ _ c.write_pack.ensures _ _ _ (search answers) (search answers) _ (search answers) c.copy.ensures
 
 pub returns-else-length-le-OWN : goal.returns-else-length-le-OWN
 returns-else-length-le-OWN c = search answers
