@@ -58,6 +58,7 @@ module _ (op : Operation) (law : Semilattice op) where
   before_start s (x ∷ xs) = by_turns _ _ _ (before_start (op s x) xs) (before_first s x)
 
   before_each : (s : LanguageSet) (xs : List LanguageSet) (x : LanguageSet) → Memᴰ x xs → GivesBack op (foldl op s xs) x
+  before_each s [] x x3 = elim x3 [ ]
   before_each s (y ∷ xs) x (Memᴰ.head e) = rw e (by_turns _ _ _ (before_start (op s y) xs) (before_second s y))
   before_each s (y ∷ xs) x (Memᴰ.tail m) = before_each (op s y) xs x m
 
