@@ -1,5 +1,7 @@
 // The face: rule files loaded, a pack checked, a name spelled, names a line each. What is refused, and with which number, is the paper's
 // table. Crate bm is the same for C.
+#![tactic(auto)]
+
 ghost use Rattle.std.specs.Prelude.{◌≡◌};
 ghost use Rattle.pack.specs.Numbers.{checked_numbers};
 ghost use Rattle.pack.specs.Packs.{pack_of, verdict_of};

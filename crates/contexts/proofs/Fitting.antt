@@ -20,7 +20,7 @@ use Rattle.letters.proofs.Utf8Laws.{char_at, encode_decode, decode_part, end_at}
 use Rattle.letters.proofs.CodesLaws.{codes_char}
 use Rattle.texts.specs.Parts.{tail, front, first_is, last_is, has, caret, dollar, opening, closing, without_caret, without_dollar}
 use Rattle.texts.proofs.Chars.{has_cons}
-use Rattle.regex_optim.specs.Contexts.{Form, box_form, box_inner, boxed, form_in, left_form, right_form, kind_of, takes_none, empty_box, fits}
+use Rattle.regex_optim.specs.Contexts.{Form, box_form, box_inner, boxed, form_in, left_form, right_form, kind_of, takes_none, empty_box}
 use Rattle.regex_optim.specs.declared.OptimizedRegex.{OptimizedRegex}
 use Rattle.regex_optim.specs.declared.OptimizedRegex.TheVariants.{AllStringsMatcher, IsEmpty, Equals, StartsWith, EndsWith, EqualsChar, StartsWithChar, EndsWithChar, Outside}
 use Rattle.regex_optim.proofs.Laws.{Anchored, anchored_left, anchored_right, box_empty, in_literal, in_box, in_none, left_is, right_is}

@@ -14,7 +14,6 @@ use Rattle.base.proofs.Stores.{sets_then}
 use Rattle.writing.specs.InnerContracts.{cap, Put}
 use Rattle.writing.proofs.Laws.{slice_room, put_then, put_long}
 use Rattle.choices.specs.Texts.{Text}
-use Rattle.refusals.specs.declared.Refusal.TheVariants.{NoRoom}
 use Rattle.engine.specs.Calls.{refused_as, spelled_numbers}
 use Rattle.engine.specs.Lines.{decimal_by, decimal, flag_digit, answer_line, refusal_line, most}
 use Rattle.engine.specs.LineContracts.{SpaceIn, head_of, line_length, DoneIs, place_told, refused_line, length_told, length_needed, waits_for, RefusedIs, stopped_at}

@@ -17,16 +17,13 @@ use Rattle.texts.specs.Parts.{place_of, has}
 use Rattle.base.proofs.Arms.{clash}
 use Rattle.choices.specs.Texts.{Text}
 use Rattle.refusals.specs.Numbers.{number_of}
-use Rattle.refusals.specs.declared.Refusal.TheVariants.{NoRoom}
 use Rattle.engine.specs.Calls.{CallOutcome, refused_by, key, refused_as}
 use Rattle.engine.specs.Lines.{decimal, refusal_line, most, holds_line, needed, line_with, line_for, lines_from, whole_lines, Taken, and_taken, none_taken, take_lines, taken, BlockNumbers, block_numbers, took, no_room, numbers_by, block_by, LinesIs}
 use Rattle.engine.specs.LineContracts.{SpaceOf, LineAt, LineFor, line_length, stopped_at}
-use Rattle.engine.proofs.NumberLaws.{told_is}
 use Rattle.engine.specs.declared.lines.Lines.{Lines}
 use Rattle.engine.specs.declared.lines.Lines.TheVariants as lines
 use Rattle.engine.specs.declared.lines.Fit.{Fit}
 use Rattle.engine.specs.declared.lines.Fit.TheVariants.{Behind, Over}
-use Rattle.engine.specs.declared.spelling.Spelled.TheVariants.{Done}
 use Rattle.base.proofs.PickLaws.{pick_true, pick_false, pick_all}
 use Rattle.engine.proofs.LineLaws.{answer_long}
 use Rattle.engine.proofs.NameLineLaws.{line_answer, line_long, line_other}

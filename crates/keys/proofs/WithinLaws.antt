@@ -1,5 +1,5 @@
 -- What was read and written of a block, by the answer for its lines.
-use Rattle.std.proofs.Common.{◌≡◌, ℕ, ◌≤◌, List, length, take, length-take, arith}
+use Rattle.std.proofs.Common.{◌≡◌, ℕ, ◌≤◌, List, length, arith}
 use Rattle.engine.specs.Calls.{CallOutcome}
 use Rattle.engine.specs.Lines.{LinesIs}
 use Rattle.engine.specs.declared.lines.Lines.{Lines}

@@ -50,7 +50,7 @@ use specs.declared.guesses.Guessed.TheVariants.{Done, Refused}
 use Rattle.loader.proofs.FileLaws.{fine_is, then_fine, told_from, told_start, told_end, told_wrong, told_passed, told_fault, told_kept, each_told, each_all, AtLine, line_start, passed_line, told_line, line_steps}
 use Rattle.base.proofs.PickLaws.{pick_true, pick_false, pick_all, and_yes}
 use Rattle.held.specs.Met.{bytes_of_all}
-use Rattle.pack_bytes.specs.InnerContracts.{text_put, none, more}
+use Rattle.pack_bytes.specs.InnerContracts.{text_put}
 
 -- ---- a rule judged
 

@@ -10,8 +10,6 @@ use Rattle.pack.specs.Packs.{Guess, read_guess, read_rule, read_list, any, guess
 use Rattle.rule_lines.specs.Rules.{Rule, rule_good, rule}
 use Rattle.pack.specs.PlaceContracts.{judge, found_in, rule_count, row_from, Stored}
 use Rattle.strings.specs.InnerContracts.{behind, read_some}
-use Rattle.strings.specs.declared.Number.{Number}
-use Rattle.strings.specs.declared.Number.TheVariants as number
 use Rattle.pack.specs.declared.sections.Section.{Section}
 use Rattle.pack.specs.declared.sections.Section.TheVariants.{End, Bad}
 use Rattle.pack.specs.declared.guessing.GuessAt.{GuessAt}

@@ -1,7 +1,7 @@
 -- The table by which the rules of a pack's lists are looked up: a row for each of 98 lists, which has for each of 64 kinds of byte the number of
 -- the first rule to try, and behind those the number behind the last one; and of each number its rule's place and its marks, by which it is passed over.
 -- What is over 4,096 is no number but a place of the pack, put behind the numbers.
-use Rattle.std.specs.Prelude.{ℕ, zero, suc, ◌+◌, ◌-◌, ◌*◌, ◌%◌, ◌≤◌, ◌<◌, max, ◌≡◌, Bool, true, List, [], ◌∷◌, ◌++◌, eqb, ltb, length, get_or, set, take, drop}
+use Rattle.std.specs.Prelude.{ℕ, zero, suc, ◌+◌, ◌-◌, ◌*◌, ◌%◌, ◌≤◌, ◌<◌, max, ◌≡◌, Bool, true, List, [], ◌∷◌, ◌++◌, eqb, ltb, length, get_or, take, drop}
 use Rattle.base.specs.Pick.{pick, and}
 use Rattle.pack.specs.Packs.{Pack, Verdict, accepted, refused, read_rule, pack_of, list_count}
 use Rattle.rule_lines.specs.Rules.{Rule}
@@ -15,7 +15,7 @@ use Rattle.pack.specs.InnerContracts.{guessed_at}
 use Rattle.texts.specs.Parts.{first_byte, last_byte}
 use Rattle.texts.specs.Signatures.{bit_of, has_bits}
 use Rattle.regex_optim.specs.InnerContracts.{all_bits, left_bits, right_bits}
-use Rattle.rule_index.specs.Rows.{places_row, leads_row, before_row, behind_row, required_row, rows, Roomy, noted_at, put_all}
+use Rattle.rule_index.specs.Rows.{places_row, leads_row, before_row, behind_row, required_row, Roomy, noted_at, put_all}
 use Rattle.rule_index.specs.GuessContracts.{guesser, guesser_by}
 use Rattle.rule_index.specs.Matching.{Match, none, by, Matcher, first_match}
 use Rattle.rule_index.specs.declared.numbers.Front.{Front}

@@ -10,7 +10,7 @@ use Rattle.rules_parser.specs as specs
 use specs.Fields.{span_end}
 use specs.Lines.{line_at}
 use specs.Files.{close_at, next_line, on_close, comment_at, on_line, item_at}
-use specs.Grammar.{Every, Other, BlankByte, Blanks, OpeningLine, CommentLine, FirstLine, at_end, at_lf, at_cr_lf, Said, said_of, FoundItem, passed, said, found_of, Block, Begins, blank, comment, block, says, next}
+use specs.Grammar.{Every, Other, BlankByte, Blanks, OpeningLine, CommentLine, FirstLine, at_end, at_lf, at_cr_lf, Said, said_of, FoundItem, passed, said, found_of, Block, Begins, blank, comment, block, says}
 use Rattle.rules_parser.proofs as own
 use own.Ahead.{pick_where}
 use own.GrammarFields.{Of, Stops, span_is, place_in_lem, place_more, text_ends, plain}

@@ -1,4 +1,3 @@
-use Rattle.std.proofs.Common.{rules}
 use Rattle.engine.proofs.NameLaws.{parted_told, bracketed_laws, name_laws, words_laws}
 use Rattle.engine.proofs.encode.+spell_bracketed_spell_name_spell_words.Goals as goal
 

@@ -1,4 +1,3 @@
-use Rattle.std.proofs.Common.{arith, rules}
 use Rattle.rule_lists.proofs.FollowLaws.{follow_laws}
 use Rattle.rule_lists.proofs.GoingLaws.{going_laws}
 use Rattle.rule_lists.proofs.walk.+follow_walk.Goals as goal
