@@ -153,7 +153,7 @@ def build(library):
     if not os.path.exists(rlib):
         sys.exit("slowest: the original is not built (oracle/build)")
     if not os.path.exists(library):
-        sys.exit("slowest: there is no %s (rt staticlib bm)" % library)
+        sys.exit("slowest: there is no %s (bin/libbm)" % library)
     os.makedirs(os.path.join(MADE, "library"), exist_ok=True)
     shutil.copy(library, os.path.join(MADE, "library", "libbm.a"))
     program = os.path.join(MADE, "bench")
