@@ -7,7 +7,6 @@ mod spelling_cases;
 mod words_cases;
 
 use cases::Said;
-use std::io;
 
 // How long the pack and the bundle are that are kept, and how many bytes of output wait.
 #[derive(Clone, Copy)]
@@ -131,24 +130,23 @@ fn serve(
     cases::flush(rt, out, held.used);
 }
 
-fn main(rt: HostRuntime) -> io::Result<()> {
+fn main(rt: HostRuntime) {
     // a line of 200,000 bytes and one more, and the bytes that such a line can give in hex; a pack and a bundle of 98,304 bytes
-    let mut block = vec![in rt.alloc(); 0u8; 65536]?;
-    let mut line = vec![in rt.alloc(); 0u8; 200001]?;
-    let mut given = vec![in rt.alloc(); 0u8; 100000]?;
-    let mut made = vec![in rt.alloc(); 0u8; 100000]?;
-    let mut pack = vec![in rt.alloc(); 0u8; 98304]?;
-    let mut bundle = vec![in rt.alloc(); 0u8; 98304]?;
-    let mut out = vec![in rt.alloc(); 0u8; 65536]?;
+    let mut block = [0u8; 65536];
+    let mut line = [0u8; 200001];
+    let mut given = [0u8; 100000];
+    let mut made = [0u8; 100000];
+    let mut pack = [0u8; 98304];
+    let mut bundle = [0u8; 98304];
+    let mut out = [0u8; 65536];
     serve(
         &rt,
-        block.as_mut_slice(),
-        line.as_mut_slice(),
-        given.as_mut_slice(),
-        made.as_mut_slice(),
-        pack.as_mut_slice(),
-        bundle.as_mut_slice(),
-        out.as_mut_slice(),
+        &mut block,
+        &mut line,
+        &mut given,
+        &mut made,
+        &mut pack,
+        &mut bundle,
+        &mut out,
     );
-    Ok(())
 }

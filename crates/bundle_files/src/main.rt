@@ -7,20 +7,17 @@ mod sorting;
 mod taken;
 mod words;
 
-ghost use Rattle.std.specs.Prelude.{◌≡◌, IfOk, vec_len};
-
-use std::alloc::{AllocError, Global};
-use std::io;
+ghost use Rattle.std.specs.Prelude.{◌≡◌, length};
 
 // The longest path that is read.
 const LONGEST: usize = 4096;
 
 // Zeros for the files, and for the bundle that is made of them. The contract gives only the length, so that no caller's proof sees
 // the zeros.
-fn room(alloc: Global) -> Result<Vec<u8>, AllocError>
-    ensures { IfOk result (λ room. 1048576 ≡ vec_len room) }
+fn room() -> [u8; 1048576]
+    ensures { 1048576 ≡ length result }
 {
-    vec![in alloc; 0u8; 1048576]
+    [0; 1048576]
 }
 
 // What the names of a type's files begin with.
@@ -51,36 +48,30 @@ fn write_path(rt: &HostRuntime, path: &[u8], bundle: &[u8]) {
 }
 
 // Makes the bundle of a type from the files of a folder.
-fn make(rt: &HostRuntime, name_type: u32, dir: &[u8]) -> io::Result<()> {
-    let mut store = room(rt.alloc())?;
+fn make(rt: &HostRuntime, name_type: u32, dir: &[u8]) {
+    let mut store = room();
     let mut ends = [0usize; 512];
-    let files = needed::take_all(rt, dir, &prefix(name_type), store.as_mut_slice(), &mut ends);
+    let files = needed::take_all(rt, dir, &prefix(name_type), &mut store, &mut ends);
     if files.good {
-        let mut bundle = room(rt.alloc())?;
-        let n = sorting::sorted(&store, &ends, files.count, bundle.as_mut_slice());
+        let mut bundle = room();
+        let n = sorting::sorted(&store, &ends, files.count, &mut bundle);
         write(rt, &bundle[0..n]);
     }
-    Ok(())
 }
 
-// Makes the bundle of a type from the folder that argument 2 names. What is answered by an error is that memory ran out.
-fn run(rt: &HostRuntime, name_type: u32) -> io::Result<()> {
+// Makes the bundle of a type from the folder that argument 2 names.
+fn run(rt: &HostRuntime, name_type: u32) {
     let mut dir = [0u8; LONGEST];
     match program_io::argument(rt, 2, &mut dir) {
         Ok(n) => make(rt, name_type, &dir[..n]),
-        Err(why) => {
-            program_io::failed(rt, b"bundle: DIR", why);
-            Ok(())
-        }
+        Err(why) => program_io::failed(rt, b"bundle: DIR", why),
     }
 }
 
 fn main(rt: HostRuntime) {
     let name_type = program_io::name_type_at(&rt, 1);
     if program_io::argument_count(&rt) == 4 && name_type.good && name_type.value < 3 {
-        if let Err(why) = run(&rt, name_type.value) {
-            program_io::failed(&rt, b"bundle", why);
-        }
+        run(&rt, name_type.value);
     } else {
         words::usage(&rt);
     }

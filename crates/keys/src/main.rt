@@ -6,24 +6,22 @@ mod call;
 mod failure;
 mod input;
 
-ghost use Rattle.std.specs.Prelude.{◌≡◌, ◌≤◌, ◌-◌, IfOk, length, vec_len};
+ghost use Rattle.std.specs.Prelude.{◌≡◌, ◌≤◌, ◌-◌, length};
 ghost use Rattle.keys.specs.InnerContracts.{Waits, Within};
 
 use beider_morse::{Lines, Settings, Start};
 use call::Call;
 use input::Input;
-use std::alloc::{AllocError, Global};
-use std::io;
 
 // The longest path that is read.
 const LONGEST: usize = 4096;
 
 // Zeros for the lines of a block; a line that is longer than this is refused with 9. The contract gives only the length,
 // so that no caller's proof sees the zeros.
-fn room(alloc: Global) -> Result<Vec<u8>, AllocError>
-    ensures { IfOk result (λ room. 1048576 ≡ vec_len room) }
+fn room() -> [u8; 1048576]
+    ensures { 1048576 ≡ length result }
 {
-    vec![in alloc; 0u8; 1048576]
+    [0; 1048576]
 }
 
 // The lines of the whole names of a block, as many as fit. All that this program uses of the face are two bounds.
@@ -116,56 +114,41 @@ fn serve(
 }
 
 // Answers the names by a pack, unless the pack file is longer than a pack may be.
-fn answer(rt: &HostRuntime, settings: Settings, start: Start, pack: &[u8]) -> io::Result<()> {
+fn answer(rt: &HostRuntime, settings: Settings, start: Start, pack: &[u8]) {
     if pack.len() > 49152 {
         print(rt, b"5 49152\n");
-        return Ok(());
+        return;
     }
-    let mut buf = vec![in rt.alloc(); 0u8; 65536]?;
-    let mut out = room(rt.alloc())?;
-    serve(
-        rt,
-        settings,
-        start,
-        pack,
-        buf.as_mut_slice(),
-        out.as_mut_slice(),
-    );
-    Ok(())
+    let mut buf = [0u8; 65536];
+    let mut out = room();
+    serve(rt, settings, start, pack, &mut buf, &mut out);
 }
 
 // Reads the pack file of a path and answers the names.
-fn run_path(rt: &HostRuntime, settings: Settings, start: Start, path: &[u8]) -> io::Result<()> {
+fn run_path(rt: &HostRuntime, settings: Settings, start: Start, path: &[u8]) {
     // a byte more than a pack may have
-    let mut pack = vec![in rt.alloc(); 0u8; 49153]?;
-    let filled = program_io::read_file(rt, path, pack.as_mut_slice());
+    let mut pack = [0u8; 49153];
+    let filled = program_io::read_file(rt, path, &mut pack);
     let have = filled.have;
     if let Some(why) = filled.failed {
         failure::unreadable(rt, path, why);
-        return Ok(());
+        return;
     }
-    answer(rt, settings, start, &pack[0..have])
+    answer(rt, settings, start, &pack[0..have]);
 }
 
-// Answers the names by the pack file that argument 1 names. What is answered by an error is that memory ran out.
-fn run(rt: &HostRuntime, settings: Settings, start: Start) -> io::Result<()> {
+// Answers the names by the pack file that argument 1 names.
+fn run(rt: &HostRuntime, settings: Settings, start: Start) {
     let mut path = [0u8; LONGEST];
     match program_io::argument(rt, 1, &mut path) {
         Ok(n) => run_path(rt, settings, start, &path[..n]),
-        Err(why) => {
-            program_io::failed(rt, b"keys: PACK", why);
-            Ok(())
-        }
+        Err(why) => program_io::failed(rt, b"keys: PACK", why),
     }
 }
 
 fn main(rt: HostRuntime) {
     match call::read(&rt) {
         Call::Bad => failure::usage(&rt),
-        Call::Good { settings, start } => {
-            if let Err(why) = run(&rt, settings, start) {
-                program_io::failed(&rt, b"keys", why);
-            }
-        }
+        Call::Good { settings, start } => run(&rt, settings, start),
     }
 }

@@ -4,28 +4,26 @@
 
 mod words;
 
-ghost use Rattle.std.specs.Prelude.{◌≡◌, ◌≤◌, IfOk, length, vec_len};
+ghost use Rattle.std.specs.Prelude.{◌≡◌, ◌≤◌, length};
 
 use loader::Loaded;
-use std::alloc::{AllocError, Global};
-use std::io;
 
 // The longest path that is read.
 const LONGEST: usize = 4096;
 
 // Zeros for the bundle file, a byte more than it may have. The contract gives only the length, so that no caller's proof sees the
 // zeros.
-fn bundle_room(alloc: Global) -> Result<Vec<u8>, AllocError>
-    ensures { IfOk result (λ room. 1048577 ≡ vec_len room) }
+fn bundle_room() -> [u8; 1048577]
+    ensures { 1048577 ≡ length result }
 {
-    vec![in alloc; 0u8; 1048577]
+    [0; 1048577]
 }
 
 // Zeros for the pack.
-fn pack_room(alloc: Global) -> Result<Vec<u8>, AllocError>
-    ensures { IfOk result (λ room. 1048576 ≡ vec_len room) }
+fn pack_room() -> [u8; 1048576]
+    ensures { 1048576 ≡ length result }
 {
-    vec![in alloc; 0u8; 1048576]
+    [0; 1048576]
 }
 
 // Prints a line.
@@ -89,52 +87,45 @@ fn write_path(rt: &HostRuntime, path: &[u8], pack: &[u8]) {
 }
 
 // Loads a bundle, and writes its pack or prints its refusal.
-fn answer(rt: &HostRuntime, name_type: u32, bundle: &[u8]) -> io::Result<()> {
-    let mut room = pack_room(rt.alloc())?;
-    let pack = room.as_mut_slice();
-    match loader::load(name_type, bundle, pack) {
+fn answer(rt: &HostRuntime, name_type: u32, bundle: &[u8]) {
+    let mut pack = pack_room();
+    match loader::load(name_type, bundle, &mut pack) {
         Loaded::Done { length } => write(rt, &pack[0..length]),
         Loaded::Refused { why, place, file } => {
             print_refusal(rt, refusals::number_of(why) as u32, place, file)
         }
     }
-    Ok(())
 }
 
 // Reads the bundle file of a path and loads it.
-fn run_path(rt: &HostRuntime, name_type: u32, path: &[u8]) -> io::Result<()> {
-    let mut bundle = bundle_room(rt.alloc())?;
-    let read = program_io::read_file(rt, path, bundle.as_mut_slice());
+fn run_path(rt: &HostRuntime, name_type: u32, path: &[u8]) {
+    let mut bundle = bundle_room();
+    let read = program_io::read_file(rt, path, &mut bundle);
     let have = read.have;
     if let Some(why) = read.failed {
         words::unreadable(rt, path, why);
-        return Ok(());
+        return;
     }
     if have > 1048576 {
         words::too_large(rt, path);
-        return Ok(());
+        return;
     }
-    answer(rt, name_type, &bundle[0..have])
+    answer(rt, name_type, &bundle[0..have]);
 }
 
-// Loads the bundle that argument 2 names. What is answered by an error is that memory ran out.
-fn run(rt: &HostRuntime, name_type: u32) -> io::Result<()> {
+// Loads the bundle that argument 2 names.
+fn run(rt: &HostRuntime, name_type: u32) {
     let mut path = [0u8; LONGEST];
     match program_io::argument(rt, 2, &mut path) {
         Ok(n) => run_path(rt, name_type, &path[..n]),
-        Err(why) => {
-            program_io::failed(rt, b"load: BUNDLE", why);
-            Ok(())
-        }
+        Err(why) => program_io::failed(rt, b"load: BUNDLE", why),
     }
 }
 
 fn main(rt: HostRuntime) {
     let name_type = program_io::name_type_at(&rt, 1);
     if program_io::argument_count(&rt) == 4 && name_type.good {
-        if let Err(why) = run(&rt, name_type.value) {
-            program_io::failed(&rt, b"load", why);
-        }
+        run(&rt, name_type.value);
     } else {
         words::usage(&rt);
     }
