@@ -1,4 +1,4 @@
--- Answers as numbers, for C. An answer's numbers are the paper's: `numbers_in` and `numbersOf` of crate engine.
+-- Answers as numbers, for C. An answer's numbers are the paper's: `numbers_in` of crate engine.
 use Rattle.std.specs.Prelude.{◌≡◌, ℕ, Bool, true, false, List, eqb, ltb, length, get_or, set}
 use Rattle.std.proofs.lemmas.List.Edits.{sets}
 use Rattle.base.specs.Pick.{pick}

@@ -92,7 +92,7 @@ fn pairs_in(t: &[u8], start: bool, end: bool) -> u64
     }
 }
 
-// The pairs that a pattern requires: where a name has not all of them, `matches` is false (PairLaws: `pairs-lacking-not`).
+// The pairs that a pattern requires: where a name has not all of them, `matches` is false (PairLaws: `pairs_lacking_not`).
 #[tactic(auto, using(crate::proofs::PairLaws::chaining_laws))]
 pub fn required_pairs(p: &[u8]) -> u64
     ensures { result ≡ pairs_required p.now }

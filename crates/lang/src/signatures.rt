@@ -22,7 +22,7 @@ fn bits_in(t: &[u8]) -> u64
     bits
 }
 
-// The bits that a pattern requires: where a name's signature has not all of them, `matches` is false (Shortcuts: `lacking-not`).
+// The bits that a pattern requires: where a name's signature has not all of them, `matches` is false (Shortcuts: `lacking_not`).
 #[tactic(auto, using(crate::proofs::Shortcuts::requiring_laws))]
 pub fn required_bits(p: &[u8]) -> u64
     ensures { result ≡ required_of p.now }
