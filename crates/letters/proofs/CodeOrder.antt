@@ -1,4 +1,5 @@
 -- On well-formed texts the order of the bytes is the order of the code points. Assumes nothing.
+use Rattle.std.specs.Prelude.{None}
 use mathlib.Core.Path.{◌≡◌, refl, sym, ap, ◌∙◌}
 use mathlib.Core.List.{List, [], ◌∷◌, ◌++◌}
 use Prim.Native.Nat.{ℕ, ◌+◌, ◌/◌, ◌%◌, ◌<◌, ◌≤◌}
@@ -11,9 +12,8 @@ use Rattle.base.specs.Pick.{pick}
 use Rattle.letters.specs.Utf8.{encode}
 use Rattle.letters.specs.Reading.{Symbol, codes_in, codes_of, ill_in, first_ill}
 use Rattle.letters.specs.Order.{order_of}
-use Rattle.letters.specs.declared.order.Order.{Order}
-use Rattle.letters.specs.declared.order.Order.TheVariants.{Less, Greater}
-use Rattle.letters.specs.declared.utf8.Found.TheVariants.{Nothing}
+use Rattle.std.specs.declared.cmp.Ordering.{Ordering}
+use Rattle.std.specs.declared.cmp.Ordering.TheVariants.{Less, Greater}
 use Rattle.letters.proofs.Utf8Laws.{char_at, char_drop, end_at, encode_one, encode_two, encode_three, encode_four}
 use Rattle.letters.proofs.ReadingLaws.{Pieces, end, one, bad, pieces_of}
 use Rattle.base.proofs.PickLaws.{pick_true, pick_false}
@@ -121,7 +121,7 @@ data Spells : List ℕ → List ℕ → Type 0 where
   none : Spells [] []
   more : {k : ℕ} {s cs : List ℕ} → k < 0x200000 → Spells s cs → Spells (encode k ++ s) (k ∷ cs)
 
-spells : {s : List ℕ} {p : ℕ} {l : List Symbol} → Pieces s p l → ill_in l ≡ Nothing → Spells (drop p s) (codes_in l)
+spells : {s : List ℕ} {p : ℕ} {l : List Symbol} → Pieces s p l → ill_in l ≡ None → Spells (drop p s) (codes_in l)
 unfolding ill_in codes_in
 spells {s} {p} (end e) h = rw (drop_of_length-le s (end_at s p e)) none
 spells {s} {p} (one {k = k} {n = n} e r) h = rw (char_drop s p k n e) (more (char_at s p k n e).four (spells r h))
@@ -139,9 +139,9 @@ unfolding order_of
 spells_order none none = refl
 spells_order none (more {k = k} {s = s} h r) = (encoded_some (encoded k h) s).0
 spells_order (more {k = k} {s = s} h r) none = (encoded_some (encoded k h) s).1
-spells_order (more {k = k} {s = s} h r) (more {k = j} {s = t} g q) = char_order k j s t h g ∙ ap (λ (o : Order). pick (ltb k j) Less (pick (ltb j k) Greater o)) (spells_order r q)
+spells_order (more {k = k} {s = s} h r) (more {k = j} {s = t} g q) = char_order k j s t h g ∙ ap (λ (o : Ordering). pick (ltb k j) Less (pick (ltb j k) Greater o)) (spells_order r q)
 
 -- 01, Spelling a name: "Texts compare by code points, shorter first"
-pub order_by_codes : (a b : List ℕ) → first_ill a ≡ Nothing → first_ill b ≡ Nothing → order_of a b ≡ order_of (codes_of a) (codes_of b)
+pub order_by_codes : (a b : List ℕ) → first_ill a ≡ None → first_ill b ≡ None → order_of a b ≡ order_of (codes_of a) (codes_of b)
 unfolding first_ill codes_of
 order_by_codes a b p q = spells_order (spells (pieces_of a) p) (spells (pieces_of b) q)

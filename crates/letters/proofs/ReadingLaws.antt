@@ -1,4 +1,5 @@
 -- The pieces of a slice, as a trace; and a walk over them, as far as place p: what is left decides. Assumes nothing.
+use Rattle.std.specs.Prelude.{Option, Some, None}
 use mathlib.Core.Path.{◌≡◌, refl, sym, ap, ◌∙◌}
 use mathlib.Core.Bool.{Bool, true, false}
 use mathlib.Core.List.{List, [], ◌∷◌}
@@ -12,8 +13,6 @@ use Rattle.letters.specs.Utf8.{decode_at}
 use Rattle.letters.specs.Reading.{Symbol, symbol, stray_byte, symbols_on, symbols_from, symbols_of, ill_in, first_ill, in_range, outside_in, first_outside}
 use Rattle.letters.specs.declared.utf8.Step.{Step}
 use Rattle.letters.specs.declared.utf8.Step.TheVariants.{Char, Ill, End}
-use Rattle.letters.specs.declared.utf8.Found.{Found}
-use Rattle.letters.specs.declared.utf8.Found.TheVariants.{At, Nothing}
 use Rattle.letters.proofs.Utf8Laws.{char_at, ill_in_lem}
 use Rattle.base.proofs.PickLaws.{pick_true, pick_false}
 use Rattle.base.proofs.Arms.{clash}
@@ -89,35 +88,35 @@ module _ {A : Type 0} {g : List Symbol → A} {s : List ℕ} {p : ℕ} (w : Walk
 
 -- ---- the first ill-formed sequence
 
-module _ {s : List ℕ} {p : ℕ} (w : Walk Found ill_in s p) (r : Step) (e : r ≡ decode_at s p) where
-  pub ill_on : (k n : ℕ) → r ≡ Char k n → Walk Found ill_in s (p + n)
+module _ {s : List ℕ} {p : ℕ} (w : Walk (Option ℕ) ill_in s p) (r : Step) (e : r ≡ decode_at s p) where
+  pub ill_on : (k n : ℕ) → r ≡ Char k n → Walk (Option ℕ) ill_in s (p + n)
   unfolding ill_in
   ill_on k n q = walk_on w k n (sym e ∙ q) (λ m. refl)
 
-  pub ill_found : r ≡ Ill → At p ≡ first_ill s
+  pub ill_found : r ≡ Ill → Some p ≡ first_ill s
   unfolding ill_in first_ill
-  ill_found q = sym (walk_ill w (At p) (sym e ∙ q) (λ m. refl))
+  ill_found q = sym (walk_ill w (Some p) (sym e ∙ q) (λ m. refl))
 
-  pub ill_none : r ≡ End → Nothing ≡ first_ill s
+  pub ill_none : r ≡ End → None ≡ first_ill s
   unfolding ill_in first_ill
   ill_none q = sym (walk_end w (sym e ∙ q))
 
 -- ---- the first place outside the range
 
-module _ {s : List ℕ} {p : ℕ} (w : Walk Found outside_in s p) (r : Step) (e : r ≡ decode_at s p) where
-  pub outside_on : (k n : ℕ) (t : Bool) → r ≡ Char k n → t ≡ in_range k → t ≡ true → Walk Found outside_in s (p + n)
+module _ {s : List ℕ} {p : ℕ} (w : Walk (Option ℕ) outside_in s p) (r : Step) (e : r ≡ decode_at s p) where
+  pub outside_on : (k n : ℕ) (t : Bool) → r ≡ Char k n → t ≡ in_range k → t ≡ true → Walk (Option ℕ) outside_in s (p + n)
   unfolding outside_in
   outside_on k n t q i h = walk_on w k n (sym e ∙ q) (λ m. pick_true _ _ _ (sym i ∙ h))
 
-  pub outside_here : (k n : ℕ) (t : Bool) → r ≡ Char k n → t ≡ in_range k → t ≡ false → At p ≡ first_outside s
+  pub outside_here : (k n : ℕ) (t : Bool) → r ≡ Char k n → t ≡ in_range k → t ≡ false → Some p ≡ first_outside s
   unfolding outside_in first_outside
-  outside_here k n t q i h = sym (walk_stop w k n (At p) (sym e ∙ q) (λ m. pick_false _ _ _ (sym i ∙ h)))
+  outside_here k n t q i h = sym (walk_stop w k n (Some p) (sym e ∙ q) (λ m. pick_false _ _ _ (sym i ∙ h)))
 
-  pub outside_ill : r ≡ Ill → At p ≡ first_outside s
+  pub outside_ill : r ≡ Ill → Some p ≡ first_outside s
   unfolding outside_in first_outside
-  outside_ill q = sym (walk_ill w (At p) (sym e ∙ q) (λ m. refl))
+  outside_ill q = sym (walk_ill w (Some p) (sym e ∙ q) (λ m. refl))
 
-  pub outside_none : r ≡ End → Nothing ≡ first_outside s
+  pub outside_none : r ≡ End → None ≡ first_outside s
   unfolding outside_in first_outside
   outside_none q = sym (walk_end w (sym e ∙ q))
 

@@ -9,29 +9,29 @@ use lib.Dec.{ltb}
 use borrow.Author.Tests.{ltb-true, ltb-false, lt-ltb, le-ltb}
 use Rattle.base.specs.Pick.{pick}
 use Rattle.letters.specs.Order.{order_of}
-use Rattle.letters.specs.declared.order.Order.{Order}
-use Rattle.letters.specs.declared.order.Order.TheVariants.{Less, Equal, Greater}
+use Rattle.std.specs.declared.cmp.Ordering.{Ordering}
+use Rattle.std.specs.declared.cmp.Ordering.TheVariants.{Less, Equal, Greater}
 use Rattle.base.proofs.Arms.{clash}
 
 -- ---- one character
 
 -- the tests of a character's turn, and what they decide
-turn : Bool → Bool → Order → Order
+turn : Bool → Bool → Ordering → Ordering
 turn p q o = pick p Less (pick q Greater o)
 
-before_turn : (p q : Bool) (o : Order) → turn p q o ≡ Less → (p ≡ true) ⊎ ((p ≡ false) × (q ≡ false) × (o ≡ Less))
+before_turn : (p q : Bool) (o : Ordering) → turn p q o ≡ Less → (p ≡ true) ⊎ ((p ≡ false) × (q ≡ false) × (o ≡ Less))
 unfolding pick turn
 before_turn true q o e = inl refl
 before_turn false true o e = clash (cc)
 before_turn false false o e = inr (refl, refl, e)
 
-same_turn : (p q : Bool) (o : Order) → turn p q o ≡ Equal → (p ≡ false) × (q ≡ false) × (o ≡ Equal)
+same_turn : (p q : Bool) (o : Ordering) → turn p q o ≡ Equal → (p ≡ false) × (q ≡ false) × (o ≡ Equal)
 unfolding pick turn
 same_turn true q o e = clash (cc)
 same_turn false true o e = clash (cc)
 same_turn false false o e = (refl, refl, e)
 
-after_turn : (p q : Bool) (o : Order) → turn p q o ≡ Greater → (q ≡ true) ⊎ ((p ≡ false) × (q ≡ false) × (o ≡ Greater))
+after_turn : (p q : Bool) (o : Ordering) → turn p q o ≡ Greater → (q ≡ true) ⊎ ((p ≡ false) × (q ≡ false) × (o ≡ Greater))
 unfolding pick turn
 after_turn true q o e = clash (cc)
 after_turn false true o e = inl refl
@@ -99,7 +99,7 @@ compare_trans (x ∷ s) (y ∷ t) (z ∷ u) d e = go (compare_trans s t u) (befo
     go ih (inr v) (inl q) = lt_before x z s u (omega arith)
     go ih (inr v) (inr w) = eq_compare x z s u (omega arith) ∙ ih v.1 w.1
 
-back_by : (s t : List ℕ) (o : Order) → order_of t s ≡ o → order_of s t ≡ Less → o ≡ Greater
+back_by : (s t : List ℕ) (o : Ordering) → order_of t s ≡ o → order_of s t ≡ Less → o ≡ Greater
 back_by s t Less e d = clash (let a = compare_refl s in let b = compare_trans s t s d e in cc)
 back_by s t Equal e d = clash (let a = compare_refl t in let b : order_of t t ≡ Less = rw (← compare_same t s e) at d in cc)
 back_by s t Greater e d = refl

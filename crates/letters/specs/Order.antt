@@ -2,11 +2,11 @@
 -- Both are for lists of numbers: code points, or bytes. `proofs/OrderLaws` shows that on well-formed texts the two agree.
 use Rattle.std.specs.Prelude.{ℕ, Bool, true, false, List, [], ◌∷◌, ltb, eqb}
 use Rattle.base.specs.Pick.{pick, and}
-use Rattle.letters.specs.declared.order.Order.{Order}
-use Rattle.letters.specs.declared.order.Order.TheVariants.{Less, Equal, Greater}
+use Rattle.std.specs.declared.cmp.Ordering.{Ordering}
+use Rattle.std.specs.declared.cmp.Ordering.TheVariants.{Less, Equal, Greater}
 
 -- by the first place at which they differ; what is a prefix of the other stands first
-unfoldable pub order_of : List ℕ → List ℕ → Order
+unfoldable pub order_of : List ℕ → List ℕ → Ordering
 order_of [] [] = Equal
 order_of [] (y ∷ ys) = Less
 order_of (x ∷ xs) [] = Greater
@@ -18,7 +18,7 @@ same_text [] (y ∷ ys) = false
 same_text (x ∷ xs) [] = false
 same_text (x ∷ xs) (y ∷ ys) = and (eqb x y) (same_text xs ys)
 
-unfoldable pub is_less : Order → Bool
+unfoldable pub is_less : Ordering → Bool
 is_less Less = true
 is_less Equal = false
 is_less Greater = false

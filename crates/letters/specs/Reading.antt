@@ -1,11 +1,9 @@
 -- A slice read as characters, one after the other, and what the paper asks of it.
-use Rattle.std.specs.Prelude.{ℕ, zero, suc, ◌+◌, Bool, false, List, [], ◌∷◌, leb, eqb, length, get_or}
+use Rattle.std.specs.Prelude.{ℕ, zero, suc, ◌+◌, Bool, false, List, [], ◌∷◌, leb, eqb, length, get_or, Option, Some, None}
 use Rattle.base.specs.Pick.{pick}
 use Rattle.letters.specs.Utf8.{within, decode_at}
 use Rattle.letters.specs.declared.utf8.Step.{Step}
 use Rattle.letters.specs.declared.utf8.Step.TheVariants.{Char, Ill, End}
-use Rattle.letters.specs.declared.utf8.Found.{Found}
-use Rattle.letters.specs.declared.utf8.Found.TheVariants.{At, Nothing}
 
 -- what stands at a place: a code point, or a byte b that begins no character
 pub data Symbol : Type 0 where
@@ -35,12 +33,12 @@ unfoldable pub codes_of : List ℕ → List ℕ
 codes_of s = codes_in (symbols_of s)
 
 -- the start of the first ill-formed sequence (01, the table, 1)
-unfoldable pub ill_in : List Symbol → Found
-ill_in [] = Nothing
+unfoldable pub ill_in : List Symbol → Option ℕ
+ill_in [] = None
 ill_in (symbol p c ∷ l) = ill_in l
-ill_in (stray_byte p b ∷ l) = At p
+ill_in (stray_byte p b ∷ l) = Some p
 
-unfoldable pub first_ill : List ℕ → Found
+unfoldable pub first_ill : List ℕ → Option ℕ
 first_ill s = ill_in (symbols_of s)
 
 -- U+0020 to U+007E and U+00A1 to U+017F without U+0130 (01, Letters)
@@ -48,10 +46,10 @@ unfoldable pub in_range : ℕ → Bool
 in_range c = pick (leb c 0x7E) (leb 0x20 c) (pick (eqb c 0x130) false (within 0xA1 0x17F c))
 
 -- the byte of the first character outside the range (01, the table, 2); an ill-formed sequence holds no character of it
-unfoldable pub outside_in : List Symbol → Found
-outside_in [] = Nothing
-outside_in (symbol p c ∷ l) = pick (in_range c) (outside_in l) (At p)
-outside_in (stray_byte p b ∷ l) = At p
+unfoldable pub outside_in : List Symbol → Option ℕ
+outside_in [] = None
+outside_in (symbol p c ∷ l) = pick (in_range c) (outside_in l) (Some p)
+outside_in (stray_byte p b ∷ l) = Some p
 
-unfoldable pub first_outside : List ℕ → Found
+unfoldable pub first_outside : List ℕ → Option ℕ
 first_outside s = outside_in (symbols_of s)

@@ -2,27 +2,19 @@
 ghost use Rattle.std.specs.Prelude.{◌≡◌};
 ghost use Rattle.letters.specs.Reading.{in_range, first_outside};
 
-use crate::utf8::{Found, Step, decode};
+use crate::utf8::{Step, decode};
 
 // Whether a name may hold the code point.
 #[tactic(auto, using(base::proofs::PickLaws::cases), unfolding(crate::specs::Reading::in_range, crate::specs::Utf8::within))]
 pub fn in_range(code: u32) -> bool
     ensures { result ≡ in_range code }
 {
-    if code <= 0x7E {
-        0x20 <= code
-    } else if code == 0x130 {
-        false
-    } else if 0xA1 <= code {
-        code <= 0x17F
-    } else {
-        false
-    }
+    matches!(code, 0x20..=0x7E | 0xA1..=0x12F | 0x131..=0x17F)
 }
 
 // The first place of s at which no character of the range stands.
 #[tactic(auto, using(crate::proofs::ReadingLaws::outside_laws))]
-pub fn first_outside(s: &[u8]) -> Found
+pub fn first_outside(s: &[u8]) -> Option<usize>
     ensures { result ≡ first_outside s.now }
 {
     let mut p: usize = 0;
@@ -32,14 +24,14 @@ pub fn first_outside(s: &[u8]) -> Found
                 if in_range(code) {
                     p += len;
                 } else {
-                    return Found::At(p);
+                    return Some(p);
                 }
             }
             Step::Ill => {
-                return Found::At(p);
+                return Some(p);
             }
             Step::End => {
-                return Found::Nothing;
+                return None;
             }
         }
     }

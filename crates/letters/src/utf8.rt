@@ -11,13 +11,6 @@ pub enum Step {
     End,
 }
 
-// A place that is looked for.
-#[derive(Clone, Copy)]
-pub enum Found {
-    At(usize),
-    Nothing,
-}
-
 // The byte at i, and 0, which continues no character, past the end.
 fn byte_at(s: &[u8], i: usize) -> u8
     ensures { result ≡ get_or s.now i 0 }
@@ -29,7 +22,7 @@ fn byte_at(s: &[u8], i: usize) -> u8
 fn is_within(lo: u8, hi: u8, b: u8) -> bool
     ensures { result ≡ within lo hi b }
 {
-    if lo <= b { b <= hi } else { false }
+    lo <= b && b <= hi
 }
 
 // The bounds of the second byte of three or four, by the first.
@@ -37,12 +30,10 @@ fn is_within(lo: u8, hi: u8, b: u8) -> bool
 fn low_second(a: u8) -> u8
     ensures { result ≡ low_second a }
 {
-    if a == 0xE0 {
-        0xA0
-    } else if a == 0xF0 {
-        0x90
-    } else {
-        0x80
+    match a {
+        0xE0 => 0xA0,
+        0xF0 => 0x90,
+        _ => 0x80,
     }
 }
 
@@ -50,12 +41,10 @@ fn low_second(a: u8) -> u8
 fn high_second(a: u8) -> u8
     ensures { result ≡ high_second a }
 {
-    if a == 0xED {
-        0x9F
-    } else if a == 0xF4 {
-        0x8F
-    } else {
-        0xBF
+    match a {
+        0xED => 0x9F,
+        0xF4 => 0x8F,
+        _ => 0xBF,
     }
 }
 
@@ -64,21 +53,24 @@ fn high_second(a: u8) -> u8
 fn code_2(a: u8, b: u8) -> u32
     ensures { result ≡ code2 a b }
 {
-    (a % 32) as u32 * 64 + (b % 64) as u32
+    u32::from(a % 32) * 64 + u32::from(b % 64)
 }
 
 #[tactic(auto, unfolding(crate::specs::Utf8::code3))]
 fn code_3(a: u8, b: u8, c: u8) -> u32
     ensures { result ≡ code3 a b c }
 {
-    (a % 16) as u32 * 4096 + (b % 64) as u32 * 64 + (c % 64) as u32
+    u32::from(a % 16) * 4096 + u32::from(b % 64) * 64 + u32::from(c % 64)
 }
 
 #[tactic(auto, unfolding(crate::specs::Utf8::code4))]
 fn code_4(a: u8, b: u8, c: u8, d: u8) -> u32
     ensures { result ≡ code4 a b c d }
 {
-    (a % 8) as u32 * 262144 + (b % 64) as u32 * 4096 + (c % 64) as u32 * 64 + (d % 64) as u32
+    u32::from(a % 8) * 262144
+        + u32::from(b % 64) * 4096
+        + u32::from(c % 64) * 64
+        + u32::from(d % 64)
 }
 
 #[tactic(auto, using(base::proofs::PickLaws::cases), unfolding(crate::specs::Utf8::decode2))]
@@ -99,14 +91,10 @@ fn decode_2(a: u8, b: u8) -> Step
 fn decode_3(a: u8, b: u8, c: u8) -> Step
     ensures { result ≡ decode3 a b c }
 {
-    if is_within(low_second(a), high_second(a), b) {
-        if is_within(0x80, 0xBF, c) {
-            Step::Char {
-                code: code_3(a, b, c),
-                len: 3,
-            }
-        } else {
-            Step::Ill
+    if is_within(low_second(a), high_second(a), b) && is_within(0x80, 0xBF, c) {
+        Step::Char {
+            code: code_3(a, b, c),
+            len: 3,
         }
     } else {
         Step::Ill
@@ -117,18 +105,13 @@ fn decode_3(a: u8, b: u8, c: u8) -> Step
 fn decode_4(a: u8, b: u8, c: u8, d: u8) -> Step
     ensures { result ≡ decode4 a b c d }
 {
-    if is_within(low_second(a), high_second(a), b) {
-        if is_within(0x80, 0xBF, c) {
-            if is_within(0x80, 0xBF, d) {
-                Step::Char {
-                    code: code_4(a, b, c, d),
-                    len: 4,
-                }
-            } else {
-                Step::Ill
-            }
-        } else {
-            Step::Ill
+    if is_within(low_second(a), high_second(a), b)
+        && is_within(0x80, 0xBF, c)
+        && is_within(0x80, 0xBF, d)
+    {
+        Step::Char {
+            code: code_4(a, b, c, d),
+            len: 4,
         }
     } else {
         Step::Ill
@@ -142,7 +125,7 @@ fn decode_bytes(a: u8, b: u8, c: u8, d: u8) -> Step
 {
     if a <= 0x7F {
         Step::Char {
-            code: a as u32,
+            code: u32::from(a),
             len: 1,
         }
     } else if is_within(0xC2, 0xDF, a) {
@@ -182,7 +165,7 @@ pub fn decode(s: &[u8], p: usize) -> Step
         let a = s[p];
         if a <= 0x7F {
             Step::Char {
-                code: a as u32,
+                code: u32::from(a),
                 len: 1,
             }
         } else if is_within(0xC2, 0xDF, a) {
@@ -197,7 +180,7 @@ pub fn decode(s: &[u8], p: usize) -> Step
 
 // Where the first ill-formed sequence of s starts.
 #[tactic(auto, using(crate::proofs::ReadingLaws::ill_laws))]
-pub fn first_ill(s: &[u8]) -> Found
+pub fn first_ill(s: &[u8]) -> Option<usize>
     ensures { result ≡ first_ill s.now }
 {
     let mut p: usize = 0;
@@ -207,10 +190,10 @@ pub fn first_ill(s: &[u8]) -> Found
                 p += len;
             }
             Step::Ill => {
-                return Found::At(p);
+                return Some(p);
             }
             Step::End => {
-                return Found::Nothing;
+                return None;
             }
         }
     }

@@ -1,19 +1,22 @@
 -- The table's rules, each by one test that antt computes over all 384 entries; storing a character; and lower-casing as far as place p.
 -- Assumes nothing.
+use Rattle.std.specs.Prelude.{Option, Some, None}
 use mathlib.Core.Path.{◌≡◌, refl, sym, ap, ap₂, ◌∙◌}
 use mathlib.Core.Bool.{Bool, true, false}
-use mathlib.Core.List.{List, ◌++◌}
-use Prim.Native.Nat.{ℕ, suc, ◌+◌, ◌-◌, ◌/◌, ◌%◌, ◌<◌, ◌≤◌, zero-le}
+use mathlib.Core.List.{List, ◌++◌, append_assoc}
+use Prim.Native.Nat.{ℕ, ◌+◌, ◌-◌, ◌<◌, ◌≤◌, zero-le}
 use native.Mathlib.Decide.{dec_lt}
-use native.Mathlib.Numerals.{add-one, add-two, add-three}
+use native.Mathlib.Numerals.{add-one}
 use native.Mathlib.Omega.{arith}
 use lib.Dec.{ltb, leb, eqb, ltb→lt, eqb→eq}
-use lib.ListN.{length, get_or, set, length-set, length-append}
-use lib.Seq.{sets, length-sets}
+use lib.ListN.{length, get_or, take, drop, set, length-set, length-append}
+use lib.Seq.{sets, length-sets, sets-eq, drop-drop}
+use borrow.Rule.Slice.PartMut.{put_mid}
+use native.Mathlib.Nat.{add-sub_cancel_left}
 use borrow.Author.Rules.{rules}
 use borrow.Author.Tests.{lt-ltb, le-ltb, le-leb, lt-leb}
 use Rattle.base.specs.Pick.{pick}
-use Rattle.base.proofs.Table.{at}
+use Rattle.base.proofs.Table.{at as in_table}
 use Rattle.base.proofs.One.{one as one_of_lem}
 use Rattle.base.proofs.Stores.{sets_then}
 use Rattle.letters.specs.Utf8.{decode_at, encode}
@@ -21,8 +24,6 @@ use Rattle.letters.specs.Reading.{Symbol, symbols_of}
 use Rattle.lower_case.specs.Lower.{lower_table, lower_of, lower_in, lower_text}
 use Rattle.letters.specs.declared.utf8.Step.{Step}
 use Rattle.letters.specs.declared.utf8.Step.TheVariants.{Char, Ill, End}
-use Rattle.lower_case.specs.declared.lower_case.Lowered.{Lowered}
-use Rattle.lower_case.specs.declared.lower_case.Lowered.TheVariants.{Done, NoRoom}
 use Rattle.letters.proofs.Utf8Laws.{char_at, char_length_lem, ill_in_lem, end_at, encode_one, encode_two, encode_three, encode_four}
 use Rattle.letters.proofs.ReadingLaws.{Pieces, end, one, bad, pieces_of, char_left, ill_left, end_left, step_laws}
 use Rattle.base.proofs.PickLaws.{pick_true, pick_false}
@@ -41,15 +42,15 @@ long k x = eqb (length (encode x)) (length (encode k))
 
 pub entry_below : (k : ℕ) → k < 384 → get_or lower_table k 0 < 384
 unfolding lower_table below
-entry_below k h = ltb→lt (get_or lower_table k 0) 384 (at below lower_table tt k h)
+entry_below k h = ltb→lt (get_or lower_table k 0) 384 (in_table below lower_table tt k h)
 
 entry_twice : (k : ℕ) → k < 384 → get_or lower_table (get_or lower_table k 0) 0 ≡ get_or lower_table k 0
 unfolding lower_table twice
-entry_twice k h = eqb→eq (get_or lower_table (get_or lower_table k 0) 0) (get_or lower_table k 0) (at twice lower_table tt k h)
+entry_twice k h = eqb→eq (get_or lower_table (get_or lower_table k 0) 0) (get_or lower_table k 0) (in_table twice lower_table tt k h)
 
 entry_long : (k : ℕ) → k < 384 → length (encode (get_or lower_table k 0)) ≡ length (encode k)
 unfolding lower_table long encode pick
-entry_long k h = eqb→eq (length (encode (get_or lower_table k 0))) (length (encode k)) (at long lower_table tt k h)
+entry_long k h = eqb→eq (length (encode (get_or lower_table k 0))) (length (encode k)) (in_table long lower_table tt k h)
 
 pub lower_in_lem : (c : ℕ) → c < 384 → get_or lower_table c 0 ≡ lower_of c
 unfolding lower_of
@@ -75,53 +76,10 @@ lower_four = lower_all (λ (c x : ℕ). c < 0x200000 → x < 0x200000) (λ c h l
 
 -- ---- storing a character: its places lie within the buffer, and the stores are those of its encoding
 
-sizes : (c : ℕ) → (1 ≤ length (encode c)) × (0x80 ≤ c → 2 ≤ length (encode c)) × (0x800 ≤ c → 3 ≤ length (encode c)) × (0x10000 ≤ c → 4 ≤ length (encode c))
-sizes c = elim (dec_lt c 0x80) [
-  | yes h ↦ let e = ap length (encode_one c h) in omega arith
-  | no f ↦ elim (dec_lt c 0x800) [
-    | yes h ↦ let e = ap length (encode_two c (omega arith) h) in omega arith
-    | no g ↦ elim (dec_lt c 0x10000) [
-      | yes h ↦ let e = ap length (encode_three c (omega arith) h) in omega arith
-      | no h ↦ let e = ap length (encode_four c (omega arith)) in omega arith
-    ]
-  ]
-]
+pub put_is : (out bytes part : List ℕ) (at : ℕ) → at + length bytes ≤ length out → part ≡ bytes → put_mid at (at + length bytes - at) out part ≡ sets out at bytes
+put_is out bytes part at h e = rw (e, add-sub_cancel_left, drop-drop) (sym (append_assoc (take at out) bytes (drop (at + length bytes) out)) ∙ sym (sets-eq bytes out at h))
 
-module _ (out : List ℕ) (at c : ℕ) (h : at + length (encode c) ≤ length out) where
-  pub room_1 : at < length out
-  room_1 = let z = sizes c in omega arith
-
-  pub room_2 : 0x80 ≤ c → at + 1 < length out
-  room_2 l = let z = (sizes c).1 l in omega arith
-
-  pub room_3 : 0x800 ≤ c → at + 2 < length out
-  room_3 l = let z = (sizes c).2 l in omega arith
-
-  pub room_4 : 0x10000 ≤ c → at + 3 < length out
-  room_4 l = let z = (sizes c).3 l in omega arith
-
-module _ (out : List ℕ) (at c : ℕ) where
-  pub put_1 : c < 0x80 → set out at (c % 256) ≡ sets out at (encode c)
-  put_1 h = ap (λ (x : ℕ). set out at x) (omega arith) ∙ ap (sets out at) (sym (encode_one c h))
-
-  pub put_2 : 0x80 ≤ c → c < 0x800 → set (set out at (0xC0 + c / 64 % 32)) (at + 1) (0x80 + c % 64) ≡ sets out at (encode c)
-  put_2 l h = ap₂ (λ (x : ℕ) (i : ℕ). set (set out at x) i (0x80 + c % 64)) (omega arith) (add-one at) ∙ ap (sets out at) (sym (encode_two c l h))
-
-  pub put_3 : 0x800 ≤ c → c < 0x10000 → set (set (set out at (0xE0 + c / 4096 % 16)) (at + 1) (0x80 + c / 64 % 64)) (at + 2) (0x80 + c % 64) ≡ sets out at (encode c)
-  put_3 l h =
-      ap (λ (x : ℕ). set (set (set out at x) (at + 1) (0x80 + c / 64 % 64)) (at + 2) (0x80 + c % 64)) (omega arith)
-      ∙ ap₂ (λ (i j : ℕ). set (set (set out at (0xE0 + c / 4096)) i (0x80 + c / 64 % 64)) j (0x80 + c % 64)) (add-one at) (add-two at)
-      ∙ ap (sets out at) (sym (encode_three c l h))
-
-  pub put_4 : 0x10000 ≤ c → c < 0x200000
-      → set (set (set (set out at (0xF0 + c / 262144 % 8)) (at + 1) (0x80 + c / 4096 % 64)) (at + 2) (0x80 + c / 64 % 64)) (at + 3) (0x80 + c % 64) ≡ sets out at (encode c)
-  put_4 l h =
-      ap (λ (x : ℕ). set (set (set (set out at x) (at + 1) (0x80 + c / 4096 % 64)) (at + 2) (0x80 + c / 64 % 64)) (at + 3) (0x80 + c % 64)) (omega arith)
-      ∙ ap₂ (λ (i j : ℕ). set (set (set (set out at (0xF0 + c / 262144)) i (0x80 + c / 4096 % 64)) j (0x80 + c / 64 % 64)) (at + 3) (0x80 + c % 64)) (add-one at) (add-two at)
-      ∙ ap (λ (k : ℕ). set (set (set (set out at (0xF0 + c / 262144)) (suc at) (0x80 + c / 4096 % 64)) (suc (suc at)) (0x80 + c / 64 % 64)) k (0x80 + c % 64)) (add-three at)
-      ∙ ap (sets out at) (sym (encode_four c l))
-
-pub ruleset put_laws = (room_1, room_2, room_3, room_4, put_1, put_2, put_3, put_4, rules)
+pub ruleset put_laws = (encode_one, encode_two, encode_three, encode_four, rules)
 
 -- ---- lower-casing into out₀, as far as place p: the lower case of what is left, stored from p on, makes the whole
 
@@ -210,17 +168,17 @@ module _ {s out₀ out : List ℕ} {p : ℕ} (w : Lowering s out₀ out p) (r : 
   fits_all : leb (length (lower_text s)) (length out₀) ≡ true
   fits_all = le-leb (length (lower_text s)) (length out₀) (omega (arith, lower_text_length s, w.room))
 
-  pub lowering_done : r ≡ End → LoweredInto s out₀ (Done p) out
+  pub lowering_done : r ≡ End → LoweredInto s out₀ (Some p) out
   unfolding lowered_answer lowered_buffer lower_in
   lowering_done q =
       let d = sym e ∙ q in
       let x : p ≡ length (lower_text s) = omega (arith, end_at s p d, w.within, lower_text_length s) in
       record {
-        result = ap Done x ∙ sym (pick_true _ _ _ fits_all);
+        result = ap Some x ∙ sym (pick_true _ _ _ fits_all);
         buffer = ap (λ (l : List Symbol). sets out p (lower_in l)) (sym (end_left w.pieces d)) ∙ w.is ∙ sym (pick_true _ _ _ fits_all);
       }
 
-pub no_room_lem : (s out : List ℕ) → length out < length s → LoweredInto s out NoRoom out
+pub no_room_lem : (s out : List ℕ) → length out < length s → LoweredInto s out None out
 unfolding lowered_answer lowered_buffer
 no_room_lem s out h =
     let f : leb (length (lower_text s)) (length out) ≡ false = lt-leb (length (lower_text s)) (length out) (omega (arith, lower_text_length s)) in
@@ -229,5 +187,5 @@ no_room_lem s out h =
 pub ruleset lowering_laws = (lowering_start, lowering_room, lowering_four, lowering_on, lowering_ill, lowering_less, lowering_in, lowering_in_out, lowering_done, no_room_lem, step_laws, rules)
 
 -- the promise of `lower_into` allows one answer and one buffer
-pub lowered_one : {s out o o' : List ℕ} {r r' : Lowered} → LoweredInto s out r o → LoweredInto s out r' o' → (r ≡ r') × (o ≡ o')
+pub lowered_one : {s out o o' : List ℕ} {r r' : (Option ℕ)} → LoweredInto s out r o → LoweredInto s out r' o' → (r ≡ r') × (o ≡ o')
 lowered_one a b = (one_of_lem a.result b.result, one_of_lem a.buffer b.buffer)

@@ -4,4 +4,4 @@
 mod lower_case;
 mod table;
 
-pub use lower_case::{Lowered, lower, lower_into};
+pub use lower_case::{lower, lower_into};

@@ -1,4 +1,7 @@
 -- Strings one after the other, and the string at a place. Assumes nothing.
+use Rattle.strings.specs.Places.{span}
+use Rattle.strings.specs.declared.Span.{Span}
+use Rattle.std.specs.Prelude.{Option, Some, None}
 use mathlib.Core.Path.{◌≡◌, refl, sym, ap, ap₂, ◌∙◌}
 use mathlib.Core.Bool.{Bool, true, false}
 use mathlib.Core.List.{List, [], ◌∷◌, ◌++◌}
@@ -14,8 +17,6 @@ use Rattle.base.proofs.PickLaws.{pick_true, pick_false}
 use Rattle.base.proofs.Arms.{clash}
 use Rattle.strings.specs.Reading.{strings, strings_of}
 use Rattle.strings.specs.InnerContracts.{string_at}
-use Rattle.strings.specs.declared.Next.{Next}
-use Rattle.strings.specs.declared.Next.TheVariants.{Whole, Cut}
 
 pub strings_none : (f : ℕ) → strings f [] ≡ []
 unfolding strings
@@ -41,28 +42,28 @@ pub record StringIs (s : List ℕ) (at start end : ℕ) : Type 0 where
   pub ends : end ≡ at + 1 + get_or s at 0
   pub fits : end ≤ length s
 
-whole_by_lem : (s : List ℕ) (at a e : ℕ) (t u : Bool) → ltb at (length s) ≡ t → leb (get_or s at 0) (length s - (at + 1)) ≡ u
-    → pick t (pick u (Whole (at + 1) (at + 1 + get_or s at 0)) Cut) Cut ≡ Whole a e → StringIs s at a e
+whole_by_lem : (s : List ℕ) (at : ℕ) (part : Span) (t u : Bool) → ltb at (length s) ≡ t → leb (get_or s at 0) (length s - (at + 1)) ≡ u
+    → pick t (pick u (Some (span (at + 1) (at + 1 + get_or s at 0))) None) None ≡ Some part → StringIs s at part.start part.end
 unfolding pick
-whole_by_lem s at a e false u p q w = clash (cc)
-whole_by_lem s at a e true false p q w = clash (cc)
-whole_by_lem s at a e true true p q w =
-    let ends : at + 1 + get_or s at 0 ≡ e = cc in
+whole_by_lem s at part false u p q w = clash (cc)
+whole_by_lem s at part true false p q w = clash (cc)
+whole_by_lem s at part true true p q w =
+    let ends : at + 1 + get_or s at 0 ≡ part.end = cc in
     record { begins = cc; ends = sym ends; fits = omega (arith, ltb-true, leb-true) }
 
 cut_by : (s : List ℕ) (at : ℕ) (t u : Bool) → ltb at (length s) ≡ t → leb (get_or s at 0) (length s - (at + 1)) ≡ u
-    → pick t (pick u (Whole (at + 1) (at + 1 + get_or s at 0)) Cut) Cut ≡ Cut → length s < at + 1 + get_or s at 0
+    → pick t (pick u (Some (span (at + 1) (at + 1 + get_or s at 0))) None) None ≡ None → length s < at + 1 + get_or s at 0
 unfolding pick
 cut_by s at false u p q w = omega (arith, ltb-false)
 cut_by s at true false p q w = omega (arith, leb-false)
 cut_by s at true true p q w = clash (cc)
 
-pub string_whole : (s : List ℕ) (at a e : ℕ) (r : Next) → r ≡ string_at s at → r ≡ Whole a e → StringIs s at a e
+pub string_whole : (s : List ℕ) (at : ℕ) (part : Span) (r : Option Span) → r ≡ string_at s at → r ≡ Some part → StringIs s at part.start part.end
 unfolding string_at
-string_whole s at a e r p q = whole_by_lem s at a e _ _ refl refl (sym p ∙ q)
+string_whole s at part r p q = whole_by_lem s at part _ _ refl refl (sym p ∙ q)
 
 -- or bytes run out
-pub string_cut : (s : List ℕ) (at : ℕ) (r : Next) → r ≡ string_at s at → r ≡ Cut → length s < at + 1 + get_or s at 0
+pub string_cut : (s : List ℕ) (at : ℕ) (r : Option Span) → r ≡ string_at s at → r ≡ None → length s < at + 1 + get_or s at 0
 unfolding string_at
 string_cut s at r p q = cut_by s at _ _ refl refl (sym p ∙ q)
 
@@ -81,31 +82,31 @@ none_by s at f h = elim (dec_le (length s) at) [
   | no k ↦ cut_short s at f (omega arith) h
 ]
 
-pub none_left : (s : List ℕ) (at : ℕ) (r : Next) → r ≡ string_at s at → r ≡ Cut → (f : ℕ) → strings f (drop at s) ≡ []
+pub none_left : (s : List ℕ) (at : ℕ) (r : Option Span) → r ≡ string_at s at → r ≡ None → (f : ℕ) → strings f (drop at s) ≡ []
 none_left s at r p q f = none_by s at f (string_cut s at r p q)
 
-module _ (s : List ℕ) (at a e : ℕ) (r : Next) (p : r ≡ string_at s at) (q : r ≡ Whole a e) where
-  string : StringIs s at a e
-  string = string_whole s at a e r p q
+module _ (s : List ℕ) (at : ℕ) (part : Span) (r : Option Span) (p : r ≡ string_at s at) (q : r ≡ Some part) where
+  string : StringIs s at part.start part.end
+  string = string_whole s at part r p q
 
-  pub part_order : a ≤ e
+  pub part_order : part.start ≤ part.end
   part_order = omega (arith, string)
 
-  pub part_fits : e ≤ length s
+  pub part_fits : part.end ≤ length s
   part_fits = string.fits
 
-  pub skip_order : at ≤ e
+  pub skip_order : at ≤ part.end
   skip_order = omega (arith, string)
 
-  pub walk_less : length s - e < length s - at
+  pub walk_less : length s - part.end < length s - at
   walk_less = omega (arith, string)
 
-  pub one_left : (f : ℕ) → strings (suc f) (drop at s) ≡ take (e - a) (drop a s) ∷ strings f (drop e s)
+  pub one_left : (f : ℕ) → strings (suc f) (drop at s) ≡ take (part.end - part.start) (drop part.start s) ∷ strings f (drop part.end s)
   one_left f =
       let w = string in
-      let next_is : a + (e - a) ≡ e = omega arith in
-      let long : get_or s at 0 ≡ length (take (e - a) (drop a s)) = omega (arith, length-take (e - a) (drop a s), length-drop a s) in
-      let begins : suc at ≡ a = omega arith in
-      ap (strings (suc f)) (drop-cons s at 0 (omega arith) ∙ ap₂ ◌∷◌ long (ap (λ (k : ℕ). drop k s) begins ∙ sym (take-append-drop (e - a) (drop a s))))
-      ∙ strings_one f (take (e - a) (drop a s)) (drop (e - a) (drop a s))
-      ∙ ap (λ (l : List ℕ). take (e - a) (drop a s) ∷ strings f l) (drop-drop (e - a) a s ∙ ap (λ (k : ℕ). drop k s) next_is)
+      let next_is : part.start + (part.end - part.start) ≡ part.end = omega arith in
+      let long : get_or s at 0 ≡ length (take (part.end - part.start) (drop part.start s)) = omega (arith, length-take (part.end - part.start) (drop part.start s), length-drop part.start s) in
+      let begins : suc at ≡ part.start = omega arith in
+      ap (strings (suc f)) (drop-cons s at 0 (omega arith) ∙ ap₂ ◌∷◌ long (ap (λ (k : ℕ). drop k s) begins ∙ sym (take-append-drop (part.end - part.start) (drop part.start s))))
+      ∙ strings_one f (take (part.end - part.start) (drop part.start s)) (drop (part.end - part.start) (drop part.start s))
+      ∙ ap (λ (l : List ℕ). take (part.end - part.start) (drop part.start s) ∷ strings f l) (drop-drop (part.end - part.start) part.start s ∙ ap (λ (k : ℕ). drop k s) next_is)

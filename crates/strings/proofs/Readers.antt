@@ -1,4 +1,8 @@
 -- What is read at a place of s, and that what is left behind it is an end of s. Assumes nothing.
+use Rattle.strings.specs.declared.Number.{Number}
+use Rattle.strings.specs.Places.{number}
+use Rattle.strings.specs.declared.Span.{Span}
+use Rattle.std.specs.Prelude.{Option, Some, None}
 use mathlib.Core.Path.{◌≡◌, refl, sym, ap, ap₂, ◌∙◌}
 use mathlib.Core.Bool.{Bool, true, false}
 use mathlib.Core.List.{List, [], ◌∷◌}
@@ -7,18 +11,15 @@ use native.Mathlib.Nat.{add-zero, not-suc-le-zero}
 use native.Mathlib.Numerals.{add-one}
 use native.Mathlib.Omega.{arith}
 use lib.Dec.{leb, ltb}
-use lib.ListN.{length, get_or, take, drop, drop_of_length-le, length-drop, length-take, get_or-eq_default}
-use lib.Seq.{drop-cons, drop-drop}
+use lib.ListN.{length, get_or, take, drop, drop_of_length-le, length-drop, length-take}
+use lib.Seq.{drop-cons, drop-drop, get_or-take, get_or-drop}
+use Rattle.std.specs.Int.{w16, w32, from_be_bytes}
 use borrow.Author.Rules.{rules}
 use borrow.Author.Tests.{lt-leb, le-leb, ltb-true, ltb-false, leb-true, leb-false}
 use Rattle.base.specs.Pick.{pick}
-use Rattle.strings.specs.declared.Next.{Next}
-use Rattle.strings.specs.declared.Next.TheVariants as next
 use Rattle.strings.proofs.Laws.{StringIs, string_whole, string_cut}
 use Rattle.strings.specs.Reading.{Read, cut, got, and_read, read_byte, read_more, read_number, read_text, read_many, place_in}
-use Rattle.strings.specs.InnerContracts.{ByteIs, number_in, number_at, string_at, read_some, behind}
-use Rattle.strings.specs.declared.Number.{Number}
-use Rattle.strings.specs.declared.Number.TheVariants as number
+use Rattle.strings.specs.InnerContracts.{number_in, number_at, string_at, read_some, behind}
 use Rattle.base.proofs.PickLaws.{pick_true, pick_false}
 use Rattle.base.proofs.Arms.{clash}
 
@@ -165,79 +166,69 @@ pub record NumberIs (k : ℕ) (s : List ℕ) (at n e : ℕ) : Type 0 where
   pub fits : e ≤ length s
   pub reads : read_number k (drop at s) ≡ got n (drop e s)
 
-number_by : (k : ℕ) (s : List ℕ) (at n e : ℕ) (t : Bool) → leb (at + suc k) (length s) ≡ t → number_in s (read_number (suc k) (drop at s)) ≡ number.Of n e → NumberIs (suc k) s at n e
+number_by : (k : ℕ) (s : List ℕ) (at : ℕ) (told : Number) (t : Bool) → leb (at + suc k) (length s) ≡ t → number_in s (read_number (suc k) (drop at s)) ≡ Some told → NumberIs (suc k) s at told.value told.next
 unfolding read_number number_in
-number_by k s at n e false p g = let c = ap (number_in s) (more_cut k 0 s at (leb-false _ _ p)) in clash (cc)
-number_by k s at n e true p g =
+number_by k s at told false p g = let c = ap (number_in s) (more_cut k 0 s at (leb-false _ _ p)) in clash (cc)
+number_by k s at told true p g =
     let l : at + suc k ≤ length s = leb-true _ _ p in
     let r = more_fits (suc k) 0 s at l in
     let c = ap (number_in s) r.1 in
-    let same : r.0 ≡ n = cc in
-    let place : place_in s (drop (at + suc k) s) ≡ e = cc in
-    let ends : e ≡ at + suc k = sym place ∙ place_drop s (at + suc k) l in
+    let same : r.0 ≡ told.value = cc in
+    let place : place_in s (drop (at + suc k) s) ≡ told.next = cc in
+    let ends : told.next ≡ at + suc k = sym place ∙ place_drop s (at + suc k) l in
     record { ends = ends; fits = omega (arith, ends, l); reads = r.1 ∙ ap₂ (λ (m x : ℕ). got m (drop x s)) same (sym ends) }
 
-none_by : (k : ℕ) (s : List ℕ) (at : ℕ) (t : Bool) → leb (at + suc k) (length s) ≡ t → number_in s (read_number (suc k) (drop at s)) ≡ number.Cut → read_number (suc k) (drop at s) ≡ cut
+none_by : (k : ℕ) (s : List ℕ) (at : ℕ) (t : Bool) → leb (at + suc k) (length s) ≡ t → number_in s (read_number (suc k) (drop at s)) ≡ None → read_number (suc k) (drop at s) ≡ cut
 unfolding read_number number_in
 none_by k s at false p e = more_cut k 0 s at (leb-false _ _ p)
 none_by k s at true p e = let c = ap (number_in s) (more_fits (suc k) 0 s at (leb-true _ _ p)).1 in clash (cc)
 
-module _ (s : List ℕ) (at : ℕ) (r : Number) where
-  pub count_of : (n e : ℕ) → r ≡ number_at 2 s at → r ≡ number.Of n e → NumberIs 2 s at n e
+module _ (s : List ℕ) (at : ℕ) (r : Option Number) where
+  pub count_of : (told : Number) → r ≡ number_at 2 s at → r ≡ Some told → NumberIs 2 s at told.value told.next
   unfolding number_at
-  count_of n e p q = number_by 1 s at n e _ refl (sym p ∙ q)
+  count_of told p q = number_by 1 s at told _ refl (sym p ∙ q)
 
-  pub count_cut : r ≡ number_at 2 s at → r ≡ number.Cut → read_number 2 (drop at s) ≡ cut
+  pub count_cut : r ≡ number_at 2 s at → r ≡ None → read_number 2 (drop at s) ≡ cut
   unfolding number_at
   count_cut p q = none_by 1 s at _ refl (sym p ∙ q)
 
-  pub mask_of : (n e : ℕ) → r ≡ number_at 4 s at → r ≡ number.Of n e → NumberIs 4 s at n e
+  pub mask_of : (told : Number) → r ≡ number_at 4 s at → r ≡ Some told → NumberIs 4 s at told.value told.next
   unfolding number_at
-  mask_of n e p q = number_by 3 s at n e _ refl (sym p ∙ q)
+  mask_of told p q = number_by 3 s at told _ refl (sym p ∙ q)
 
-  pub mask_cut : r ≡ number_at 4 s at → r ≡ number.Cut → read_number 4 (drop at s) ≡ cut
+  pub mask_cut : r ≡ number_at 4 s at → r ≡ None → read_number 4 (drop at s) ≡ cut
   unfolding number_at
   mask_cut p q = none_by 3 s at _ refl (sym p ∙ q)
 
 -- ---- how the code reads numbers
 
-pub byte_in : (s : List ℕ) (at : ℕ) → get_or s at 0 < 256 → ByteIs s at (get_or s at 0)
-byte_in s at h = record { is = refl; small = h }
+-- the bytes that the code takes, as the number that they are
+taken : (k i : ℕ) (s : List ℕ) (at n : ℕ) → i < k → at + i ≡ n → get_or (take k (drop at s)) i 0 ≡ get_or s n 0
+taken k i s at n h e = get_or-take k (drop at s) i 0 h ∙ get_or-drop at s i 0 ∙ ap (λ (m : ℕ). get_or s m 0) e
 
-pub byte_out : (s : List ℕ) (at : ℕ) → length s ≤ at → ByteIs s at 0
-byte_out s at h = record { is = sym (get_or-eq_default s 0 h); small = omega arith }
-
-pub count_short : (s : List ℕ) (at : ℕ) → length s < 2 → number.Cut ≡ number_at 2 s at
+pub count_none : (s : List ℕ) (at : ℕ) → length s < at + 2 → None ≡ number_at 2 s at
 unfolding number_at read_number number_in
-count_short s at h = sym (ap (number_in s) (more_cut 1 0 s at (omega arith)))
+count_none s at h = sym (ap (number_in s) (more_cut 1 0 s at (omega arith)))
 
-pub count_past : (s : List ℕ) (at : ℕ) → length s - 2 < at → number.Cut ≡ number_at 2 s at
-unfolding number_at read_number number_in
-count_past s at h = sym (ap (number_in s) (more_cut 1 0 s at (omega arith)))
-
-pub count_some : (s : List ℕ) (at a b : ℕ) → 2 ≤ length s → at ≤ length s - 2 → ByteIs s at a → ByteIs s (at + 1) b → number.Of (a * 256 + b) (at + 2) ≡ number_at 2 s at
+pub count_some : (s : List ℕ) (at : ℕ) (bs : List ℕ) → at + 2 ≤ length s → bs ≡ take 2 (drop at s) → Some (number (from_be_bytes w16 bs) (at + 2)) ≡ number_at 2 s at
 unfolding number_at read_number number_in read_more
-count_some s at a b l h p q =
-    ap₂ (λ (n e : ℕ). number.Of n e) (omega arith) (sym (place_drop s (at + 2) (omega arith)))
-    ∙ sym (ap (number_in s) (more_at 1 0 s at _ a refl p.is (omega arith) ∙ more_at 0 _ s _ (at + 2) b (omega arith) q.is (omega arith)))
+count_some s at bs h e =
+    ap₂ (λ (n e : ℕ). Some (number n e)) (rw e (omega (arith, taken 2 0 s at at (omega arith) (add-zero at), taken 2 1 s at (at + 1) (omega arith) refl))) (sym (place_drop s (at + 2) h))
+    ∙ sym (ap (number_in s) (more_at 1 0 s at _ _ refl refl (omega arith) ∙ more_at 0 _ s _ (at + 2) _ (omega arith) refl (omega arith)))
 
-pub mask_short : (s : List ℕ) (at : ℕ) → length s < 4 → number.Cut ≡ number_at 4 s at
+pub mask_none : (s : List ℕ) (at : ℕ) → length s < at + 4 → None ≡ number_at 4 s at
 unfolding number_at read_number number_in
-mask_short s at h = sym (ap (number_in s) (more_cut 3 0 s at (omega arith)))
+mask_none s at h = sym (ap (number_in s) (more_cut 3 0 s at (omega arith)))
 
-pub mask_past : (s : List ℕ) (at : ℕ) → length s - 4 < at → number.Cut ≡ number_at 4 s at
-unfolding number_at read_number number_in
-mask_past s at h = sym (ap (number_in s) (more_cut 3 0 s at (omega arith)))
-
-pub mask_some : (s : List ℕ) (at a b c d : ℕ) → 4 ≤ length s → at ≤ length s - 4 → ByteIs s at a → ByteIs s (at + 1) b → ByteIs s (at + 2) c → ByteIs s (at + 3) d
-    → number.Of (((a * 256 + b) * 256 + c) * 256 + d) (at + 4) ≡ number_at 4 s at
+pub mask_some : (s : List ℕ) (at : ℕ) (bs : List ℕ) → at + 4 ≤ length s → bs ≡ take 4 (drop at s) → Some (number (from_be_bytes w32 bs) (at + 4)) ≡ number_at 4 s at
 unfolding number_at read_number number_in read_more
-mask_some s at a b c d l h p q x y =
-    ap₂ (λ (n e : ℕ). number.Of n e) (omega arith) (sym (place_drop s (at + 4) (omega arith)))
-    ∙ sym (ap (number_in s) (more_at 3 0 s at _ a refl p.is (omega arith) ∙ more_at 2 _ s _ (at + 2) b (omega arith) q.is (omega arith)
-    ∙ more_at 1 _ s _ (at + 3) c (omega arith) x.is (omega arith) ∙ more_at 0 _ s _ (at + 4) d (omega arith) y.is (omega arith)))
+mask_some s at bs h e =
+    ap₂ (λ (n e : ℕ). Some (number n e))
+    (rw e (omega (arith, taken 4 0 s at at (omega arith) (add-zero at), taken 4 1 s at (at + 1) (omega arith) refl, taken 4 2 s at (at + 2) (omega arith) refl, taken 4 3 s at (at + 3) (omega arith) refl))) (sym (place_drop s (at + 4) h))
+    ∙ sym (ap (number_in s) (more_at 3 0 s at _ _ refl refl (omega arith) ∙ more_at 2 _ s _ (at + 2) _ (omega arith) refl (omega arith)
+    ∙ more_at 1 _ s _ (at + 3) _ (omega arith) refl (omega arith) ∙ more_at 0 _ s _ (at + 4) _ (omega arith) refl (omega arith)))
 
-pub ruleset number_laws = (byte_in, byte_out, count_short, count_past, count_some, mask_short, mask_past, mask_some, rules)
+pub ruleset number_laws = (count_none, count_some, mask_none, mask_some, rules)
 
 -- ---- a text at a place
 
@@ -278,11 +269,11 @@ text_cut_by s p true q h =
     let short : length s - (p + 1) < get_or s p 0 = omega arith in
     text_at_lem s p l ∙ pick_false _ _ _ (lt-leb _ _ short)
 
-module _ (s : List ℕ) (p : ℕ) (r : Next) (g : r ≡ string_at s p) where
-  pub text_is : (a e : ℕ) → r ≡ next.Whole a e → TextIs s p a e
-  text_is a e q = text_whole s p a e (string_whole s p a e r g q)
+module _ (s : List ℕ) (p : ℕ) (r : Option Span) (g : r ≡ string_at s p) where
+  pub text_is : (part : Span) → r ≡ Some part → TextIs s p part.start part.end
+  text_is part q = text_whole s p part.start part.end (string_whole s p part r g q)
 
-  pub text_cut : r ≡ next.Cut → read_text (drop p s) ≡ cut
+  pub text_cut : r ≡ None → read_text (drop p s) ≡ cut
   text_cut q = text_cut_by s p _ refl (string_cut s p r g q)
 
 -- and from what is read, where it stands
@@ -317,13 +308,13 @@ module _ (s : List ℕ) (p a e : ℕ) (t q : List ℕ) (w : TextIs s p a e) (g :
       sym rest ∙ ap (λ (x : ℕ). drop x s) to
 
 module _ (s : List ℕ) (p : ℕ) (t q : List ℕ) (h : read_text (drop p s) ≡ got t q) where
-  text_read_by : (x : Next) → x ≡ string_at s p → TextRead s p t
-  text_read_by (next.Whole a e) g = read_by s p a e t q (text_is s p _ g a e refl) h
-  text_read_by next.Cut g = let c = sym (text_cut s p _ g refl) ∙ h in clash (cc)
+  text_read_by : (x : Option Span) → x ≡ string_at s p → TextRead s p t
+  text_read_by (Some w) g = read_by s p w.start w.end t q (text_is s p _ g w refl) h
+  text_read_by None g = let c = sym (text_cut s p _ g refl) ∙ h in clash (cc)
 
-  text_rest_by : (x : Next) → x ≡ string_at s p → q ≡ drop (p + 1 + length t) s
-  text_rest_by (next.Whole a e) g = rest_by s p a e t q (text_is s p _ g a e refl) h
-  text_rest_by next.Cut g = let c = sym (text_cut s p _ g refl) ∙ h in clash (cc)
+  text_rest_by : (x : Option Span) → x ≡ string_at s p → q ≡ drop (p + 1 + length t) s
+  text_rest_by (Some w) g = rest_by s p w.start w.end t q (text_is s p _ g w refl) h
+  text_rest_by None g = let c = sym (text_cut s p _ g refl) ∙ h in clash (cc)
 
   pub text_read : TextRead s p t
   text_read = text_read_by _ refl

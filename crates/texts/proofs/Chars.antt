@@ -1,6 +1,6 @@
 -- Whether a character stands in a text, as far as place p. Assumes nothing.
 use mathlib.Core.Path.{◌≡◌, refl, sym, ap, ◌∙◌}
-use mathlib.Core.Bool.{Bool, true, false}
+use mathlib.Core.Bool.{Bool, true, false, ◌||◌}
 use mathlib.Core.List.{List, [], ◌∷◌, ◌++◌}
 use Prim.Native.Nat.{ℕ, zero, suc, ◌+◌, ◌-◌, ◌<◌}
 use native.Mathlib.Decide.{dec_lt}
@@ -10,6 +10,7 @@ use lib.Dec.{eqb, ltb, leb-suc-suc, leb-zero}
 use lib.ListN.{length, get_or, drop, drop_of_length-le}
 use lib.Seq.{drop-cons}
 use borrow.Author.Rules.{rules}
+use Rattle.std.specs.List.{list_any}
 use borrow.Author.Tests.{eq-eqb, ne_eqb}
 use Rattle.base.specs.Pick.{pick}
 use Rattle.base.proofs.Arms.{clash}
@@ -35,6 +36,19 @@ has_cons k x l = step_by (eqb x k) (place_of k l) (length l)
 pub has_nil : (k : ℕ) → has k [] ≡ false
 unfolding has place_of
 has_nil k = refl
+
+pub or_is : (t u : Bool) → (t || u) ≡ pick t true u
+unfolding pick
+or_is true u = refl
+or_is false u = refl
+
+has_any : (k : ℕ) (l : List ℕ) → list_any (λ x. eqb x k) l ≡ has k l
+has_any k [] = sym (has_nil k)
+has_any k (x ∷ l) = or_is (eqb x k) _ ∙ ap (pick (eqb x k) true) (has_any k l) ∙ sym (has_cons k x l)
+
+-- as `contains` tells it
+pub has_by : (k : ℕ) (l : List ℕ) (r : Bool) → r ≡ list_any (λ x. eqb x k) l → r ≡ has k l
+has_by k l r e = e ∙ has_any k l
 
 -- ---- a character of one byte
 
@@ -75,11 +89,8 @@ module _ (k : ℕ) (small : k < 0x80) where
     byte_from zero p h = absurd (omega arith)
     byte_from (suc f) p h = byte_by p (decode_at s p) refl (λ q l. byte_from f q (omega arith))
 
-    pub has_byte : (b n : ℕ) → b ≡ k → n ≡ place_of b s → ltb n (length s) ≡ has k (codes_of s)
-    unfolding has
-    has_byte b n e q = rw (q, e) (sym (byte_from (suc (length s)) 0 (omega arith)))
-
-pub ruleset byte_laws = (has_byte, rules)
+    pub has_byte : (r : Bool) → r ≡ list_any (λ x. eqb x k) s → r ≡ has k (codes_of s)
+    has_byte r e = e ∙ has_any k s ∙ sym (byte_from (suc (length s)) 0 (omega arith))
 
 -- ---- the characters of a box, as far as place p
 

@@ -1,27 +1,29 @@
--- A law for each way that the loops and branches of the code can go, and what callers use. Assumes nothing.
-use mathlib.Core.Path.{◌≡◌, refl, sym, ap, ◌∙◌}
-use mathlib.Core.Bool.{Bool, true, false}
+-- What callers use of the parts of texts, and a law for each library method that the code calls. Assumes nothing.
+use mathlib.Core.Path.{◌≡◌, refl, sym, ap, ap₂, ◌∙◌}
+use mathlib.Core.Bool.{Bool, true, false, cond, ◌&&◌}
 use mathlib.Core.List.{List, [], ◌∷◌, ◌++◌}
 use Prim.Native.Nat.{ℕ, zero, suc, ◌+◌, ◌-◌, ◌≤◌, ◌<◌, zero-le}
-use native.Mathlib.Decide.{dec_le}
-use native.Mathlib.Nat.{sub-zero}
-use native.Mathlib.Numerals.{add-one}
+use native.Mathlib.Decide.{dec_le, dec_lt}
 use native.Mathlib.Omega.{arith}
-use lib.Dec.{eqb}
-use lib.ListN.{length, get_or, take, drop, drop_of_length-le, length-drop}
-use lib.Seq.{drop-cons, take_all, take-length}
+use lib.Dec.{eqb, ltb}
+use lib.ListN.{length, get_or, take, drop, length-drop}
+use lib.Seq.{take_all}
 use borrow.Author.Rules.{rules}
-use borrow.Author.Tests.{lt-ltb, le-ltb, eq-eqb, ne_eqb, eqb-true}
+use borrow.Author.Tests.{lt-ltb, le-ltb, eq-eqb, eqb-true}
+use denote.Ref.{Bor}
+use Rattle.std.specs.Prelude.{Option, Some, None}
+use Rattle.std.specs.Option.{unwrap_or, MatchOption}
+use Rattle.std.specs.List.{position, position_or_len}
+use Rattle.std.specs.Cmp.Lexicographic.{pointwise}
+use Rattle.std.proofs.lemmas.List.Recursion.{is_position_or_len}
+use Rattle.std.proofs.lemmas.Bool.Decides.{nat_tests}
+use Rattle.std.proofs.Math.Bool.{and-true, and-false}
 use Rattle.base.specs.Pick.{pick, and}
 use Rattle.texts.specs.Parts.{tail, front, first_is, last_is, place_of, prefix_of, suffix_of, caret, dollar, without_caret, without_dollar}
 use Rattle.base.proofs.Arms.{clash}
-use Rattle.base.proofs.PickLaws.{pick_true, pick_false, and_yes, and_no, and_inv}
+use Rattle.base.proofs.PickLaws.{pick_yes, pick_no, and_yes, and_no, and_inv}
 
 -- ---- the first and the last byte
-
-pub no_byte : (s : List ℕ) (i : ℕ) → length s ≤ 0 → 0 ≡ get_or s i 0
-no_byte [] i h = refl
-no_byte (x ∷ s) i h = absurd (omega arith)
 
 pub first_some : (s : List ℕ) (b : ℕ) → 0 < length s → eqb (get_or s 0 0) b ≡ first_is b s
 unfolding first_is
@@ -58,12 +60,7 @@ last_long b [] e = clash (cc)
 last_long b (x ∷ []) e = omega arith
 last_long b (x ∷ y ∷ l) e = omega arith
 
--- the parts of the code that leave off the first or the last byte
-pub tail_is : (c : List ℕ) → take (length c - 1) (drop 1 c) ≡ tail c
-unfolding tail
-tail_is [] = refl
-tail_is (x ∷ c) = let e : suc (length c) - 1 ≡ length c = omega arith in ap (λ (n : ℕ). take n c) e ∙ take-length c
-
+-- the part that leaves off the last byte
 pub front_is : (c : List ℕ) → take (length c - 1) c ≡ front c
 unfolding front
 front_is [] = refl
@@ -79,24 +76,37 @@ module _ (b : ℕ) (c : List ℕ) (t : Bool) where
 
 -- ---- without the anchors
 
-module _ (c : List ℕ) (t : Bool) where
-  pub caret_off : t ≡ first_is caret c → t ≡ true → take (length c - 1) (drop 1 c) ≡ without_caret c
+drop_tail : (c : List ℕ) → drop 1 c ≡ tail c
+unfolding tail
+drop_tail [] = refl
+drop_tail (x ∷ c) = refl
+
+-- what the test of the code says
+caret_test : (c : List ℕ) → pointwise eqb (take 1 c) (caret ∷ []) ≡ first_is caret c
+unfolding first_is
+caret_test [] = refl
+caret_test (x ∷ c) = and-true (eqb x caret)
+
+dollar_test : (c : List ℕ) → pointwise eqb (drop (length c - 1) c) (dollar ∷ []) ≡ last_is dollar c
+unfolding last_is
+dollar_test [] = refl
+dollar_test (x ∷ []) = and-true (eqb x dollar)
+dollar_test (x ∷ y ∷ l) = let e : suc (suc (length l)) - 1 ≡ suc (suc (length l) - 1) = omega arith in ap (λ (n : ℕ). pointwise eqb (drop n (x ∷ y ∷ l)) (dollar ∷ [])) e ∙ dollar_test (y ∷ l)
+
+module _ (c : List ℕ) where
+  pub caret_off : (o : Option (Bor (List ℕ))) (d r : Bor (List ℕ)) → d.now ≡ c → r ≡ unwrap_or o d
+      → MatchOption o (pointwise eqb (take 1 c) (caret ∷ []) ≡ false) (λ x. (pointwise eqb (take 1 c) (caret ∷ []) ≡ true) × (x.now ≡ drop 1 c) × (length x.now + 1 ≡ length c))
+      → r.now ≡ without_caret c
   unfolding without_caret
-  caret_off e q = tail_is c ∙ sym (pick_true _ _ _ (sym e ∙ q))
+  caret_off None d r e q m = pick_no _ _ _ _ (sym (caret_test c) ∙ m) (ap (λ (x : Bor (List ℕ)). x.now) q ∙ e)
+  caret_off (Some x) d r e q m = pick_yes _ _ _ _ (sym (caret_test c) ∙ m.0) (ap (λ (x : Bor (List ℕ)). x.now) q ∙ m.1 ∙ drop_tail c)
 
-  pub caret_none : t ≡ first_is caret c → t ≡ false → c ≡ without_caret c
-  unfolding without_caret
-  caret_none e q = sym (pick_false _ _ _ (sym e ∙ q))
-
-  pub dollar_off : t ≡ last_is dollar c → t ≡ true → take (length c - 1 - 0) c ≡ without_dollar c
+  pub dollar_off : (o : Option (Bor (List ℕ))) (d r : Bor (List ℕ)) → d.now ≡ c → r ≡ unwrap_or o d
+      → MatchOption o (pointwise eqb (drop (length c - 1) c) (dollar ∷ []) ≡ false) (λ x. (pointwise eqb (drop (length c - 1) c) (dollar ∷ []) ≡ true) × (x.now ≡ take (length c - 1) c) × (length x.now + 1 ≡ length c))
+      → r.now ≡ without_dollar c
   unfolding without_dollar
-  dollar_off e q = ap (λ (n : ℕ). take n c) (sub-zero (length c - 1)) ∙ front_is c ∙ sym (pick_true _ _ _ (sym e ∙ q))
-
-  pub dollar_none : t ≡ last_is dollar c → t ≡ false → c ≡ without_dollar c
-  unfolding without_dollar
-  dollar_none e q = sym (pick_false _ _ _ (sym e ∙ q))
-
-pub ruleset anchor_laws = (first_some_by, last_some_by, caret_off, caret_none, dollar_off, dollar_none, rules)
+  dollar_off None d r e q m = pick_no _ _ _ _ (sym (dollar_test c) ∙ m) (ap (λ (x : Bor (List ℕ)). x.now) q ∙ e)
+  dollar_off (Some x) d r e q m = pick_yes _ _ _ _ (sym (dollar_test c) ∙ m.0) (ap (λ (x : Bor (List ℕ)). x.now) q ∙ m.1 ∙ front_is c)
 
 -- ---- where a byte stands
 
@@ -110,31 +120,19 @@ unfolding place_of
 place_most b [] = zero-le
 place_most b (x ∷ xs) = pick_most (eqb x b) (place_of b xs) (length xs) (place_most b xs)
 
--- as far as place i
-pub record Looking (b : ℕ) (s : List ℕ) (i : ℕ) : Type 0 where
-  pub within : i ≤ length s
-  pub is : place_of b s ≡ i + place_of b (drop i s)
+place_is : (b : ℕ) (s : List ℕ) → place_of b s ≡ position_or_len (λ x. eqb x b) s
+unfolding place_of pick
+place_is b = is_position_or_len (place_of b) (λ x. eqb x b) refl (λ x xs. search rules)
 
-pub looking_start : (b : ℕ) (s : List ℕ) → Looking b s 0
-looking_start b s = record { within = zero-le; is = omega arith }
+at_or_len : (n m k : ℕ) → n ≡ m → n ≤ k → unwrap_or (cond (ltb m k) (Some m) None) k ≡ n
+at_or_len n m k e h = elim (dec_lt m k) [
+  | yes l ↦ rw (lt-ltb m k l) (sym e)
+  | no l ↦ let g : k ≤ m = omega arith in rw (le-ltb m k g) (omega arith)
+]
 
-module _ {b : ℕ} {s : List ℕ} {i : ℕ} (w : Looking b s i) where
-  pub looking_next : i < length s → (get_or s i 0 ≡ b → ⊥) → Looking b s (i + 1)
-  unfolding place_of pick
-  looking_next h n = record {
-    within = omega arith;
-    is =
-        let e : place_of b (drop i s) ≡ suc (place_of b (drop (i + 1) s)) = rw (add-one, drop-cons s i 0) (simp (ne_eqb _ _ n)) in
-        omega (arith, w.is);
-  }
-
-  pub looking_found : i < length s → get_or s i 0 ≡ b → i ≡ place_of b s
-  unfolding place_of pick
-  looking_found h e = let f : place_of b (drop i s) ≡ 0 = rw (drop-cons s i 0) (simp (eq-eqb _ _ e)) in omega (arith, w.is)
-
-  pub looking_none : length s ≤ i → i ≡ place_of b s
-  unfolding place_of
-  looking_none h = let f : place_of b (drop i s) ≡ 0 = rw (drop_of_length-le s h) refl in omega (arith, w.is)
+-- where a search for it ends
+pub place_by : (b : ℕ) (s : List ℕ) (o : Option ℕ) (r : ℕ) → r ≡ unwrap_or o (length s) → o ≡ position (λ x. eqb x b) s → r ≡ place_of b s
+place_by b s o r q e = q ∙ ap (λ (x : Option ℕ). unwrap_or x (length s)) e ∙ at_or_len (place_of b s) _ _ (place_is b s) (place_most b s)
 
 -- ---- beginnings and ends
 
@@ -177,41 +175,34 @@ prefix_nested (x ∷ t) (y ∷ u) (z ∷ s) e f h =
     let b = and_inv (eqb z y) _ f in
     and_yes _ _ (eq-eqb y x (sym (eqb-true z y b.0) ∙ eqb-true z x a.0)) (prefix_nested t u s a.1 b.1 (omega arith))
 
-pub record Matching (t s : List ℕ) (i : ℕ) : Type 0 where
-  pub fits : length t ≤ length s
-  pub within : i ≤ length t
-  pub is : prefix_of t s ≡ prefix_of (drop i t) (drop i s)
+-- the library's words for it
+and_is : (t u : Bool) → (t && u) ≡ and t u
+unfolding and
+and_is true u = refl
+and_is false u = refl
 
-pub matching_start : (t s : List ℕ) → length t ≤ length s → Matching t s 0
-matching_start t s h = record { fits = h; within = zero-le; is = refl }
+eqb_swap : (x y : ℕ) → eqb x y ≡ eqb y x
+eqb_swap x y = grind (arith, nat_tests)
 
-module _ {t s : List ℕ} {i : ℕ} (w : Matching t s i) where
-  step : i < length t → prefix_of (drop i t) (drop i s) ≡ and (eqb (get_or s i 0) (get_or t i 0)) (prefix_of (drop (i + 1) t) (drop (i + 1) s))
-  unfolding prefix_of
-  step h = let g : i < length s = omega (arith, w.fits) in rw (add-one, drop-cons t i 0, drop-cons s i 0) refl
+pub starts_prefix : (t s : List ℕ) → pointwise eqb t (take (length t) s) ≡ prefix_of t s
+unfolding prefix_of
+starts_prefix [] s = refl
+starts_prefix (x ∷ t) [] = refl
+starts_prefix (x ∷ t) (y ∷ s) = and_is (eqb x y) _ ∙ ap₂ and (eqb_swap x y) (starts_prefix t s)
 
-  pub matching_in : i < length t → i < length s
-  matching_in h = omega (arith, w.fits)
+other_length : (t s : List ℕ) → (length t ≡ length s → ⊥) → pointwise eqb t s ≡ false
+other_length [] [] h = absurd (h refl)
+other_length [] (y ∷ s) h = refl
+other_length (x ∷ t) [] h = refl
+other_length (x ∷ t) (y ∷ s) h = rw (other_length t s (λ e. h (ap suc e))) (and-false (eqb x y))
 
-  pub matching_next : i < length t → get_or s i 0 ≡ get_or t i 0 → Matching t s (i + 1)
-  unfolding and
-  matching_next h e = record { fits = w.fits; within = omega arith; is = w.is ∙ step h ∙ simp (eq-eqb _ _ e) }
-
-  pub matching_stop : i < length t → (get_or s i 0 ≡ get_or t i 0 → ⊥) → false ≡ prefix_of t s
-  unfolding and
-  matching_stop h n = sym (w.is ∙ step h ∙ simp (ne_eqb _ _ n))
-
-  pub matching_done : length t ≤ i → true ≡ prefix_of t s
-  unfolding prefix_of
-  matching_done h = sym (w.is ∙ rw (drop_of_length-le t h) refl)
-
-pub suffix_short : (t s : List ℕ) → length s < length t → false ≡ suffix_of t s
+pub ends_suffix : (t s : List ℕ) → pointwise eqb t (drop (length s - length t) s) ≡ suffix_of t s
 unfolding suffix_of
-suffix_short t s h = sym (pick_true _ _ _ (lt-ltb _ _ h))
+ends_suffix t s = elim (dec_lt (length s) (length t)) [
+  | yes h ↦ pick_yes _ _ _ _ (lt-ltb _ _ h) (other_length t (drop (length s - length t) s) (omega (arith, length-drop (length s - length t) s)))
+  | no h ↦
+      let size : length (drop (length s - length t) s) ≡ length t = omega (arith, length-drop (length s - length t) s) in
+      pick_no _ _ _ _ (le-ltb _ _ (omega arith)) (sym (ap (pointwise eqb t) (take_all (length t) (drop (length s - length t) s) (omega arith))) ∙ starts_prefix t (drop (length s - length t) s))
+]
 
-pub suffix_by : (t s : List ℕ) (r : Bool) → length t ≤ length s → r ≡ prefix_of t (take (length s - (length s - length t)) (drop (length s - length t) s)) → r ≡ suffix_of t s
-unfolding suffix_of
-suffix_by t s r h e =
-    e ∙ ap (prefix_of t) (take_all (length s - (length s - length t)) (drop (length s - length t) s) (rw length-drop (omega arith))) ∙ sym (pick_false _ _ _ (le-ltb _ _ h))
-
-pub ruleset parts_laws = (no_byte, first_some, first_none, last_some, last_none, looking_start, looking_next, looking_found, looking_none, prefix_short, matching_start, matching_in, matching_next, matching_stop, matching_done, suffix_short, suffix_by, rules)
+pub ruleset parts_laws = (first_some, first_none, last_some, last_none, starts_prefix, ends_suffix, rules)

@@ -15,11 +15,9 @@ pub fn bit_of(b: u8) -> u64
 pub fn signature(s: &[u8]) -> u64
     ensures { result ≡ signature_of s.now }
 {
-    let mut i: usize = 0;
-    let mut bits: u64 = 0;
-    while i < s.len() {
-        bits = bits | bit_of(s[i]);
-        i += 1;
+    let mut bits = 0;
+    for b in s {
+        bits |= bit_of(*b);
     }
     bits
 }

@@ -1,4 +1,4 @@
--- Writing what fits: what the crates above use of it, and a law for each way that `push` and `copy` can go. Assumes nothing.
+-- Writing what fits: what the crates above use of it, and a law for each way that `copy` can go. Assumes nothing.
 use mathlib.Core.Path.{◌≡◌, refl, sym, ap, ◌∙◌}
 use mathlib.Core.List.{List, [], ◌∷◌, ◌++◌}
 use Prim.Native.Nat.{ℕ, suc, ◌+◌, ◌*◌, ◌≤◌, ◌<◌, min}
@@ -48,14 +48,7 @@ put_fits {o} {o'} {r} {t} x h =
     let e : r ≡ length t = omega (arith, x.ends, x.room) in
     (e, rw (x.wrote, sets-eq t o 0 (omega arith)) (take_at t _ r (sym e)))
 
--- ---- `push` and `copy`
-
--- past the end nothing is stored
-pub put_past : (o : List ℕ) (at b : ℕ) → length o < cap → length o ≤ at → at < cap → Put o o at (at + 1) (b ∷ [])
-put_past o at b r h k = record { wrote = sym (set_out o at b h); ends = omega arith; room = r }
-
-pub put_last : (o : List ℕ) (at b : ℕ) → length o < cap → length o ≤ at → cap ≤ at → Put o o at cap (b ∷ [])
-put_last o at b r h k = record { wrote = sym (set_out o at b h); ends = omega arith; room = r }
+-- ---- `copy`
 
 -- the bytes of s before i are written
 pub put_start : (o : List ℕ) (at p : ℕ) → length o < cap → p ≡ min at cap → Put o o at p []
@@ -68,4 +61,4 @@ module _ (o o₁ : List ℕ) (at p i : ℕ) (s : List ℕ) (x : Put o o₁ at p 
   pub put_all : length s ≤ i → Put o o₁ at p s
   put_all h = rw (take_all i s h) at x
 
-pub ruleset writing_laws = (slice_room, put_long, put_past, put_last, put_start, put_more, put_all, rules)
+pub ruleset writing_laws = (slice_room, put_start, put_more, put_all, rules)

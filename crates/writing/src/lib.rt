@@ -9,25 +9,13 @@ ghost use Rattle.writing.specs.InnerContracts.{Put, cap};
 const CAP: usize = 0x8000_0000_0000_0000;
 
 // Writes b at the place, where there is room, and gives the next place.
-#[tactic(auto, using(crate::proofs::Laws::writing_laws))]
 pub fn push(out: &mut [u8], at: usize, b: u8) -> usize
     ensures { Put out.old out.new at result (b ∷ mathlib.Core.List.[]) }
 {
     if at < out.len() {
         out[at] = b;
-        at + 1
-    } else if at < CAP {
-        at + 1
-    } else {
-        CAP
     }
-}
-
-// The place, or the last that there is.
-fn place_of(at: usize) -> usize
-    ensures { result ≡ min at cap }
-{
-    if at < CAP { at } else { CAP }
+    at.min(CAP - 1) + 1
 }
 
 // Writes s from the place on, as far as there is room.
@@ -35,11 +23,9 @@ fn place_of(at: usize) -> usize
 pub fn copy(s: &[u8], out: &mut [u8], at: usize) -> usize
     ensures { Put out.old out.new at result s.now }
 {
-    let mut p = place_of(at);
-    let mut i: usize = 0;
-    while i < s.len() {
-        p = push(out, p, s[i]);
-        i += 1;
+    let mut p = at.min(CAP);
+    for b in s {
+        p = push(out, p, *b);
     }
     p
 }

@@ -1,5 +1,5 @@
 use Rattle.writing.proofs.Laws.{writing_laws}
 use Rattle.writing.proofs.copy.Goals as goal
 
-pub loop-i-preserved : goal.loop-i-preserved
-loop-i-preserved c = search writing_laws
+pub loop-b-preserved : goal.loop-b-preserved
+loop-b-preserved c = search writing_laws
