@@ -13,7 +13,7 @@ use Rattle.base.specs.Pick.{pick}
 use Rattle.languages.specs.Sets.{narrowed, is_empty}
 use Rattle.languages.specs.declared.sets.LanguageSet.{LanguageSet}
 use Rattle.letters.specs.Order.{order_of}
-use Rattle.letters.specs.declared.order.Order.TheVariants.{Less, Equal}
+use Rattle.std.specs.declared.cmp.Ordering.TheVariants.{Less, Equal}
 use Rattle.letters.proofs.StrictOrder.{compare_refl, compare_trans}
 use Rattle.choices.specs.Texts.{Text, by_order}
 use Rattle.choices.specs.Apply.{Alternative, Entry, texts_of, NextSet, overlong, next_set, join, insert, under, candidates, enter, apply}

@@ -12,8 +12,8 @@ use borrow.Author.Tests.{ltb-false, leb-true, leb-false}
 use Rattle.base.specs.Pick.{pick}
 use Rattle.choices.specs.Texts.{Text, by_order}
 use Rattle.letters.specs.Order.{order_of}
-use Rattle.letters.specs.declared.order.Order.{Order}
-use Rattle.letters.specs.declared.order.Order.TheVariants.{Less, Equal, Greater}
+use Rattle.std.specs.declared.cmp.Ordering.{Ordering}
+use Rattle.std.specs.declared.cmp.Ordering.TheVariants.{Less, Equal, Greater}
 use Rattle.choices.specs.Apply.{Entry, texts_of, insert, enter, NextSet, overlong, next_set}
 use Rattle.choices.specs.Choices.{Holds, first, later, First, Increasing, times}
 use Rattle.languages.specs.declared.sets.LanguageSet.{LanguageSet}
@@ -24,7 +24,7 @@ use Rattle.base.proofs.Arms.{clash}
 
 module _ (e x : Entry) (l : List Entry) where
   module _ {t : Text} {g : LanguageSet} where
-    sound_by : (o : Order) → (Holds (insert e l) t g → ((e.text ≡ t) × (e.langs ≡ g)) ⊎ Holds l t g)
+    sound_by : (o : Ordering) → (Holds (insert e l) t g → ((e.text ≡ t) × (e.langs ≡ g)) ⊎ Holds l t g)
         → Holds (by_order o (x ∷ insert e l) (x ∷ l) (e ∷ x ∷ l)) t g → ((e.text ≡ t) × (e.langs ≡ g)) ⊎ Holds (x ∷ l) t g
     unfolding by_order
     sound_by Less ih (first p q) = inr (first p q)
@@ -37,14 +37,14 @@ module _ (e x : Entry) (l : List Entry) where
     sound_by Greater ih (first p q) = inl (p, q)
     sound_by Greater ih (later h) = inr h
 
-    keeps_by : (o : Order) → (Holds l t g → Holds (insert e l) t g) → Holds (x ∷ l) t g → Holds (by_order o (x ∷ insert e l) (x ∷ l) (e ∷ x ∷ l)) t g
+    keeps_by : (o : Ordering) → (Holds l t g → Holds (insert e l) t g) → Holds (x ∷ l) t g → Holds (by_order o (x ∷ insert e l) (x ∷ l) (e ∷ x ∷ l)) t g
     unfolding by_order
     keeps_by Less ih (first p q) = first p q
     keeps_by Less ih (later h) = later (ih h)
     keeps_by Equal ih h = h
     keeps_by Greater ih h = later h
 
-  has_by : (o : Order) → order_of x.text e.text ≡ o → (g : LanguageSet) × Holds (insert e l) e.text g
+  has_by : (o : Ordering) → order_of x.text e.text ≡ o → (g : LanguageSet) × Holds (insert e l) e.text g
       → (g : LanguageSet) × Holds (by_order o (x ∷ insert e l) (x ∷ l) (e ∷ x ∷ l)) e.text g
   unfolding by_order
   has_by Less q ih = (ih.0, later ih.1)
@@ -72,7 +72,7 @@ insert_has e (x ∷ l) = has_by e x l (order_of x.text e.text) refl (insert_has 
 
 -- ---- the order is kept
 
-first_by : (s : Text) (e x : Entry) (l : List Entry) (o : Order) → order_of s e.text ≡ Less → order_of s x.text ≡ Less
+first_by : (s : Text) (e x : Entry) (l : List Entry) (o : Ordering) → order_of s e.text ≡ Less → order_of s x.text ≡ Less
     → First s (texts_of (by_order o (x ∷ insert e l) (x ∷ l) (e ∷ x ∷ l)))
 unfolding First by_order
 first_by s e x l Less d p = p
@@ -84,7 +84,7 @@ unfolding First insert
 insert_first s e [] d f = d
 insert_first s e (x ∷ l) d f = first_by s e x l (order_of x.text e.text) d f
 
-increasing_by : (e x : Entry) (l : List Entry) (o : Order) → order_of x.text e.text ≡ o → First x.text (texts_of l) → Increasing (texts_of l)
+increasing_by : (e x : Entry) (l : List Entry) (o : Ordering) → order_of x.text e.text ≡ o → First x.text (texts_of l) → Increasing (texts_of l)
     → Increasing (texts_of (insert e l)) → Increasing (texts_of (by_order o (x ∷ insert e l) (x ∷ l) (e ∷ x ∷ l)))
 unfolding Increasing First by_order
 increasing_by e x l Less q f i ih = (insert_first x.text e l q f, ih)
@@ -100,7 +100,7 @@ insert_increasing e (x ∷ l) i = increasing_by e x l (order_of x.text e.text) r
 
 -- the one that stands before, then the other: by the order of the text at the front and each of them
 module _ (e f : Entry) (before : order_of e.text f.text ≡ Less) where
-  swap_by : (x : Entry) (l : List Entry) (o p : Order) → order_of x.text e.text ≡ o → order_of x.text f.text ≡ p
+  swap_by : (x : Entry) (l : List Entry) (o p : Ordering) → order_of x.text e.text ≡ o → order_of x.text f.text ≡ p
       → insert f (insert e l) ≡ insert e (insert f l) → insert f (insert e (x ∷ l)) ≡ insert e (insert f (x ∷ l))
   unfolding insert by_order
   swap_by x l Less p q r ih = simp (q, compare_trans x.text e.text f.text q before) (ap (◌∷◌ x) ih)
@@ -120,7 +120,7 @@ module _ (e f : Entry) (before : order_of e.text f.text ≡ Less) where
 pub insert_either : (e f : Entry) → (e.text ≡ f.text → ⊥) → (l : List Entry) → insert f (insert e l) ≡ insert e (insert f l)
 insert_either e f apart l = go (order_of e.text f.text) refl
   where
-    go : (o : Order) → order_of e.text f.text ≡ o → insert f (insert e l) ≡ insert e (insert f l)
+    go : (o : Ordering) → order_of e.text f.text ≡ o → insert f (insert e l) ≡ insert e (insert f l)
     go Less q = insert_swap e f q l
     go Equal q = absurd (apart (compare_same _ _ q))
     go Greater q = sym (insert_swap f e (compare_flip _ _ q) l)
@@ -128,7 +128,7 @@ insert_either e f apart l = go (order_of e.text f.text) refl
 -- ---- a text of an increasing list stands there once
 
 -- t stands before all of l, so it is not among them
-none_by : (t x : Text) (n : ℕ) (o : Order) → order_of x t ≡ o → order_of t x ≡ Less → n ≡ 0 → by_order o n (suc n) n ≡ 0
+none_by : (t x : Text) (n : ℕ) (o : Ordering) → order_of x t ≡ o → order_of t x ≡ Less → n ≡ 0 → by_order o n (suc n) n ≡ 0
 unfolding by_order
 none_by t x n Less q d z = z
 none_by t x n Equal q d z =
@@ -143,7 +143,7 @@ times_none t (x ∷ []) f i = none_by t x _ (order_of x t) refl f refl
 times_none t (x ∷ y ∷ ts) f i = none_by t x _ (order_of x t) refl f (times_none t (y ∷ ts) (compare_trans t x y f i.0) i.1)
 
 -- x stands before all of ts, and t is among them
-once_by : (t x : Text) (n : ℕ) (o : Order) → order_of x t ≡ o → (x ≡ t → n ≡ 0) → (x ≡ t) ⊎ (n ≡ 1) → by_order o n (suc n) n ≡ 1
+once_by : (t x : Text) (n : ℕ) (o : Ordering) → order_of x t ≡ o → (x ≡ t → n ≡ 0) → (x ≡ t) ⊎ (n ≡ 1) → by_order o n (suc n) n ≡ 1
 unfolding by_order
 once_by t x n Less q z (inl p) =
     let e : order_of x t ≡ Equal = rw p (compare_refl t) in

@@ -9,8 +9,8 @@ use borrow.Author.Tests.{eqb-true}
 use Rattle.base.specs.Pick.{pick}
 use Rattle.choices.specs.Texts.{Text, by_order}
 use Rattle.letters.specs.Order.{order_of}
-use Rattle.letters.specs.declared.order.Order.{Order}
-use Rattle.letters.specs.declared.order.Order.TheVariants.{Less, Equal, Greater}
+use Rattle.std.specs.declared.cmp.Ordering.{Ordering}
+use Rattle.std.specs.declared.cmp.Ordering.TheVariants.{Less, Equal, Greater}
 use Rattle.choices.specs.Apply.{Places, Entry, candidates, start}
 use Rattle.choices.specs.Choices.{Choice, end, choose, spelt, leaves, Holds, first, later}
 use Rattle.languages.specs.declared.sets.LanguageSet.{LanguageSet}
@@ -67,7 +67,7 @@ unfoldable pub fits : Entry → List Entry → Bool
 fits e [] = true
 fits e (x ∷ l) = pick (by_order (order_of e.text x.text) true (same_set e.langs x.langs) true) (fits e l) false
 
-fits_by : (e x : Entry) (o : Order) → order_of e.text x.text ≡ o → by_order o true (same_set e.langs x.langs) true ≡ true
+fits_by : (e x : Entry) (o : Ordering) → order_of e.text x.text ≡ o → by_order o true (same_set e.langs x.langs) true ≡ true
     → e.text ≡ x.text → e.langs ≡ x.langs
 unfolding by_order
 fits_by e x Less q f p =

@@ -2,7 +2,7 @@
 use Rattle.std.specs.Prelude.{ℕ, suc, ◌≡◌, false, List, [], ◌∷◌, ◌++◌}
 use Rattle.choices.specs.Texts.{Text, by_order}
 use Rattle.letters.specs.Order.{order_of}
-use Rattle.letters.specs.declared.order.Order.TheVariants.{Less}
+use Rattle.std.specs.declared.cmp.Ordering.TheVariants.{Less}
 use Rattle.languages.specs.Sets.{narrowed, is_empty}
 use Rattle.choices.specs.Apply.{Alternative, Places, Entry}
 use Rattle.languages.specs.declared.sets.LanguageSet.{LanguageSet}

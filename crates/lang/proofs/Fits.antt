@@ -3,11 +3,11 @@
 use mathlib.Core.Path.{◌≡◌, refl, sym, ap, ap₂, ◌∙◌}
 use mathlib.Core.Bool.{Bool, true, false, not}
 use mathlib.Core.List.{List, [], ◌∷◌}
-use Prim.Native.Nat.{ℕ, ◌+◌, ◌-◌, ◌≤◌, ◌<◌, zero-le}
-use lib.Dec.{leb, eqb}
+use Prim.Native.Nat.{ℕ, ◌+◌, ◌-◌}
+use lib.Dec.{eqb}
 use lib.ListN.{length, take, drop}
 use borrow.Author.Rules.{rules}
-use borrow.Author.Tests.{leb-true, leb-false}
+use borrow.Author.Tests.{eqb-true, eqb-false}
 use Rattle.base.specs.Pick.{and}
 use Rattle.letters.specs.Utf8.{decode_at}
 use Rattle.letters.specs.Reading.{codes_of}
@@ -17,7 +17,7 @@ use Rattle.letters.proofs.CodesLaws.{codes_char, codes_ill, codes_end}
 use Rattle.letters.proofs.ReadingLaws.{step_laws}
 use Rattle.texts.specs.Parts.{first_is, last_is, has, caret, dollar, opening, without_caret}
 use Rattle.lang.specs.Patterns.{Piece, middle, inside_of, box_piece, char_piece, piece_at, length_at, pattern_pieces, takes, fits_at, fits_anywhere, matches_in, matches_of}
-use Rattle.lang.proofs.PieceLaws.{next_fits, piece_box, piece_char, next_within, next_pieces, pieces_none}
+use Rattle.lang.proofs.PieceLaws.{piece_box, piece_char, next_within, next_pieces, pieces_none}
 use Rattle.base.proofs.PickLaws.{pick_true, pick_false, pick_yes, pick_no, and_first}
 use Rattle.texts.proofs.Laws.{first_some_by}
 
@@ -57,52 +57,46 @@ module _ (l : List ℕ) (k : ℕ) (t : Bool) (e : t ≡ first_is opening l) (r :
 
 pub ruleset takes_laws = (first_some_by, box_negated, box_plain_lem, takes_char, takes_ill, takes_end, takes_box, takes_other, rules)
 
--- ---- the pieces from a place on: as far as q in the pattern and `at` in the name
+-- ---- the pieces from a place on: the pieces of s are left, and the name from `at` on
 
-pub record Fitting (t : List ℕ) (end : Bool) (name : List ℕ) (from q at : ℕ) : Type 0 where
-  pub within : q ≤ length t
-  pub is : fits_at (pattern_pieces t) end (codes_of (drop from name)) ≡ fits_at (pattern_pieces (drop q t)) end (codes_of (drop at name))
+pub record Fitting (t : List ℕ) (end : Bool) (name : List ℕ) (from : ℕ) (s : List ℕ) (at : ℕ) : Type 0 where
+  pub is : fits_at (pattern_pieces t) end (codes_of (drop from name)) ≡ fits_at (pattern_pieces s) end (codes_of (drop at name))
 
-pub fitting_start : (t : List ℕ) (end : Bool) (name : List ℕ) (from : ℕ) → Fitting t end name from 0 from
-fitting_start t end name from = record { within = zero-le; is = refl }
+pub fitting_start : (t : List ℕ) (end : Bool) (name : List ℕ) (from : ℕ) → Fitting t end name from t from
+fitting_start t end name from = record { is = refl }
 
-module _ {t : List ℕ} {end : Bool} {name : List ℕ} {from q at : ℕ} (w : Fitting t end name from q at) (r : Step) (e : r ≡ decode_at name at) where
-  rest : List ℕ
-  rest = take (length t - q) (drop q t)
-
+module _ {t : List ℕ} {end : Bool} {name : List ℕ} {from : ℕ} {s : List ℕ} {at : ℕ} (w : Fitting t end name from s at) (r : Step) (e : r ≡ decode_at name at) where
   -- no piece is left
-  pub fitting_over : (k n : ℕ) → r ≡ Char k n → length t ≤ q → not end ≡ fits_at (pattern_pieces t) end (codes_of (drop from name))
+  pub fitting_over : (k n : ℕ) → r ≡ Char k n → length s ≡ 0 → not end ≡ fits_at (pattern_pieces t) end (codes_of (drop from name))
   unfolding fits_at
-  fitting_over k n u h = sym (w.is ∙ ap₂ (λ (xs : List Piece) (cs : List ℕ). fits_at xs end cs) (pieces_none t q h) (codes_char name at k n (sym e ∙ u)))
+  fitting_over k n u h = sym (w.is ∙ ap₂ (λ (xs : List Piece) (cs : List ℕ). fits_at xs end cs) (pieces_none s h) (codes_char name at k n (sym e ∙ u)))
 
-  step : (k n m : ℕ) → r ≡ Char k n → q < length t → m ≡ length_at rest
-      → fits_at (pattern_pieces t) end (codes_of (drop from name)) ≡ and (takes (piece_at rest) k) (fits_at (pattern_pieces (drop (q + m) t)) end (codes_of (drop (at + n) name)))
-  unfolding fits_at rest
-  step k n m u h f = w.is ∙ ap₂ (λ (xs : List Piece) (cs : List ℕ). fits_at xs end cs) (next_pieces t q m h f) (codes_char name at k n (sym e ∙ u))
+  module _ (k n : ℕ) (u : r ≡ Char k n) (h : length s ≡ 0 → ⊥) (b : Bool) (f : b ≡ takes (piece_at s) k) where
+    step : (m : ℕ) → m ≡ length_at s → fits_at (pattern_pieces t) end (codes_of (drop from name)) ≡ and b (fits_at (pattern_pieces (take (length s - m) (drop m s))) end (codes_of (drop (at + n) name)))
+    unfolding fits_at
+    step m g =
+        w.is ∙ ap₂ (λ (xs : List Piece) (cs : List ℕ). fits_at xs end cs) (next_pieces s m h g) (codes_char name at k n (sym e ∙ u)) ∙ rw (sym f) refl
 
-  pub fitting_next : (k n m : ℕ) (b : Bool) → r ≡ Char k n → q < length t → b ≡ takes (piece_at (take (length t - q) (drop q t))) k → b ≡ true → m ≡ length_at (take (length t - q) (drop q t)) → Fitting t end name from (q + m) (at + n)
-  unfolding rest and
-  fitting_next k n m b u h f p g = record { within = next_within t q m h g; is = step k n m u h g ∙ simp (sym f ∙ p) }
+    pub fitting_next : (m : ℕ) → b ≡ true → m ≡ length_at s → Fitting t end name from (take (length s - m) (drop m s)) (at + n)
+    unfolding and
+    fitting_next m p g = record { is = step m g ∙ rw p refl }
 
-  pub fitting_stop : (k n : ℕ) (b : Bool) → r ≡ Char k n → q < length t → b ≡ takes (piece_at (take (length t - q) (drop q t))) k → b ≡ false → false ≡ fits_at (pattern_pieces t) end (codes_of (drop from name))
-  unfolding rest
-  fitting_stop k n b u h f p = sym (step k n _ u h refl ∙ and_first _ _ (sym f ∙ p))
+    pub fitting_stop : b ≡ false → false ≡ fits_at (pattern_pieces t) end (codes_of (drop from name))
+    fitting_stop p = sym (step _ refl ∙ and_first _ _ p)
 
-  pub fitting_past : r ≡ Ill → Fitting t end name from q (at + 1)
-  fitting_past u = record { within = w.within; is = w.is ∙ ap (fits_at (pattern_pieces (drop q t)) end) (codes_ill name at (sym e ∙ u)) }
+  pub fitting_past : r ≡ Ill → Fitting t end name from s (at + 1)
+  fitting_past u = record { is = w.is ∙ ap (fits_at (pattern_pieces s) end) (codes_ill name at (sym e ∙ u)) }
 
-  over : r ≡ End → (b : Bool) → leb (length t) q ≡ b → b ≡ fits_at (pattern_pieces t) end (codes_of (drop from name))
+  over : (b : Bool) → eqb (length s) 0 ≡ b → fits_at (pattern_pieces s) end [] ≡ b
   unfolding fits_at
-  over u true f =
-      sym (w.is ∙ ap₂ (λ (xs : List Piece) (cs : List ℕ). fits_at xs end cs) (pieces_none t q (leb-true (length t) q f)) (codes_end name at (sym e ∙ u)))
-  over u false f =
-      sym (w.is ∙ ap₂ (λ (xs : List Piece) (cs : List ℕ). fits_at xs end cs) (next_pieces t q _ (leb-false (length t) q f) refl) (codes_end name at (sym e ∙ u)))
+  over true f = ap (λ (xs : List Piece). fits_at xs end []) (pieces_none s (eqb-true (length s) 0 f))
+  over false f = ap (λ (xs : List Piece). fits_at xs end []) (next_pieces s _ (eqb-false (length s) 0 f) refl)
 
   -- the name is at its end
-  pub fitting_end : r ≡ End → leb (length t) q ≡ fits_at (pattern_pieces t) end (codes_of (drop from name))
-  fitting_end u = over u (leb (length t) q) refl
+  pub fitting_end : r ≡ End → eqb (length s) 0 ≡ fits_at (pattern_pieces t) end (codes_of (drop from name))
+  fitting_end u = sym (w.is ∙ ap (fits_at (pattern_pieces s) end) (codes_end name at (sym e ∙ u)) ∙ over _ refl)
 
-pub ruleset fitting_laws = (fitting_start, fitting_over, fitting_next, fitting_stop, fitting_past, fitting_end, step_laws, next_fits, rules)
+pub ruleset fitting_laws = (fitting_start, fitting_over, fitting_next, fitting_stop, fitting_past, fitting_end, step_laws, next_within, rules)
 
 -- ---- any place, as far as `at`
 

@@ -3,14 +3,16 @@ use mathlib.Core.Path.{◌≡◌, refl, sym, ap, subst, ◌∙◌}
 use mathlib.Core.Bool.{Bool, true, false, false≢true}
 use mathlib.Core.List.{List, [], ◌∷◌}
 use mathlib.Core.Logic.{⊎_elim}
-use Prim.Native.Nat.{ℕ, ◌+◌, ◌-◌, ◌≤◌, ◌<◌}
-use lib.Bits.{bit_or, and_zero_r, or_zero_l, or_zero_r}
+use Prim.Native.Nat.{ℕ, ◌+◌, ◌-◌}
+use lib.Bits.{bit_or, and_zero_r, or_zero_l}
 use lib.ListN.{length, take, drop}
 use borrow.Author.Rules.{rules}
 use borrow.Author.Tests.{eqb-true}
+use Rattle.std.specs.Prelude.{Option, Some, None}
+use Rattle.std.specs.Bool.{then_some}
 use Rattle.base.specs.Pick.{pick}
 use Rattle.base.proofs.Bits.{or_assoc}
-use Rattle.base.proofs.PickLaws.{pick_true, pick_false, pick_inv, and_inv}
+use Rattle.base.proofs.PickLaws.{pick_inv, and_inv}
 use Rattle.letters.specs.Utf8.{decode_at}
 use Rattle.letters.specs.Reading.{codes_of}
 use Rattle.letters.specs.declared.utf8.Step.{Step}
@@ -22,9 +24,9 @@ use Rattle.texts.specs.Signatures.{has_bits}
 use Rattle.texts.proofs.SignatureLaws.{Has, both, has_self, has_first, has_second}
 use Rattle.lang.specs
 use specs.Patterns.{Piece, exactly, box, stray, middle, box_piece, char_piece, piece_at, length_at, pattern_pieces, takes, fits_at, fits_anywhere, matches_in, matches_of}
-use specs.InnerContracts.{pair_bit, pair_where, pairs_from, pairs_of, pairs_needed, pairs_required, front_char}
+use specs.InnerContracts.{pair_bit, pair_where, pairs_from, pairs_of, pairs_needed, pairs_required, pair_of, code_in, front_char}
 use Rattle.lang.proofs
-use proofs.PieceLaws.{next_fits, next_less, next_pieces, pieces_none}
+use proofs.PieceLaws.{next_laws, next_pieces, pieces_none}
 use proofs.Shortcuts.{not_lacking}
 
 -- ---- what fits has its pairs among those of the characters, of which the one before may be known
@@ -92,61 +94,69 @@ pub ruleset pairing_laws = (pairing_start, pairing_next, pairing_past, pairing_e
 
 -- ---- the loop over a pattern
 
--- what is required from the piece at the front on, by the character that it is
-onward : Step → Bool → ℕ → Bool → List Piece → ℕ
-onward (Char k n) known prev end xs = bit_or (pair_where known prev k) (pairs_needed true k end xs)
-onward Ill known prev end xs = pairs_needed false prev end xs
-onward End known prev end xs = pairs_needed false prev end xs
+-- what is required behind a character, where one is known
+pub needed : Option ℕ → Bool → List Piece → ℕ
+needed None end xs = pairs_needed false 0 end xs
+needed (Some x) end xs = pairs_needed true x end xs
 
-module _ (known : Bool) (prev : ℕ) (end : Bool) (xs : List Piece) where
-  char_on : (r : Step) → pairs_needed known prev end (char_piece r ∷ xs) ≡ onward r known prev end xs
-  unfolding pairs_needed char_piece onward
-  char_on (Char k n) = refl
-  char_on Ill = refl
-  char_on End = refl
+-- one that is not known may be any
+forget : (p q : ℕ) (end : Bool) (xs : List Piece) → pairs_needed false p end xs ≡ pairs_needed false q end xs
+unfolding pairs_needed pair_where pick
+forget p q end [] = refl
+forget p q end (exactly k ∷ xs) = refl
+forget p q end (box negated l ∷ xs) = forget p q end xs
+forget p q end (stray ∷ xs) = forget p q end xs
 
-  front_by : (l : List ℕ) (t : Bool) → first_is opening l ≡ t → pairs_needed known prev end (piece_at l ∷ xs) ≡ onward (front_char l) known prev end xs
-  unfolding piece_at front_char pick pairs_needed box_piece onward
-  front_by l true e = rw e refl
-  front_by l false e = rw e (char_on (decode_at l 0))
+module _ (end : Bool) (xs : List Piece) where
+  none_on : (prev : Option ℕ) → needed prev end (stray ∷ xs) ≡ bit_or (pair_of prev None) (needed None end xs)
+  unfolding needed pairs_needed pair_of
+  none_on None = sym (or_zero_l _)
+  none_on (Some p) = forget p 0 end xs ∙ sym (or_zero_l _)
 
-pub record Chaining (t : List ℕ) (start end known : Bool) (prev bits q : ℕ) : Type 0 where
-  pub is : bit_or bits (pairs_needed known prev end (pattern_pieces (drop q t))) ≡ pairs_needed start 0 end (pattern_pieces t)
+  char_on : (prev : Option ℕ) (r : Step) → needed prev end (char_piece r ∷ xs) ≡ bit_or (pair_of prev (code_in r)) (needed (code_in r) end xs)
+  unfolding needed pairs_needed pair_where pick pair_of char_piece code_in
+  char_on None (Char k n) = refl
+  char_on (Some p) (Char k n) = refl
+  char_on prev Ill = none_on prev
+  char_on prev End = none_on prev
 
-pub chaining_start : (t : List ℕ) (start end : Bool) → Chaining t start end start 0 0 0
-chaining_start t start end = record { is = or_zero_l _ }
+  front_by : (prev : Option ℕ) (l : List ℕ) (t : Bool) → first_is opening l ≡ t → needed prev end (piece_at l ∷ xs) ≡ bit_or (pair_of prev (front_char l)) (needed (front_char l) end xs)
+  unfolding piece_at front_char pick needed pairs_needed box_piece
+  front_by None l true e = rw e (none_on None)
+  front_by (Some p) l true e = rw e (none_on (Some p))
+  front_by prev l false e = rw e (char_on prev (decode_at l 0))
 
-module _ {t : List ℕ} {start end known : Bool} {prev bits q : ℕ} (w : Chaining t start end known prev bits q) where
-  module _ (n : ℕ) (r : Step) (h : q < length t) (m : n ≡ length_at (take (length t - q) (drop q t))) (e : r ≡ front_char (take (length t - q) (drop q t))) where
-    step : bit_or bits (onward r known prev end (pattern_pieces (drop (q + n) t))) ≡ pairs_needed start 0 end (pattern_pieces t)
-    step =
-        ap (bit_or bits) (sym (ap (pairs_needed known prev end) (next_pieces t q n h m) ∙ front_by known prev end _ _ _ refl
-        ∙ ap (λ (x : Step). onward x known prev end (pattern_pieces (drop (q + n) t))) (sym e))) ∙ w.is
+end_on : (p : Option ℕ) (e : Bool) → pair_of p (then_some e 0) ≡ needed p e []
+unfolding needed pairs_needed pair_where pick pair_of
+end_on None true = refl
+end_on None false = refl
+end_on (Some x) true = refl
+end_on (Some x) false = refl
 
-    pub chaining_next : (k l b : ℕ) → r ≡ Char k l → b ≡ pair_where known prev k → Chaining t start end true k (bit_or bits b) (q + n)
-    unfolding onward
-    chaining_next k l b u f = record { is = or_assoc bits b _ ∙ rw f (rw u at step) }
+pub record Chaining (t : List ℕ) (start end : Bool) (prev : Option ℕ) (bits : ℕ) (s : List ℕ) : Type 0 where
+  pub is : bit_or bits (needed prev end (pattern_pieces s)) ≡ pairs_needed start 0 end (pattern_pieces t)
 
-    pub chaining_ill : r ≡ Ill → Chaining t start end false prev bits (q + n)
-    unfolding onward
-    chaining_ill u = record { is = rw u at step }
+pub chaining_start : (t : List ℕ) (start end : Bool) → Chaining t start end (then_some start 0) 0 t
+unfolding needed
+chaining_start t true end = record { is = or_zero_l _ }
+chaining_start t false end = record { is = or_zero_l _ }
 
-    pub chaining_none : r ≡ End → Chaining t start end false prev bits (q + n)
-    unfolding onward
-    chaining_none u = record { is = rw u at step }
+module _ {t : List ℕ} {start end : Bool} {prev : Option ℕ} {bits : ℕ} {s : List ℕ} (w : Chaining t start end prev bits s) where
+  pub chaining_next : (n b : ℕ) (r : Option ℕ) → (length s ≡ 0 → ⊥) → n ≡ length_at s → r ≡ front_char s → b ≡ pair_of prev r → Chaining t start end r (bit_or bits b) (take (length s - n) (drop n s))
+  chaining_next n b r h m e f = record {
+    is = or_assoc bits b _
+        ∙ ap (bit_or bits) (rw (f, e) (sym (ap (needed prev end) (next_pieces s n h m) ∙ front_by end _ prev s _ refl)))
+        ∙ w.is;
+  }
 
-  over : length t ≤ q → bit_or bits (pick end (pair_where known prev 0) 0) ≡ pairs_needed start 0 end (pattern_pieces t)
-  unfolding pairs_needed
-  over h = ap (λ (xs : List Piece). bit_or bits (pairs_needed known prev end xs)) (sym (pieces_none t q h)) ∙ w.is
+  over : length s ≡ 0 → bit_or bits (needed prev end []) ≡ pairs_needed start 0 end (pattern_pieces t)
+  over h = ap (λ (xs : List Piece). bit_or bits (needed prev end xs)) (sym (pieces_none s h)) ∙ w.is
 
-  pub chaining_end : (b : ℕ) → length t ≤ q → end ≡ true → b ≡ pair_where known prev 0 → bit_or bits b ≡ pairs_needed start 0 end (pattern_pieces t)
-  chaining_end b h u f = ap (bit_or bits) (f ∙ sym (pick_true _ _ _ u)) ∙ over h
-
-  pub chaining_open : length t ≤ q → end ≡ false → bits ≡ pairs_needed start 0 end (pattern_pieces t)
-  chaining_open h u = sym (or_zero_r bits) ∙ ap (bit_or bits) (sym (pick_false _ _ _ u)) ∙ over h
+  pub chaining_end : (b : ℕ) → length s ≡ 0 → b ≡ pair_of prev (then_some end 0) → bit_or bits b ≡ pairs_needed start 0 end (pattern_pieces t)
+  chaining_end b h f = ap (bit_or bits) (f ∙ end_on prev end) ∙ over h
 
 pub required_pairs_by : (p x : List ℕ) (s e : Bool) (r : ℕ) → x ≡ middle p → s ≡ first_is caret p → e ≡ last_is dollar p → r ≡ pairs_needed s 0 e (pattern_pieces x) → r ≡ pairs_required p
 unfolding pairs_required
 required_pairs_by p x s e r u v w f = f ∙ rw (u, v, w) refl
 
-pub ruleset chaining_laws = (chaining_start, chaining_next, chaining_ill, chaining_none, chaining_end, chaining_open, next_less, next_fits, required_pairs_by, rules)
+pub ruleset chaining_laws = (chaining_start, chaining_next, chaining_end, next_laws, required_pairs_by, rules)

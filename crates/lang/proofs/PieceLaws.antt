@@ -3,12 +3,9 @@
 use mathlib.Core.Path.{◌≡◌, refl, sym, ap, ◌∙◌}
 use mathlib.Core.Bool.{Bool, true, false}
 use mathlib.Core.List.{List, [], ◌∷◌}
-use Prim.Native.Nat.{ℕ, zero, suc, ◌+◌, ◌-◌, ◌^◌, ◌≤◌, ◌<◌}
+use Prim.Native.Nat.{ℕ, zero, suc, ◌+◌, ◌-◌, ◌≤◌, ◌<◌}
 use native.Mathlib.Omega.{arith}
-use mir.Syntax.{w64}
-use mir.Val.{Fits}
-use lib.ListN.{length, take, drop, length-drop, drop_of_length-le}
-use lib.Seq.{drop-drop}
+use lib.ListN.{length, take, drop, length-drop}
 use borrow.Author.Rules.{rules}
 use borrow.Author.Tests.{lt-ltb, le-ltb, ltb-true}
 use Rattle.letters.specs.Utf8.{decode_at}
@@ -38,9 +35,9 @@ module _ (s : List ℕ) (i : ℕ) (e : i ≡ place_of closing s) where
   unfolding has
   not_closed h = le-ltb _ _ (rw e at h)
 
-  pub inside_yes : i < length s → take (i - 0) s ≡ inside_of s
+  pub inside_yes : i < length s → take i s ≡ inside_of s
   unfolding inside_of
-  inside_yes h = let z : i - 0 ≡ place_of closing s = omega arith in ap (λ (n : ℕ). take n s) z ∙ sym (pick_true _ _ _ (closed h))
+  inside_yes h = ap (λ (n : ℕ). take n s) e ∙ sym (pick_true _ _ _ (closed h))
 
   pub inside_no : length s ≤ i → [] ≡ inside_of s
   unfolding inside_of
@@ -145,26 +142,23 @@ pieces_cons (x ∷ l) h =
     let rest = drop (length_at (x ∷ l)) (x ∷ l) in
     ap (λ (m : List Piece). piece_at (x ∷ l) ∷ m) (enough (length l) (length rest) rest (omega arith) (omega arith))
 
-pub pieces_none : (t : List ℕ) (q : ℕ) → length t ≤ q → pattern_pieces (drop q t) ≡ []
+pub pieces_none : (t : List ℕ) → length t ≡ 0 → pattern_pieces t ≡ []
 unfolding pattern_pieces pattern_pieces_in
-pieces_none t q h = ap pattern_pieces (drop_of_length-le t h)
+pieces_none [] h = refl
+pieces_none (x ∷ t) h = absurd (omega arith)
 
--- the piece at q, of n bytes, as the code cuts the rest off
-module _ (t : List ℕ) (q n : ℕ) (h : q < length t) (e : n ≡ length_at (take (length t - q) (drop q t))) where
-  here : n ≡ length_at (drop q t)
-  here = e ∙ ap length_at (rest_is t q)
+-- behind the piece at the front, of n bytes, as the code cuts it off
+module _ (t : List ℕ) (n : ℕ) (h : length t ≡ 0 → ⊥) (e : n ≡ length_at t) where
+  bytes : Bytes t n
+  bytes = rw e (piece_bytes t (omega arith))
 
-  bytes : Bytes (drop q t) n
-  bytes = rw here (piece_bytes (drop q t) (omega (arith, length-drop q t)))
+  pub next_within : n ≤ length t
+  next_within = bytes.most
 
-  pub next_within : q + n ≤ length t
-  next_within = omega (arith, bytes.most, length-drop q t)
+  pub next_less : length (take (length t - n) (drop n t)) < length t
+  next_less = rw rest_is (omega (arith, bytes.some, length-drop n t))
 
-  pub next_less : length t - (q + n) < length t - q
-  next_less = omega (arith, bytes.some)
+  pub next_pieces : pattern_pieces t ≡ piece_at t ∷ pattern_pieces (take (length t - n) (drop n t))
+  next_pieces = pieces_cons t (omega arith) ∙ rw (rest_is t n, e) refl
 
-  pub next_fits : length t < 2 ^ 64 → Fits w64 (q + n)
-  next_fits l = record { fits = omega (arith, next_within) }
-
-  pub next_pieces : pattern_pieces (drop q t) ≡ piece_at (take (length t - q) (drop q t)) ∷ pattern_pieces (drop (q + n) t)
-  next_pieces = pieces_cons (drop q t) (omega (arith, length-drop q t)) ∙ rw (rest_is t q, here, drop-drop (length_at (drop q t)) q t)
+pub ruleset next_laws = (next_within, next_less)

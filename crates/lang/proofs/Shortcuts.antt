@@ -7,12 +7,12 @@ use mathlib.Core.Logic.{⊎_elim}
 use Prim.Native.Nat.{ℕ, zero, suc, ◌+◌, ◌-◌, ◌≤◌, ◌<◌}
 use native.Mathlib.Nat.{zero-add}
 use native.Mathlib.Decide.{dec_lt}
-use native.Mathlib.Numerals.{add-one, one-add}
+use native.Mathlib.Numerals.{one-add}
 use native.Mathlib.Omega.{arith}
 use lib.Bits.{bit_or, and_zero_r, or_zero_l, or_zero_r}
 use lib.Dec.{eqb, ltb}
-use lib.ListN.{length, get_or, take, drop, length-drop, drop_of_length-le}
-use lib.Seq.{drop-nil, drop-cons, drop-drop}
+use lib.ListN.{length, get_or, take, drop, length-drop}
+use lib.Seq.{drop-nil, drop-cons}
 use borrow.Author.Rules.{rules}
 use borrow.Author.Tests.{eq-eqb, ne_eqb, leb-true, ltb-false, eqb-true, eqb-false}
 use Rattle.base.proofs.Bits.{or_assoc}
@@ -29,7 +29,7 @@ use Rattle.texts.specs.Parts.{first_is, place_of, has, opening, closing}
 use Rattle.lang.specs
 use specs.Patterns.{Piece, box_length, char_piece, piece_at, length_at, char_length, pattern_pieces, middle, takes, fits_at, fits_anywhere, matches_in, matches_of}
 use specs.InnerContracts.{begins_with_other, bits_in, required_of}
-use Rattle.lang.proofs.PieceLaws.{next_fits, pieces_cons, piece_char, piece_bytes, next_less}
+use Rattle.lang.proofs.PieceLaws.{pieces_cons, piece_char, piece_bytes, next_laws}
 use Rattle.base.proofs.Stores.{rest_is}
 use Rattle.texts.proofs.Chars.{has_cons}
 use Rattle.base.proofs.PickLaws.{pick_true, pick_false, pick_inv, and_inv, and_first, pick_past}
@@ -189,35 +189,37 @@ lacking_not p name h = not_lacking _ _ _ h (has_by (signature_of name) _ (middle
 
 -- ---- the loop over a pattern
 
-pub record Requiring (t : List ℕ) (q bits : ℕ) : Type 0 where
-  pub is : bit_or bits (bits_in false (drop q t)) ≡ bits_in false t
+none_left : (s : List ℕ) → length s ≡ 0 → s ≡ []
+none_left [] h = refl
+none_left (x ∷ s) h = absurd (omega arith)
 
-pub requiring_start : (t : List ℕ) → Requiring t 0 0
+pub record Requiring (t s : List ℕ) (bits : ℕ) : Type 0 where
+  pub is : bit_or bits (bits_in false s) ≡ bits_in false t
+
+pub requiring_start : (t : List ℕ) → Requiring t t 0
 requiring_start t = record { is = or_zero_l (bits_in false t) }
 
-module _ {t : List ℕ} {q bits : ℕ} (w : Requiring t q bits) where
-  here : q < length t → drop q t ≡ get_or t q 0 ∷ drop (q + 1) t
-  here h = rw add-one (drop-cons t q 0 h)
+module _ {t s : List ℕ} {bits : ℕ} (w : Requiring t s bits) where
+  here : (length s ≡ 0 → ⊥) → s ≡ get_or s 0 0 ∷ drop 1 s
+  here h = drop-cons s 0 0 (omega arith)
 
-  pub requiring_box : (n : ℕ) → q < length t → get_or t q 0 ≡ opening → n ≡ length_at (take (length t - q) (drop q t)) → Requiring t (q + n) bits
+  pub requiring_box : (n : ℕ) → (length s ≡ 0 → ⊥) → get_or s 0 0 ≡ opening → n ≡ length_at s → Requiring t (take (length s - n) (drop n s)) bits
   requiring_box n h o e =
-      let size : n ≡ length_at (drop q t) = e ∙ ap length_at (rest_is t q) in
-      let front : bits_in false (drop q t) ≡ bits_in false (drop (length_at (drop q t)) (drop q t)) = rw (here h) (front_passed (get_or t q 0) (drop (q + 1) t) (eq-eqb _ _ o)) in
-      let on : bits_in false (drop q t) ≡ bits_in false (drop (q + n) t) = front ∙ ap (λ (m : ℕ). bits_in false (drop m (drop q t))) (sym size) ∙ ap (bits_in false) (drop-drop n q t) in
-      record { is = ap (bit_or bits) (sym on) ∙ w.is }
+      let front : bits_in false s ≡ bits_in false (drop (length_at s) s) = rw (here h) (front_passed (get_or s 0 0) (drop 1 s) (eq-eqb _ _ o)) in
+      record { is = rw (rest_is s n, e) (ap (bit_or bits) (sym front) ∙ w.is) }
 
-  pub requiring_next : (b : ℕ) → q < length t → (get_or t q 0 ≡ opening → ⊥) → b ≡ bit_of (get_or t q 0) → Requiring t (q + 1) (bit_or bits b)
+  pub requiring_next : (b : ℕ) → (length s ≡ 0 → ⊥) → (get_or s 0 0 ≡ opening → ⊥) → b ≡ bit_of (get_or s 0 0) → Requiring t (take (length s - 1) (drop 1 s)) (bit_or bits b)
   unfolding bits_in pick
   requiring_next b h o e =
-      let literal : bits_in false (drop q t) ≡ bit_or b (bits_in false (drop (q + 1) t)) = rw (here h, ne_eqb (get_or t q 0) opening o, e) refl in
-      record { is = or_assoc bits b _ ∙ ap (bit_or bits) (sym literal) ∙ w.is }
+      let literal : bits_in false s ≡ bit_or b (bits_in false (drop 1 s)) = rw (here h, ne_eqb (get_or s 0 0) opening o, e) refl in
+      record { is = rw (rest_is s 1) (or_assoc bits b _ ∙ ap (bit_or bits) (sym literal) ∙ w.is) }
 
-  pub requiring_end : length t ≤ q → bits ≡ bits_in false t
+  pub requiring_end : length s ≡ 0 → bits ≡ bits_in false t
   unfolding bits_in
-  requiring_end h = sym (or_zero_r bits) ∙ ap (λ (l : List ℕ). bit_or bits (bits_in false l)) (sym (drop_of_length-le t h)) ∙ w.is
+  requiring_end h = sym (or_zero_r bits) ∙ ap (λ (l : List ℕ). bit_or bits (bits_in false l)) (sym (none_left s h)) ∙ w.is
 
 pub required_by : (p x : List ℕ) (r : ℕ) → x ≡ middle p → r ≡ bits_in false x → r ≡ required_of p
 unfolding required_of
 required_by p x r e f = f ∙ ap (bits_in false) e
 
-pub ruleset requiring_laws = (requiring_start, requiring_box, requiring_next, requiring_end, next_less, next_fits, required_by, rules)
+pub ruleset requiring_laws = (requiring_start, requiring_box, requiring_next, requiring_end, next_laws, required_by, rules)

@@ -1,12 +1,12 @@
 -- Tests by which a place of a name, or a whole pattern, is passed over without trying its pieces. `proofs/Shortcuts` shows that
 -- nothing is lost: what they pass over does not match.
-use Rattle.std.specs.Prelude.{ℕ, ◌+◌, ◌*◌, Bool, true, false, not, List, [], ◌∷◌, eqb, leb, ltb, length, get_or}
+use Rattle.std.specs.Prelude.{Option, Some, None, ℕ, ◌+◌, ◌*◌, Bool, true, false, not, List, [], ◌∷◌, eqb, leb, ltb, length, get_or}
 use Rattle.std.specs.Int.Bits.{bit_or}
 use Rattle.base.specs.Pick.{pick}
 use Rattle.letters.specs.Reading.{codes_of}
 use Rattle.letters.specs.Utf8.{decode_at}
 use Rattle.letters.specs.declared.utf8.Step.{Step}
-use Rattle.letters.specs.declared.utf8.Step.TheVariants.{Ill}
+use Rattle.letters.specs.declared.utf8.Step.TheVariants.{Char, Ill, End}
 use Rattle.lang.specs.Patterns.{Piece, exactly, box, stray, middle, pattern_pieces}
 use Rattle.texts.specs.Parts.{first_is, last_is, caret, dollar, opening, closing}
 use Rattle.texts.specs.Signatures.{bit_of}
@@ -55,5 +55,16 @@ unfoldable pub pairs_required : List ℕ → ℕ
 pairs_required p = pairs_needed (first_is caret p) 0 (last_is dollar p) (pattern_pieces (middle p))
 
 -- the character at the front that is a piece; where a box stands there it is none
-unfoldable pub front_char : List ℕ → Step
-front_char l = pick (first_is opening l) Ill (decode_at l 0)
+unfoldable pub code_in : Step → Option ℕ
+code_in (Char k n) = Some k
+code_in Ill = None
+code_in End = None
+
+unfoldable pub front_char : List ℕ → Option ℕ
+front_char l = pick (first_is opening l) None (code_in (decode_at l 0))
+
+-- the bit of a pair, where both are known
+unfoldable pub pair_of : Option ℕ → Option ℕ → ℕ
+pair_of (Some x) (Some y) = pair_bit x y
+pair_of (Some x) None = 0
+pair_of None y = 0

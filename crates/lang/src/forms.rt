@@ -11,27 +11,14 @@ use letters::Step;
 fn is_listed(l: &[u8]) -> bool
     ensures { result ≡ listed_box l.now }
 {
-    if l.len() == 0 {
-        return false;
-    }
     let mut p: usize = 0;
-    loop {
-        match letters::decode(l, p) {
-            Step::Char { code, len } => {
-                if may_stand_in_box(code) {
-                    p += len;
-                } else {
-                    return false;
-                }
-            }
-            Step::Ill => {
-                return false;
-            }
-            Step::End => {
-                return true;
-            }
+    while let Step::Char { code, len } = letters::decode(l, p) {
+        if !may_stand_in_box(code) {
+            return false;
         }
+        p += len;
     }
+    !l.is_empty() && p == l.len()
 }
 
 // Whether the character at the front of l is plain.
@@ -40,9 +27,8 @@ fn is_good_char(l: &[u8]) -> bool
     ensures { result ≡ good_piece (char_piece (decode_at l.now 0)) }
 {
     match letters::decode(l, 0) {
-        Step::Char { code, len: _ } => stands_for_itself(code),
-        Step::Ill => false,
-        Step::End => false,
+        Step::Char { code, .. } => stands_for_itself(code),
+        Step::Ill | Step::End => false,
     }
 }
 
@@ -52,7 +38,7 @@ fn is_good(l: &[u8]) -> bool
     ensures { result ≡ good_piece (piece_at l.now) }
 {
     if texts::first_is(l, b'[') {
-        is_listed(texts::without_caret(inside_of(&l[1..l.len()])))
+        is_listed(texts::without_caret(inside_of(&l[1..])))
     } else {
         is_good_char(l)
     }
@@ -63,57 +49,39 @@ fn is_good(l: &[u8]) -> bool
 fn all_good(t: &[u8]) -> bool
     ensures { result ≡ all_good (pattern_pieces t.now) }
 {
-    let mut q: usize = 0;
-    while q < t.len() {
-        let rest = &t[q..t.len()];
-        if is_good(rest) {
-            q += piece_len(rest);
-        } else {
+    let mut rest = t;
+    while !rest.is_empty() {
+        if !is_good(rest) {
             return false;
         }
+        rest = &rest[piece_len(rest)..];
     }
     true
 }
 
 // Whether p holds neither space nor tab.
-#[tactic(auto, using(crate::proofs::FormLaws::blank_laws))]
+#[tactic(auto, using(crate::proofs::FormLaws::blank_laws), unfolding(crate::specs::Patterns::blankless, base::specs::Pick::and))]
 fn is_blankless(p: &[u8]) -> bool
     ensures { result ≡ blankless p.now }
 {
-    if texts::find_byte(p, b' ') == p.len() {
-        texts::find_byte(p, b'\t') == p.len()
-    } else {
-        false
-    }
+    !p.contains(&b' ') && !p.contains(&b'\t')
 }
 
 // Whether p has 1 to 255 bytes, begins with neither `/` nor `#` and holds no blank.
-#[tactic(auto, unfolding(crate::specs::Patterns::framed))]
+#[tactic(auto, unfolding(crate::specs::Patterns::framed, base::specs::Pick::and))]
 fn is_framed(p: &[u8]) -> bool
     ensures { result ≡ framed p.now }
 {
-    let n = p.len();
-    if n < 1 {
-        false
-    } else if 255 < n {
-        false
-    } else if texts::first_is(p, b'/') {
-        false
-    } else if texts::first_is(p, b'#') {
-        false
-    } else {
-        is_blankless(p)
-    }
+    matches!(p.len(), 1..=255)
+        && !texts::first_is(p, b'/')
+        && !texts::first_is(p, b'#')
+        && is_blankless(p)
 }
 
 // Whether the pattern is within the forms.
-#[tactic(auto, using(crate::proofs::FormLaws::forms_laws))]
+#[tactic(auto, unfolding(crate::specs::Patterns::in_forms, base::specs::Pick::and))]
 pub fn check_pattern(p: &[u8]) -> bool
     ensures { result ≡ in_forms p.now }
 {
-    if is_framed(p) {
-        all_good(middle_of(p))
-    } else {
-        false
-    }
+    is_framed(p) && all_good(middle_of(p))
 }

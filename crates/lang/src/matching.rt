@@ -13,10 +13,11 @@ use letters::Step;
 fn box_takes(inside: &[u8], k: u32) -> bool
     ensures { result ≡ takes (box_piece inside.now) k }
 {
+    let listed = texts::has_char(texts::without_caret(inside), k);
     if texts::first_is(inside, b'^') {
-        !texts::has_char(texts::without_caret(inside), k)
+        !listed
     } else {
-        texts::has_char(texts::without_caret(inside), k)
+        listed
     }
 }
 
@@ -26,9 +27,8 @@ fn char_takes(l: &[u8], k: u32) -> bool
     ensures { result ≡ takes (char_piece (decode_at l.now 0)) k }
 {
     match letters::decode(l, 0) {
-        Step::Char { code, len: _ } => code == k,
-        Step::Ill => false,
-        Step::End => false,
+        Step::Char { code, .. } => code == k,
+        Step::Ill | Step::End => false,
     }
 }
 
@@ -38,7 +38,7 @@ fn piece_takes(l: &[u8], k: u32) -> bool
     ensures { result ≡ takes (piece_at l.now) k }
 {
     if texts::first_is(l, b'[') {
-        box_takes(inside_of(&l[1..l.len()]), k)
+        box_takes(inside_of(&l[1..]), k)
     } else {
         char_takes(l, k)
     }
@@ -49,46 +49,33 @@ fn piece_takes(l: &[u8], k: u32) -> bool
 fn fits_at(t: &[u8], end: bool, name: &[u8], from: usize) -> bool
     ensures { result ≡ fits_at (pattern_pieces t.now) end (codes_of (drop from name.now)) }
 {
-    let mut q: usize = 0;
+    let mut rest = t;
     let mut at = from;
+    // Stays a loop by hand: a turn reads a character of one to four bytes, or passes a byte that begins none.
     loop {
         match letters::decode(name, at) {
             Step::Char { code, len } => {
-                if t.len() <= q {
+                if rest.is_empty() {
                     return !end;
                 }
-                let rest = &t[q..t.len()];
-                if piece_takes(rest, code) {
-                    q += piece_len(rest);
-                    at += len;
-                } else {
+                if !piece_takes(rest, code) {
                     return false;
                 }
+                rest = &rest[piece_len(rest)..];
+                at += len;
             }
-            Step::Ill => {
-                at += 1;
-            }
-            Step::End => {
-                return t.len() <= q;
-            }
+            Step::Ill => at += 1,
+            Step::End => return rest.is_empty(),
         }
     }
 }
 
 // Whether t begins with a character that is not b, where b is one by itself.
-#[tactic(auto, using(base::proofs::PickLaws::cases), unfolding(crate::specs::InnerContracts::begins_with_other))]
+#[tactic(auto, unfolding(crate::specs::InnerContracts::begins_with_other, base::specs::Pick::pick))]
 fn begins_with_other(t: &[u8], b: u8) -> bool
     ensures { result ≡ begins_with_other t.now b }
 {
-    if t.len() < 1 {
-        false
-    } else if t[0] == b'[' {
-        false
-    } else if t[0] == b {
-        false
-    } else {
-        b <= 0x7F
-    }
+    !t.is_empty() && t[0] != b'[' && t[0] != b && b.is_ascii()
 }
 
 // The same as `fits_at`, and most places are passed by their first byte.
@@ -96,10 +83,8 @@ fn begins_with_other(t: &[u8], b: u8) -> bool
 fn fits_from(t: &[u8], end: bool, name: &[u8], from: usize) -> bool
     ensures { result ≡ fits_at (pattern_pieces t.now) end (codes_of (drop from name.now)) }
 {
-    if from < name.len() {
-        if begins_with_other(t, name[from]) {
-            return false;
-        }
+    if from < name.len() && begins_with_other(t, name[from]) {
+        return false;
     }
     fits_at(t, end, name, from)
 }
@@ -110,20 +95,15 @@ fn fits_anywhere(t: &[u8], end: bool, name: &[u8]) -> bool
     ensures { result ≡ fits_anywhere (pattern_pieces t.now) end (codes_of name.now) }
 {
     let mut at: usize = 0;
+    // Stays a loop by hand, as in `fits_at`; the end of the name is a place too.
     loop {
         if fits_from(t, end, name, at) {
             return true;
         }
         match letters::decode(name, at) {
-            Step::Char { code: _, len } => {
-                at += len;
-            }
-            Step::Ill => {
-                at += 1;
-            }
-            Step::End => {
-                return false;
-            }
+            Step::Char { len, .. } => at += len,
+            Step::Ill => at += 1,
+            Step::End => return false,
         }
     }
 }

@@ -1,6 +1,6 @@
 // The pairs of characters that stand side by side in a name, its ends among them, and those that a pattern requires: by them patterns are passed over.
 ghost use Rattle.std.specs.Prelude.{◌≡◌};
-ghost use Rattle.lang.specs.InnerContracts.{pair_bit, pair_where, front_char, pairs_of, pairs_needed, pairs_required};
+ghost use Rattle.lang.specs.InnerContracts.{pair_bit, pair_of, front_char, pairs_of, pairs_needed, pairs_required};
 ghost use Rattle.lang.specs.Patterns.{pattern_pieces};
 
 use crate::pieces::{middle_of, piece_len};
@@ -11,15 +11,18 @@ use letters::Step;
 fn pair_bit(x: u32, y: u32) -> u64
     ensures { result ≡ pair_bit x y }
 {
-    1 << (((x as u64) * 5 + (y as u64)) % 64)
+    1 << ((u64::from(x) * 5 + u64::from(y)) % 64)
 }
 
-// The same where the first of them is known, and no bit where it is not.
-#[tactic(auto, using(base::proofs::PickLaws::cases), unfolding(crate::specs::InnerContracts::pair_where))]
-fn pair_where(known: bool, x: u32, y: u32) -> u64
-    ensures { result ≡ pair_where known x y }
+// The same where both are known, and no bit where one is not.
+#[tactic(auto, unfolding(crate::specs::InnerContracts::pair_of))]
+fn pair_of(x: Option<u32>, y: Option<u32>) -> u64
+    ensures { result ≡ pair_of x y }
 {
-    if known { pair_bit(x, y) } else { 0 }
+    match (x, y) {
+        (Some(x), Some(y)) => pair_bit(x, y),
+        _ => 0,
+    }
 }
 
 // The pairs of a name: the bits of each two characters that stand side by side, with 0 before the first and behind the last.
@@ -30,32 +33,31 @@ pub fn find_pairs(name: &[u8]) -> u64
     let mut prev: u32 = 0;
     let mut bits: u64 = 0;
     let mut at: usize = 0;
+    // Stays a loop by hand: a turn reads a character of one to four bytes, or passes a byte that begins none.
     loop {
         match letters::decode(name, at) {
             Step::Char { code, len } => {
-                bits = bits | pair_bit(prev, code);
+                bits |= pair_bit(prev, code);
                 prev = code;
                 at += len;
             }
-            Step::Ill => {
-                at += 1;
-            }
-            Step::End => {
-                return bits | pair_bit(prev, 0);
-            }
+            Step::Ill => at += 1,
+            Step::End => return bits | pair_bit(prev, 0),
         }
     }
 }
 
 // The character that stands at the front of l as a piece; none where a box does.
-#[tactic(auto, using(base::proofs::PickLaws::cases), unfolding(crate::specs::InnerContracts::front_char))]
-fn front_char(l: &[u8]) -> Step
+#[tactic(auto, unfolding(crate::specs::InnerContracts::front_char, crate::specs::InnerContracts::code_in, base::specs::Pick::pick))]
+fn front_char(l: &[u8]) -> Option<u32>
     ensures { result ≡ front_char l.now }
 {
     if texts::first_is(l, b'[') {
-        Step::Ill
-    } else {
-        letters::decode(l, 0)
+        return None;
+    }
+    match letters::decode(l, 0) {
+        Step::Char { code, .. } => Some(code),
+        Step::Ill | Step::End => None,
     }
 }
 
@@ -64,32 +66,16 @@ fn front_char(l: &[u8]) -> Step
 fn pairs_in(t: &[u8], start: bool, end: bool) -> u64
     ensures { result ≡ pairs_needed start 0 end (pattern_pieces t.now) }
 {
-    let mut known = start;
-    let mut prev: u32 = 0;
+    let mut prev = start.then_some(0);
     let mut bits: u64 = 0;
-    let mut q: usize = 0;
-    while q < t.len() {
-        let rest = &t[q..t.len()];
-        q += piece_len(rest);
-        match front_char(rest) {
-            Step::Char { code, len: _ } => {
-                bits = bits | pair_where(known, prev, code);
-                known = true;
-                prev = code;
-            }
-            Step::Ill => {
-                known = false;
-            }
-            Step::End => {
-                known = false;
-            }
-        }
+    let mut rest = t;
+    while !rest.is_empty() {
+        let front = front_char(rest);
+        bits |= pair_of(prev, front);
+        prev = front;
+        rest = &rest[piece_len(rest)..];
     }
-    if end {
-        bits | pair_where(known, prev, 0)
-    } else {
-        bits
-    }
+    bits | pair_of(prev, end.then_some(0))
 }
 
 // The pairs that a pattern requires: where a name has not all of them, `matches` is false (PairLaws: `pairs_lacking_not`).

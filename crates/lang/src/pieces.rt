@@ -10,10 +10,7 @@ use letters::Step;
 pub(crate) fn stands_for_itself(code: u32) -> bool
     ensures { result ≡ plain code }
 {
-    match code {
-        0x24 | 0x28..=0x2B | 0x2E | 0x3F | 0x5B..=0x5E | 0x7B..=0x7D => false,
-        _ => true,
-    }
+    !matches!(code, 0x24 | 0x28..=0x2B | 0x2E | 0x3F | 0x5B..=0x5E | 0x7B..=0x7D)
 }
 
 // Whether a box may hold the character: none of `- & ~` either.
@@ -41,7 +38,7 @@ pub(crate) fn inside_of(t: &[u8]) -> &[u8]
     ensures { result.now ≡ inside_of t.now }
 {
     let i = texts::find_byte(t, b']');
-    if i < t.len() { &t[0..i] } else { &t[0..0] }
+    if i < t.len() { &t[..i] } else { &t[..0] }
 }
 
 // The bytes of a box, from behind its `[`: all that is left where it is not closed.
@@ -59,7 +56,7 @@ fn char_len(l: &[u8]) -> usize
     ensures { result ≡ char_length (decode_at l.now 0) }
 {
     match letters::decode(l, 0) {
-        Step::Char { code: _, len } => len,
+        Step::Char { len, .. } => len,
         Step::Ill => 1,
         Step::End => 0,
     }
@@ -71,7 +68,7 @@ pub(crate) fn piece_len(l: &[u8]) -> usize
     ensures { result ≡ length_at l.now }
 {
     if texts::first_is(l, b'[') {
-        1 + box_len(&l[1..l.len()])
+        1 + box_len(&l[1..])
     } else {
         char_len(l)
     }

@@ -9,14 +9,14 @@ use crate::pieces::{middle_of, piece_len};
 fn bits_in(t: &[u8]) -> u64
     ensures { result ≡ bits_in false t.now }
 {
-    let mut q: usize = 0;
+    let mut rest = t;
     let mut bits: u64 = 0;
-    while q < t.len() {
-        if t[q] == b'[' {
-            q += piece_len(&t[q..t.len()]);
+    while let [first, ..] = rest {
+        if *first == b'[' {
+            rest = &rest[piece_len(rest)..];
         } else {
-            bits = bits | texts::bit_of(t[q]);
-            q += 1;
+            bits |= texts::bit_of(*first);
+            rest = &rest[1..];
         }
     }
     bits

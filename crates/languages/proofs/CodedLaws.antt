@@ -1,4 +1,5 @@
 -- Laws of sets as numbers: narrowing is `&` and the test, merging is `|`, and a set is empty where nothing stands below bit 32. Assumes nothing.
+use Rattle.std.specs.Prelude.{Option, Some, None}
 use mathlib.Core.Path.{◌≡◌, refl, sym, ap, ap₂, ◌∙◌}
 use mathlib.Core.Bool.{Bool, true, false}
 use mathlib.Core.Logic.{◌⊎◌}
@@ -12,8 +13,6 @@ use Rattle.languages.specs.Sets.{narrowed, merged, is_empty}
 use Rattle.languages.specs.InnerContracts.{coded, decoded, left_of, codes_narrowed, codes_merged, IsCode, BitsBelow}
 use Rattle.languages.specs.declared.sets.LanguageSet.{LanguageSet}
 use Rattle.languages.specs.declared.sets.LanguageSet.TheVariants.{Any, NoLanguages, SomeLanguages}
-use Rattle.languages.specs.declared.sets.Narrowed.{Narrowed}
-use Rattle.languages.specs.declared.sets.Narrowed.TheVariants.{To, Nothing}
 use Rattle.base.proofs.Arms.{clash}
 use Rattle.languages.proofs.Laws.{narrow_below, merge_below, narrow_merged, narrow_second}
 
@@ -77,7 +76,7 @@ empty_low Any e = e
 empty_low NoLanguages e = refl
 empty_low (SomeLanguages x) e = ap (λ (n : ℕ). eqb ((2 ^ 32 + n) % 2 ^ 32) 0) (eqb-true x 0 e)
 
-not_empty_by : (n : ℕ) (s : LanguageSet) (t u : Bool) → eqb (n % 2 ^ 32) 0 ≡ t → is_empty s ≡ u → pick t Nothing (To n) ≡ To (coded s) → u ≡ false
+not_empty_by : (n : ℕ) (s : LanguageSet) (t u : Bool) → eqb (n % 2 ^ 32) 0 ≡ t → is_empty s ≡ u → pick t None (Some n) ≡ Some (coded s) → u ≡ false
 unfolding pick
 not_empty_by n s true u p q e = clash (cc)
 not_empty_by n s false false p q e = refl
@@ -86,7 +85,7 @@ not_empty_by n s false true p q e =
     let low = empty_low s q in
     clash (cc)
 
-pub left_not_empty : (a b : ℕ) (s : LanguageSet) → codes_narrowed a b ≡ To (coded s) → is_empty s ≡ false
+pub left_not_empty : (a b : ℕ) (s : LanguageSet) → codes_narrowed a b ≡ Some (coded s) → is_empty s ≡ false
 unfolding codes_narrowed
 left_not_empty a b s e = not_empty_by (bit_and a b) s _ _ refl refl e
 
@@ -114,18 +113,18 @@ pub record IsLeft (s : LanguageSet) (x : ℕ) : Type 0 where
   pub some : is_empty s ≡ false
 
 -- what an answer tells of the set s
-unfoldable pub TellsOf : LanguageSet → Narrowed → Type 0
-TellsOf s Nothing = is_empty s ≡ true
-TellsOf s (To x) = IsLeft s x
+unfoldable pub TellsOf : LanguageSet → Option ℕ → Type 0
+TellsOf s None = is_empty s ≡ true
+TellsOf s (Some x) = IsLeft s x
 
-left_tells : (s : LanguageSet) (t : Bool) → BitsBelow 32 s → is_empty s ≡ t → TellsOf s (pick t Nothing (To (coded s)))
+left_tells : (s : LanguageSet) (t : Bool) → BitsBelow 32 s → is_empty s ≡ t → TellsOf s (pick t None (Some (coded s)))
 unfolding pick TellsOf
 left_tells s true h p = p
 left_tells s false h p = record { code = is_code s h; is = decoded_coded s h; some = p }
 
 module _ {x y : ℕ} (c : IsCode x) (d : IsCode y) where
   -- of numbers that stand for sets, the operation tells of the narrowed set
-  pub narrowed_tells : {r : Narrowed} → r ≡ codes_narrowed x y → TellsOf (narrowed (decoded x) (decoded y)) r
+  pub narrowed_tells : {r : (Option ℕ)} → r ≡ codes_narrowed x y → TellsOf (narrowed (decoded x) (decoded y)) r
   unfolding left_of
   narrowed_tells e =
       rw (e, c.is, d.is, narrow_and_test c.set d.set c.below d.below, decoded_coded c.set c.below, decoded_coded d.set d.below)

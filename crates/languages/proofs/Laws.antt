@@ -1,4 +1,5 @@
 -- What the crates above use of language sets and of listed names. Assumes nothing.
+use Rattle.std.specs.Prelude.{Option, Some, None}
 use mathlib.Core.Path.{◌≡◌, refl, sym, ap, ◌∙◌}
 use mathlib.Core.Bool.{Bool, true, false}
 use mathlib.Core.Logic.{◌⊎◌, inl, inr}
@@ -20,10 +21,6 @@ use Rattle.languages.specs.Names.{language_name, name_place, bit_at, language_bi
 use Rattle.strings.specs.Reading.{strings_of}
 use Rattle.languages.specs.declared.sets.LanguageSet.{LanguageSet}
 use Rattle.languages.specs.declared.sets.LanguageSet.TheVariants.{Any, NoLanguages, SomeLanguages}
-use Rattle.languages.specs.declared.sets.Single.{Single}
-use Rattle.languages.specs.declared.sets.Single.TheVariants.{Language, NotSingle}
-use Rattle.languages.specs.declared.names.Listed.{Listed}
-use Rattle.languages.specs.declared.names.Listed.TheVariants.{Bit, Unlisted}
 use Rattle.base.proofs.PickLaws.{and_inv}
 use Rattle.languages.specs.InnerContracts.{BitsBelow}
 use Rattle.base.proofs.Arms.{clash}
@@ -117,7 +114,7 @@ record IsOne (n : ℕ) (a : LanguageSet) (l : ℕ) : Type 0 where
   set : a ≡ SomeLanguages (2 ^ l)
   within : l < n
 
-one_by : (n m l : ℕ) (t : Bool) → n ≤ 32 → m < 2 ^ n → eqb (ones m) 1 ≡ t → pick t (Language (count_trailing_zeros 32 m)) NotSingle ≡ Language l
+one_by : (n m l : ℕ) (t : Bool) → n ≤ 32 → m < 2 ^ n → eqb (ones m) 1 ≡ t → pick t (Some (count_trailing_zeros 32 m)) None ≡ Some l
     → IsOne n (SomeLanguages m) l
 unfolding pick
 one_by n m l false h k p e = clash (cc)
@@ -127,13 +124,13 @@ one_by n m l true h k p e =
     let power : m ≡ 2 ^ l = is.0 ∙ ap (λ (i : ℕ). 2 ^ i) place in
     record { set = ap SomeLanguages power; within = pow_back l n (rw power at k) }
 
-is_one : (n : ℕ) (a : LanguageSet) (l : ℕ) → n ≤ 32 → BitsBelow n a → single_of a ≡ Language l → IsOne n a l
+is_one : (n : ℕ) (a : LanguageSet) (l : ℕ) → n ≤ 32 → BitsBelow n a → single_of a ≡ Some l → IsOne n a l
 unfolding BitsBelow single_of
 is_one n Any l h k e = clash (cc)
 is_one n NoLanguages l h k e = clash (cc)
 is_one n (SomeLanguages m) l h k e = one_by n m l _ h k refl e
 
-module _ (n : ℕ) (a : LanguageSet) (l : ℕ) (r : Single) (h : n ≤ 32) (k : BitsBelow n a) (p : r ≡ single_of a) (e : r ≡ Language l) where
+module _ (n : ℕ) (a : LanguageSet) (l : ℕ) (r : Option ℕ) (h : n ≤ 32) (k : BitsBelow n a) (p : r ≡ single_of a) (e : r ≡ Some l) where
   -- a single set is the bit of its language
   pub single_set : a ≡ SomeLanguages (2 ^ l)
   single_set = (is_one n a l h k (sym p ∙ e)).set
@@ -164,14 +161,14 @@ pub record IsListed (s name : List ℕ) (b : ℕ) : Type 0 where
   pub string : get_or (strings_of s) place [] ≡ name
 
 listed_by : (s name : List ℕ) (b : ℕ) (t : Bool) → ltb (name_place name (strings_of s)) (min 32 (length (strings_of s))) ≡ t
-    → pick t (Bit (2 ^ name_place name (strings_of s))) Unlisted ≡ Bit b → IsListed s name b
+    → pick t (Some (2 ^ name_place name (strings_of s))) None ≡ Some b → IsListed s name b
 unfolding pick
 listed_by s name b false p e = clash (cc)
 listed_by s name b true p e =
     let there : name_place name (strings_of s) < length (strings_of s) = omega (arith, ltb-true) in
     record { place = name_place name (strings_of s); bit = cc; below = omega (arith, ltb-true); there = there; string = found name (strings_of s) there }
 
-module _ (s name : List ℕ) (b : ℕ) (r : Listed) (p : r ≡ language_bit s name) (e : r ≡ Bit b) where
+module _ (s name : List ℕ) (b : ℕ) (r : Option ℕ) (p : r ≡ language_bit s name) (e : r ≡ Some b) where
   -- which string a name is whose bit was found
   pub is_listed_lem : IsListed s name b
   unfolding language_bit bit_at

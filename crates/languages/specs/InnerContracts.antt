@@ -1,12 +1,10 @@
 -- A language set as one number, the form in which sets are held in use: None is 0, Some has bit 32, Any has every bit below 34.
 -- Narrowing is then `&` and merging `|`, with no case split (proofs/CodedLaws).
-use Rattle.std.specs.Prelude.{ℕ, ◌+◌, ◌-◌, ◌^◌, ◌%◌, ◌<◌, ◌≡◌, ltb, eqb}
+use Rattle.std.specs.Prelude.{ℕ, ◌+◌, ◌-◌, ◌^◌, ◌%◌, ◌<◌, ◌≡◌, ltb, eqb, Option, Some, None}
 use Rattle.std.specs.Int.Bits.{bit_and, bit_or}
 use Rattle.base.specs.Pick.{pick}
 use Rattle.languages.specs.declared.sets.LanguageSet.{LanguageSet}
 use Rattle.languages.specs.declared.sets.LanguageSet.TheVariants.{Any, NoLanguages, SomeLanguages}
-use Rattle.languages.specs.declared.sets.Narrowed.{Narrowed}
-use Rattle.languages.specs.declared.sets.Narrowed.TheVariants.{To, Nothing}
 use Rattle.languages.specs.Sets.{is_empty}
 use Prim.{Unit}
 
@@ -33,12 +31,12 @@ pub record IsCode (x : ℕ) : Type 0 where
 
 -- narrowing and the test together, of a set as it is held in use: "gives the narrowed set or says that nothing is left" (02, 6),
 -- "Some with no bits .. isn't the same as None; both are empty" (01, Language sets)
-unfoldable pub left_of : LanguageSet → Narrowed
-left_of s = pick (is_empty s) Nothing (To (coded s))
+unfoldable pub left_of : LanguageSet → Option ℕ
+left_of s = pick (is_empty s) None (Some (coded s))
 
 -- what narrowing and merging are on any two numbers; that they are document 01's on numbers of sets: proofs/CodedLaws
-unfoldable pub codes_narrowed : ℕ → ℕ → Narrowed
-codes_narrowed a b = pick (eqb (bit_and a b % 2 ^ 32) 0) Nothing (To (bit_and a b))
+unfoldable pub codes_narrowed : ℕ → ℕ → Option ℕ
+codes_narrowed a b = pick (eqb (bit_and a b % 2 ^ 32) 0) None (Some (bit_and a b))
 
 unfoldable pub codes_merged : ℕ → ℕ → ℕ
 codes_merged a b = bit_or a b

@@ -1,10 +1,8 @@
 -- Language names, and the bit of a listed one (01, Language sets; Bundle and pack).
-use Rattle.std.specs.Prelude.{ℕ, suc, ◌^◌, min, Bool, true, false, List, [], ◌∷◌, ltb, leb, length}
+use Rattle.std.specs.Prelude.{ℕ, suc, ◌^◌, min, Bool, true, false, List, [], ◌∷◌, ltb, leb, length, Option, Some, None}
 use Rattle.base.specs.Pick.{pick, and}
 use Rattle.letters.specs.Order.{same_text}
 use Rattle.strings.specs.Reading.{strings_of}
-use Rattle.languages.specs.declared.names.Listed.{Listed}
-use Rattle.languages.specs.declared.names.Listed.TheVariants.{Bit, Unlisted}
 
 -- a letter `a` to `z`
 unfoldable pub is_letter : ℕ → Bool
@@ -28,9 +26,9 @@ name_place name [] = 0
 name_place name (t ∷ ts) = pick (same_text t name) 0 (suc (name_place name ts))
 
 -- the bit of a place, where there are so many
-unfoldable pub bit_at : ℕ → ℕ → Listed
-bit_at place places = pick (ltb place places) (Bit (2 ^ place)) Unlisted
+unfoldable pub bit_at : ℕ → ℕ → Option ℕ
+bit_at place places = pick (ltb place places) (Some (2 ^ place)) None
 
 -- at most 32 listed languages, kept as a bit each, lowest bit for the first name (01, Language sets)
-unfoldable pub language_bit : List ℕ → List ℕ → Listed
+unfoldable pub language_bit : List ℕ → List ℕ → Option ℕ
 language_bit s name = bit_at (name_place name (strings_of s)) (min 32 (length (strings_of s)))

@@ -1,13 +1,11 @@
 -- Language sets (01, Language sets): a set is Any, None, or Some of at most 32 listed languages, kept as a bit each.
 -- `NoLanguages` is the paper's None, and `SomeLanguages m` its Some with the bits of m.
-use Rattle.std.specs.Prelude.{ℕ, ◌-◌, ◌^◌, Bool, true, false, eqb}
+use Rattle.std.specs.Prelude.{ℕ, ◌-◌, ◌^◌, Bool, true, false, eqb, Option, Some, None}
 use Rattle.std.specs.Int.Bits.{bit_and, bit_or}
 use Rattle.std.specs.Int.Count.{ones, count_trailing_zeros}
 use Rattle.base.specs.Pick.{pick}
 use Rattle.languages.specs.declared.sets.LanguageSet.{LanguageSet}
 use Rattle.languages.specs.declared.sets.LanguageSet.TheVariants.{Any, NoLanguages, SomeLanguages}
-use Rattle.languages.specs.declared.sets.Single.{Single}
-use Rattle.languages.specs.declared.sets.Single.TheVariants.{Language, NotSingle}
 
 -- narrowing: by Any changes nothing; by None gives None; Any by Some gives that Some; None stays None; Some by Some intersects (01, Language sets)
 unfoldable pub narrowed : LanguageSet → LanguageSet → LanguageSet
@@ -38,10 +36,10 @@ is_single NoLanguages = false
 is_single (SomeLanguages x) = eqb (ones x) 1
 
 -- the single language is found by trailing zeros (01, Forms we want to see)
-unfoldable pub single_of : LanguageSet → Single
-single_of Any = NotSingle
-single_of NoLanguages = NotSingle
-single_of (SomeLanguages x) = pick (eqb (ones x) 1) (Language (count_trailing_zeros 32 x)) NotSingle
+unfoldable pub single_of : LanguageSet → Option ℕ
+single_of Any = None
+single_of NoLanguages = None
+single_of (SomeLanguages x) = pick (eqb (ones x) 1) (Some (count_trailing_zeros 32 x)) None
 
 -- subtracting is and with complement (01, Forms we want to see)
 unfoldable pub without : ℕ → ℕ → ℕ

@@ -4,5 +4,5 @@
 mod names;
 mod sets;
 
-pub use names::{Listed, find_language, is_language_name};
-pub use sets::{LanguageSet, Narrowed, Single, coded, merge_codes, narrow_codes, subtract};
+pub use names::{find_language, is_language_name};
+pub use sets::{LanguageSet, coded, merge_codes, narrow_codes, subtract};

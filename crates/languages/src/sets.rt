@@ -11,25 +11,11 @@ pub enum LanguageSet {
     SomeLanguages(u32),
 }
 
-// A narrowed set by its number, which is not empty; or nothing is left.
-#[derive(Clone, Copy)]
-pub enum Narrowed {
-    To(u64),
-    Nothing,
-}
-
 // The number of Some with no bits: the languages stand below it.
 const SOME_LANGUAGES: u64 = 0x1_0000_0000;
 
 // The number of Any: every language, the bit of Some, and one of its own.
 const ANY_LANGUAGE: u64 = 0x3_FFFF_FFFF;
-
-// The one language of a single set.
-#[derive(Clone, Copy)]
-pub enum Single {
-    Language(u32),
-    NotSingle,
-}
 
 impl LanguageSet {
     // This set merged with `other`.
@@ -37,14 +23,11 @@ impl LanguageSet {
     pub fn merge(self, other: LanguageSet) -> LanguageSet
         ensures { set_numbers result ≡ set_numbers (merged self other) }
     {
-        match other {
-            LanguageSet::Any => LanguageSet::Any,
-            LanguageSet::NoLanguages => self,
-            LanguageSet::SomeLanguages(theirs) => match self {
-                LanguageSet::Any => LanguageSet::Any,
-                LanguageSet::NoLanguages => LanguageSet::SomeLanguages(theirs),
-                LanguageSet::SomeLanguages(mine) => LanguageSet::SomeLanguages(mine | theirs),
-            },
+        match (self, other) {
+            (LanguageSet::Any, _) | (_, LanguageSet::Any) => LanguageSet::Any,
+            (LanguageSet::NoLanguages, set) | (set, LanguageSet::NoLanguages) => set,
+            (LanguageSet::SomeLanguages(mine), LanguageSet::SomeLanguages(theirs)) =>
+                LanguageSet::SomeLanguages(mine | theirs),
         }
     }
 
@@ -52,28 +35,19 @@ impl LanguageSet {
     pub fn is_singleton(self) -> bool
         ensures { result ≡ is_single self }
     {
-        match self {
-            LanguageSet::Any => false,
-            LanguageSet::NoLanguages => false,
-            LanguageSet::SomeLanguages(mask) => u32::count_ones(mask) == 1,
-        }
+        matches!(self, LanguageSet::SomeLanguages(mask) if mask.count_ones() == 1)
     }
 
-    // The language of a single set: the place of its one bit.
+    // The one language of a single set: the place of its one bit.
     #[tactic(auto, using(base::proofs::PickLaws::cases), unfolding(crate::specs::Sets::single_of))]
-    pub fn single(self) -> Single
+    pub fn single(self) -> Option<u32>
         ensures { result ≡ single_of self }
     {
         match self {
-            LanguageSet::Any => Single::NotSingle,
-            LanguageSet::NoLanguages => Single::NotSingle,
-            LanguageSet::SomeLanguages(mask) => {
-                if u32::count_ones(mask) == 1 {
-                    Single::Language(u32::trailing_zeros(mask))
-                } else {
-                    Single::NotSingle
-                }
-            }
+            LanguageSet::SomeLanguages(mask) if mask.count_ones() == 1 => Some(
+                mask.trailing_zeros(),
+            ),
+            _ => None,
         }
     }
 }
@@ -94,21 +68,17 @@ pub fn coded(set: LanguageSet) -> u64
     match set {
         LanguageSet::Any => ANY_LANGUAGE,
         LanguageSet::NoLanguages => 0,
-        LanguageSet::SomeLanguages(mask) => SOME_LANGUAGES + (mask as u64),
+        LanguageSet::SomeLanguages(mask) => SOME_LANGUAGES + u64::from(mask),
     }
 }
 
-// What is left of a set narrowed by another, of their numbers. No other code narrows a set or asks whether one is empty.
+// What is left of a set narrowed by another, of their numbers; none where that is empty. No other code narrows a set or asks whether one is empty.
 #[tactic(auto, using(base::proofs::PickLaws::cases), unfolding(crate::specs::InnerContracts::codes_narrowed))]
-pub fn narrow_codes(a: u64, b: u64) -> Narrowed
+pub fn narrow_codes(a: u64, b: u64) -> Option<u64>
     ensures { result ≡ codes_narrowed a b }
 {
     let both = a & b;
-    if both % SOME_LANGUAGES == 0 {
-        Narrowed::Nothing
-    } else {
-        Narrowed::To(both)
-    }
+    (both % SOME_LANGUAGES != 0).then_some(both)
 }
 
 // The number of two sets merged, of their numbers.

@@ -7,8 +7,8 @@ use native.Mathlib.Decide.{dec_le}
 use native.Mathlib.Numerals.{add-one}
 use native.Mathlib.Omega.{arith}
 use lib.Dec.{eqb, leb-suc-suc}
-use lib.ListN.{length, get_or, take, drop, set, length-set, drop_of_length-le}
-use lib.Seq.{take_all, drop-cons, drop-length}
+use lib.ListN.{length, get_or, take, drop, set, length-set, length-drop, drop_of_length-le}
+use lib.Seq.{take_all, drop-cons, drop-length, get_or-drop}
 use borrow.Author.Rules.{rules}
 use borrow.Author.Tests.{lt-ltb, le-ltb, eq-eqb, ne_eqb}
 use Rattle.base.specs.Pick.{pick}
@@ -116,6 +116,19 @@ module _ (w : List ℕ) (i : ℕ) (f : Free w i) where
   pub free_end : i ≤ 0 → w ≡ after_apostrophe w
   free_end h = let z : i ≡ 0 = omega arith in after_none w (rw z at f.none)
 
+-- by the place of the last
+no_has : (w : List ℕ) → ((k : ℕ) → k < length w → get_or w k 0 ≡ 39 → ⊥) → has 39 w ≡ false
+no_has [] h = (free_start []).none
+no_has (x ∷ w) h = has_by x w _ refl ∙ pick_false _ _ _ (ne_eqb _ _ (h 0 (omega arith))) ∙ no_has w (λ k l. h (suc k) (omega arith))
+
+pub last_none : (w : List ℕ) → ((k : ℕ) → k < length w → get_or w k 0 ≡ 39 → ⊥) → w ≡ after_apostrophe w
+last_none w h = after_none w (no_has w h)
+
+pub last_here : (w : List ℕ) (i : ℕ) → i < length w → get_or w i 0 ≡ 39 → ((k : ℕ) → i < k → k < length w → get_or w k 0 ≡ 39 → ⊥) → take (length w - (i + 1)) (drop (i + 1) w) ≡ after_apostrophe w
+last_here w i h e f =
+    rest_is w (i + 1) ∙ ap (λ (k : ℕ). drop k w) (add-one i)
+    ∙ after_at w i h e (no_has (drop (suc i) w) (λ k l q. f (suc i + k) (omega arith) (omega (arith, length-drop (suc i) w)) (sym (get_or-drop (suc i) w k 0) ∙ q)))
+
 -- ---- what is kept of a word, and whether it drops out
 module _ (kind k : NameType) (w : List ℕ) (e : kind ≡ k) where
   pub kept_by : (x : List ℕ) → x ≡ kept_of k w → x ≡ kept_of kind w
@@ -128,10 +141,10 @@ module _ (kind k : NameType) (w : List ℕ) (e : kind ≡ k) where
   prefix_of_kind x p = rw e at p
 
 -- ---- the prefix and the remainder
-take_to : (s : List ℕ) (i k : ℕ) → k ≡ min i (length s) → take (k - 0) (drop 0 s) ≡ take i s
+take_to : (s : List ℕ) (i k : ℕ) → k ≡ min i (length s) → take k s ≡ take i s
 take_to s i k e = elim (dec_le i (length s)) [
-  | yes h ↦ let z : k - 0 ≡ i = omega arith in rw z refl
-  | no h ↦ take_all (k - 0) s (omega arith) ∙ sym (take_all i s (omega arith))
+  | yes h ↦ let z : k ≡ i = omega arith in rw z refl
+  | no h ↦ take_all k s (omega arith) ∙ sym (take_all i s (omega arith))
 ]
 
 drop_from : (s : List ℕ) (i r : ℕ) → r ≡ min i (length s) → take (length s - r) (drop r s) ≡ drop i s
@@ -143,7 +156,7 @@ drop_from s i r e = rest_is s r ∙ elim (dec_le i (length s)) [
 ]
 
 pub name_joined : (s o o₁ o₂ : List ℕ) (size rest k r p q : ℕ) → k ≡ min size (length s) → r ≡ min rest (length s)
-    → Put o o₁ 0 p (take (k - 0) (drop 0 s)) → Put o₁ o₂ p q (take (length s - r) (drop r s)) → Put o o₂ 0 q (joined_name size rest s)
+    → Put o o₁ 0 p (take k s) → Put o₁ o₂ p q (take (length s - r) (drop r s)) → Put o o₂ 0 q (joined_name size rest s)
 unfolding joined_name
 name_joined s o o₁ o₂ size rest k r p q ek er x y =
     rw (take_to s size k ek, drop_from s rest r er) at (put_then x y)
@@ -202,18 +215,18 @@ pub record Adding (kind : NameType) (s o₀ o : List ℕ) (from at p n : ℕ) : 
 pub add_start : (kind : NameType) (s o : List ℕ) (from at : ℕ) → length o < cap → at ≤ cap → Adding kind s o o from at from at
 add_start kind s o from at r h = record { so_far = []; wrote = put_none o at r h; left = refl }
 
-module _ (kind : NameType) (s o₀ o : List ℕ) (from at p n : ℕ) (a : Adding kind s o₀ o from at p n) (w : List ℕ) (ew : w ≡ word_at s p) where
-  pub add_next : (length w ≡ 0 → ⊥) → (q : ℕ) → q ≡ past_word s p → (o₁ : List ℕ) (m : ℕ) → Put o o₁ n m (joined_behind kind (w ∷ [])) → Adding kind s o₀ o₁ from at q m
-  add_next h q eq o₁ m y = record {
+module _ (kind : NameType) (s o₀ o : List ℕ) (from at p n : ℕ) (a : Adding kind s o₀ o from at p n) where
+  pub add_next : (w : List ℕ) (ew : w ≡ word_at s p) → (length w ≡ 0 → ⊥) → (q : ℕ) → q ≡ past_word s p → (o₁ : List ℕ) (m : ℕ) → Put o o₁ n m (joined_behind kind (w ∷ [])) → Adding kind s o₀ o₁ from at q m
+  add_next w ew h q eq o₁ m y = record {
     so_far = a.so_far ++ joined_behind kind (w ∷ []);
     wrote = put_then a.wrote y;
     left =
         append_assoc a.so_far (joined_behind kind (w ∷ [])) (joined_behind kind (words_of (drop q s))) ∙ ap (λ (l : List ℕ). a.so_far ++ l) (one_by kind w _ refl _ ∙ ap (joined_behind kind) (sym (next s p w ew h q eq))) ∙ a.left;
   }
 
-  pub add_end : length w ≡ 0 → Put o₀ o at n (joined_behind kind (words_of (drop from s)))
+  pub add_end : length (word_at s p) ≡ 0 → Put o₀ o at n (joined_behind kind (words_of (drop from s)))
   unfolding joined_by_space remaining
-  add_end z = rw (← a.left, words_none s p (ap length (sym ew) ∙ z), append-nil) a.wrote
+  add_end z = rw (← a.left, words_none s p z, append-nil) a.wrote
 
 -- the first word that remains; nothing is written yet
 pub record Joining (kind : NameType) (s o₀ o : List ℕ) (p : ℕ) : Type 0 where
@@ -231,11 +244,11 @@ module _ (kind : NameType) (s o₀ o : List ℕ) (p : ℕ) (j : Joining kind s o
   pub join_kept : (o₁ o₂ : List ℕ) (n r : ℕ) (t u : List ℕ) → Put o o₁ 0 n t → Put o₁ o₂ n r u → length o₂ ≡ length o₀
   join_kept o₁ o₂ n r t u x y = put_long _ _ _ _ _ y ∙ put_long _ _ _ _ _ x ∙ join_long
 
-  module _ (w : List ℕ) (ew : w ≡ word_at s p) where
-    pub join_none : length w ≡ 0 → length o₀ < cap → Put o₀ o 0 0 (joined_words kind s)
-    unfolding joined_by_space remaining
-    join_none z r = rw (j.same, j.is, words_none s p (ap length (sym ew) ∙ z)) (put_none o₀ 0 r zero-le)
+  pub join_none : length (word_at s p) ≡ 0 → length o₀ < cap → Put o₀ o 0 0 (joined_words kind s)
+  unfolding joined_by_space remaining
+  join_none z r = rw (j.same, j.is, words_none s p z) (put_none o₀ 0 r zero-le)
 
+  module _ (w : List ℕ) (ew : w ≡ word_at s p) where
     module _ (h : length w ≡ 0 → ⊥) (q : ℕ) (eq : q ≡ past_word s p) (k : List ℕ) (ek : k ≡ kept_of kind w) (d : Bool) (ed : d ≡ drops_out kind k) where
       now_is : joined_words kind s ≡ joined_by_space (pick d (remaining kind (words_of (drop q s))) (k ∷ remaining kind (words_of (drop q s))))
       now_is = j.is ∙ ap (λ (ws : List (List ℕ)). joined_by_space (remaining kind ws)) (next s p w ew h q eq) ∙ ap joined_by_space (remains kind w k ek d ed _)
@@ -246,4 +259,4 @@ module _ (kind : NameType) (s o₀ o : List ℕ) (p : ℕ) (j : Joining kind s o
       pub join_here : d ≡ false → (o₁ o₂ : List ℕ) (n r : ℕ) → Put o o₁ 0 n k → Put o₁ o₂ n r (joined_behind kind (words_of (drop q s))) → Put o₀ o₂ 0 r (joined_words kind s)
       join_here z o₁ o₂ n r x y = rw (now_is ∙ ap joined_by_space (pick_false _ _ _ z) ∙ join_led k _, ← j.same) (put_then x y)
 
-pub ruleset join_laws = (slice_room, put_long, put_place, part_start, part_next, part_all, free_start, free_in, free_here, free_next, free_end, kept_by, drops_by, prefix_of_kind, name_joined, word_less, word_out, word_in, add_start, add_next, add_end, join_start, join_long, join_none, join_next, join_here, rules)
+pub ruleset join_laws = (slice_room, put_long, put_place, part_start, part_next, part_all, last_none, last_here, kept_by, drops_by, prefix_of_kind, name_joined, word_less, word_out, word_in, add_start, add_next, add_end, join_start, join_long, join_none, join_next, join_here, rules)

@@ -14,16 +14,17 @@ use Rattle.base.specs.Pick.{pick}
 use Rattle.base.proofs.Arms.{clash}
 use Rattle.letters.specs.Order.{same_text}
 use Rattle.texts.specs.Parts.{has}
-use Rattle.texts.proofs.Laws.{first_some_by, prefix_within}
+use Rattle.texts.proofs.Laws.{prefix_within}
 use Rattle.name_parts.specs.Words.{goes_on, led, words_of, spaces, letters, word_start, word_end, past_word, stretch, word_at, one_word}
-use Rattle.prefixes.specs.Prefixes.{prefixes_of, prefix_fits, among, split_of, is_prefix}
+use Rattle.prefixes.specs.Prefixes.{prefixes_of, among, split_of, is_prefix}
 use Rattle.prefixes.proofs.Longest.{split_all}
+use Rattle.prefixes.proofs.PrefixLaws.{fits_within}
 use Rattle.name_parts.specs.Joining.{spaced, joined_name, after_apostrophe, kept_of, drops_out, remaining, joined_by_space, joined_words}
 use Rattle.prefixes.specs.declared.prefixes.NameType.{NameType}
 use Rattle.prefixes.specs.declared.prefixes.NameType.TheVariants.{Ashkenazi, Generic, Sephardic}
 use Rattle.prefixes.specs.declared.prefixes.Prefix.{Prefix}
 use Rattle.prefixes.specs.declared.prefixes.Prefix.TheVariants.{Leads}
-use Rattle.base.proofs.PickLaws.{pick_true, pick_false, pick_all, and_inv}
+use Rattle.base.proofs.PickLaws.{pick_true, pick_false, pick_all}
 
 -- ---- the first word of a text, and what follows it
 
@@ -228,10 +229,6 @@ word_shorter s zero o h = elim (dec_le (length s) (length (word_at s 0))) [
 ]
 
 -- ---- where a name is parted
-
-fits_within : (p s : List ℕ) → prefix_fits p s ≡ true → length p < length s
-unfolding prefix_fits
-fits_within p s e = let l = first_some_by 32 (drop (length p) s) true (sym (and_inv _ _ e).1) refl in omega (arith, length-drop (length p) s)
 
 -- no prefix is empty
 prefix_some : (p : List ℕ) → is_prefix Generic p ≡ true → 1 ≤ length p

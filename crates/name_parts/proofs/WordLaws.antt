@@ -1,56 +1,54 @@
 -- A law for each way that the loops and branches of `words` can go. Assumes nothing.
 use mathlib.Core.Path.{◌≡◌, refl, sym, ap, ◌∙◌}
 use mathlib.Core.Bool.{false}
-use mathlib.Core.List.{List, []}
+use mathlib.Core.List.{List, [], ◌∷◌}
 use Prim.Native.Nat.{ℕ, zero, suc, ◌+◌, ◌-◌, ◌≤◌, ◌<◌}
 use native.Mathlib.Nat.{add-sub_cancel_left}
-use native.Mathlib.Numerals.{add-one}
 use native.Mathlib.Omega.{arith}
 use lib.Dec.{eqb, eqb-suc-zero, eqb-suc-suc}
-use lib.ListN.{length, get_or, take, drop, drop_of_length-le, length-drop}
-use lib.Seq.{drop-cons, drop-drop, take-nil}
+use lib.ListN.{length, take, drop, drop_of_length-le, length-drop}
+use lib.Seq.{drop-drop, take-nil}
 use borrow.Author.Rules.{rules}
-use borrow.Author.Tests.{eq-eqb, ne_eqb}
 use Rattle.base.specs.Pick.{pick}
+use mathlib.Core.Bool.{Bool, true, not, cond}
+use mathlib.Core.Logic.{⊎_elim}
+use native.Mathlib.Decide.{dec_le}
+use denote.Ref.{Bor}
+use Rattle.std.specs.Prelude.{Option, Some, None}
+use Rattle.std.specs.Option.{unwrap_or}
+use Rattle.std.specs.Slice.{IsGetRangeResult}
+use Rattle.std.specs.List.{prefix_len, take_while}
+use Rattle.std.proofs.lemmas.List.Folds.{length-prefix_len}
 use Rattle.name_parts.specs.Words.{words_of, word_at, spaces, letters, word_start, word_end, past_word, one_word}
 use Rattle.name_parts.proofs.Laws.{letters_within, word_is, words_none, words_next}
-use Rattle.base.proofs.PickLaws.{pick_true, pick_false}
 
--- ---- the loops: a byte more, and the end
-module _ (s : List ℕ) (i : ℕ) (h : i < length s) where
-  space_at : spaces (drop i s) ≡ pick (eqb (get_or s i 0) 32) (suc (spaces (drop (i + 1) s))) 0
-  unfolding spaces
-  space_at = rw (add-one, drop-cons s i 0) refl
+-- ---- how many bytes are passed, as `take_while` counts them
+spaces_is : (s : List ℕ) → spaces s ≡ prefix_len (λ b. eqb b 32) s
+unfolding spaces pick
+spaces_is [] = refl
+spaces_is (b ∷ s) = over (eqb b 32) (spaces_is s)
+  where
+    over : (t : Bool) → spaces s ≡ prefix_len (λ b. eqb b 32) s → pick t (suc (spaces s)) 0 ≡ cond t (1 + prefix_len (λ b. eqb b 32) s) 0
+    over true e = omega arith
+    over false e = refl
 
-  letter_at : letters (drop i s) ≡ pick (eqb (get_or s i 0) 32) 0 (suc (letters (drop (i + 1) s)))
-  unfolding letters
-  letter_at = rw (add-one, drop-cons s i 0) refl
+letters_is : (s : List ℕ) → letters s ≡ prefix_len (λ b. not (eqb b 32)) s
+unfolding letters pick
+letters_is [] = refl
+letters_is (b ∷ s) = over (eqb b 32) (letters_is s)
+  where
+    over : (t : Bool) → letters s ≡ prefix_len (λ b. not (eqb b 32)) s → pick t 0 (suc (letters s)) ≡ cond (not t) (1 + prefix_len (λ b. not (eqb b 32)) s) 0
+    over true e = refl
+    over false e = omega arith
 
-  module _ (x : ℕ) where
-    pub start_space : get_or s i 0 ≡ 32 → x ≡ word_start s i → x ≡ word_start s (i + 1)
-    unfolding word_start
-    start_space e q = omega (arith, space_at ∙ pick_true _ _ _ (eq-eqb _ _ e))
+module _ (s : List ℕ) (p n : ℕ) where
+  pub start_by : n ≡ length (take_while (λ b. eqb b 32) (drop p s)) → p + n ≡ word_start s p
+  unfolding word_start
+  start_by e = ap (λ (k : ℕ). p + k) (e ∙ length-prefix_len (λ b. eqb b 32) (drop p s) ∙ sym (spaces_is (drop p s)))
 
-    pub start_here : (get_or s i 0 ≡ 32 → ⊥) → x ≡ word_start s i → i ≡ x
-    unfolding word_start
-    start_here e q = omega (arith, space_at ∙ pick_false _ _ _ (ne_eqb _ _ e))
-
-    pub end_more : (get_or s i 0 ≡ 32 → ⊥) → x ≡ word_end s i → x ≡ word_end s (i + 1)
-    unfolding word_end
-    end_more e q = omega (arith, letter_at ∙ pick_false _ _ _ (ne_eqb _ _ e))
-
-    pub end_here : get_or s i 0 ≡ 32 → x ≡ word_end s i → i ≡ x
-    unfolding word_end
-    end_here e q = omega (arith, letter_at ∙ pick_true _ _ _ (eq-eqb _ _ e))
-
-module _ (s : List ℕ) (i : ℕ) (h : length s ≤ i) (x : ℕ) where
-  pub start_end : x ≡ word_start s i → i ≡ x
-  unfolding word_start spaces
-  start_end q = let z : spaces (drop i s) ≡ 0 = ap spaces (drop_of_length-le s h) in omega arith
-
-  pub end_end : x ≡ word_end s i → i ≡ x
-  unfolding word_end letters
-  end_end q = let z : letters (drop i s) ≡ 0 = ap letters (drop_of_length-le s h) in omega arith
+  pub end_by : n ≡ length (take_while (λ b. not (eqb b 32)) (drop p s)) → p + n ≡ word_end s p
+  unfolding word_end
+  end_by e = ap (λ (k : ℕ). p + k) (e ∙ length-prefix_len (λ b. not (eqb b 32)) (drop p s) ∙ sym (letters_is (drop p s)))
 
 -- ---- the part where the word stands
 pub end_from : (s : List ℕ) (a e : ℕ) → e ≡ word_end s a → a ≤ e
@@ -73,6 +71,14 @@ module _ (s : List ℕ) (p a : ℕ) (ea : a ≡ word_start s p) where
   pub word_out : length s < a → [] ≡ word_at s p
   word_out h = let l : length s ≤ a = omega arith in rw (drop_of_length-le s l, take-nil) at word_from
 
+-- what is there of the word's part
+pub word_got : (s : List ℕ) (p a e : ℕ) → a ≡ word_start s p → e ≡ word_end s a → (o : Option (Bor (List ℕ))) (d r : Bor (List ℕ)) → d.now ≡ [] → r ≡ unwrap_or o d → IsGetRangeResult s a e o → r.now ≡ word_at s p
+word_got s p a e ea ee None d r h q m = ap (λ (x : Bor (List ℕ)). x.now) q ∙ h ∙ word_out s p a ea (⊎_elim (λ l. absurd (omega (arith, end_from s a e ee))) past m.0)
+  where
+    past : length s < e → length s < a
+    past l = elim (dec_le a (length s)) [ yes k ↦ absurd (omega (arith, end_within s a e k ee)) | no k ↦ omega arith ]
+word_got s p a e ea ee (Some x) d r h q m = ap (λ (x : Bor (List ℕ)). x.now) q ∙ m.0.2 ∙ word_in s p a ea e ee
+
 pub past_by : (s : List ℕ) (p a e : ℕ) → a ≡ word_start s p → e ≡ word_end s a → e ≡ past_word s p
 unfolding past_word
 past_by s p a e ea ee = ee ∙ ap (word_end s) ea
@@ -92,4 +98,4 @@ one_by s w v q ew h eq ev =
     let next = words_next s 0 (λ z. h (ap length ew ∙ z)) in
     none_by s q _ (ap length (sym ev)) ∙ sym (ap (λ (ws : List (List ℕ)). eqb (length ws) 1) next ∙ eqb-suc-suc (length (words_of (drop (past_word s 0) s))) 0 ∙ ap (λ (k : ℕ). eqb (length (words_of (drop k s))) 0) (sym eq))
 
-pub ruleset word_laws = (start_space, start_here, end_more, end_here, start_end, end_end, end_from, end_within, word_in, word_out, past_by, one_none, one_by, rules)
+pub ruleset word_laws = (past_by, one_none, one_by, rules)

@@ -1,13 +1,13 @@
 // Texts that are spelled in a name's place (01, Spelling a name, steps 2, 3 and 5).
-ghost use Rattle.std.specs.Prelude.{◌≡◌, ◌≤◌, min, eqb, length, drop};
-ghost use mathlib.Core.List.{◌∷◌};
+ghost use Rattle.std.specs.Prelude.{◌≡◌, ◌≢◌, ◌≤◌, ◌<◌, ℕ, eqb, length, drop, slice_index, EachIndex, MatchOption};
 ghost use Rattle.base.specs.Pick.{pick};
+ghost use mathlib.Core.List.{◌∷◌};
 ghost use Rattle.writing.specs.InnerContracts.{Put, cap};
 ghost use Rattle.name_parts.specs.Words.{words_of};
 ghost use Rattle.name_parts.specs.Joining.{spaced, joined_name, after_apostrophe, kept_of, drops_out, joined_words};
 ghost use Rattle.name_parts.specs.InnerContracts.{joined_behind};
 
-use crate::words::{next_word, past_word};
+use crate::words::take_word;
 use prefixes::{NameType, is_prefix};
 use writing::{copy, push};
 
@@ -24,18 +24,9 @@ fn replace_hyphen(b: u8) -> u8
 pub fn replace_hyphens(name: &mut [u8])
     ensures { name.new ≡ spaced name.old }
 {
-    let mut i: usize = 0;
-    while i < name.len() {
-        name[i] = replace_hyphen(name[i]);
-        i += 1;
+    for b in name.iter_mut() {
+        *b = replace_hyphen(*b);
     }
-}
-
-// The place, or the end of s.
-fn place_in(s: &[u8], i: usize) -> usize
-    ensures { result ≡ min i (length s.now) }
-{
-    if i < s.len() { i } else { s.len() }
 }
 
 // The prefix joined to the remainder, at the front of `to`, as far as there is room. Returns its length.
@@ -43,10 +34,16 @@ fn place_in(s: &[u8], i: usize) -> usize
 pub fn join_prefix(s: &[u8], size: usize, rest: usize, to: &mut [u8]) -> usize
     ensures { Put to.old to.new 0 result (joined_name size rest s.now) }
 {
-    let k = place_in(s, size);
-    let p = copy(&s[0..k], to, 0);
-    let r = place_in(s, rest);
-    copy(&s[r..], to, p)
+    let n = s.len();
+    let p = copy(&s[..size.min(n)], to, 0);
+    copy(&s[rest.min(n)..], to, p)
+}
+
+// The place of the word's last apostrophe.
+fn last_apostrophe(w: &[u8]) -> Option<usize>
+    ensures { MatchOption result (EachIndex w.now (λ k. slice_index w.now k ≢ 39)) (λ i. (i < length w.now) × (slice_index w.now i ≡ 39) × ((k : ℕ) → i < k → k < length w.now → slice_index w.now k ≢ 39)) }
+{
+    w.iter().rposition(|b| *b == b'\'')
 }
 
 // What follows the word's last apostrophe, or the word.
@@ -54,14 +51,10 @@ pub fn join_prefix(s: &[u8], size: usize, rest: usize, to: &mut [u8]) -> usize
 fn after_apostrophe(w: &[u8]) -> &[u8]
     ensures { result.now ≡ after_apostrophe w.now }
 {
-    let mut i = w.len();
-    while 0 < i {
-        if w[i - 1] == b'\'' {
-            return &w[i..];
-        }
-        i -= 1;
+    match last_apostrophe(w) {
+        Some(i) => &w[i + 1..],
+        None => w,
     }
-    w
 }
 
 // What is kept of a word.
@@ -70,8 +63,7 @@ fn kept_of(kind: NameType, w: &[u8]) -> &[u8]
     ensures { result.now ≡ kept_of kind w.now }
 {
     match kind {
-        NameType::Ashkenazi => w,
-        NameType::Generic => w,
+        NameType::Ashkenazi | NameType::Generic => w,
         NameType::Sephardic => after_apostrophe(w),
     }
 }
@@ -82,9 +74,8 @@ fn drops_out(kind: NameType, w: &[u8]) -> bool
     ensures { result ≡ drops_out kind w.now }
 {
     match kind {
-        NameType::Ashkenazi => is_prefix(kind, w),
+        NameType::Ashkenazi | NameType::Sephardic => is_prefix(kind, w),
         NameType::Generic => false,
-        NameType::Sephardic => is_prefix(kind, w),
     }
 }
 
@@ -110,33 +101,27 @@ fn add_words(kind: NameType, s: &[u8], from: usize, to: &mut [u8], at: usize) ->
 {
     let mut p = from;
     let mut n = at;
-    loop {
-        let w = next_word(s, p);
-        if w.len() == 0 {
-            return n;
-        }
-        p = past_word(s, p);
+    while let Some((w, next)) = take_word(s, p) {
+        p = next;
         n = add_word(kind, w, to, n);
     }
+    n
 }
 
 // The words of a name joined by a space, at the front of `to`, as far as there is room. Returns their length.
-#[tactic(auto, using(crate::proofs::JoinLaws::join_laws, crate::proofs::JoinLaws::join_kept, crate::proofs::JoinLaws::join_here))]
+#[tactic(auto, using(crate::proofs::JoinLaws::join_laws, crate::proofs::JoinLaws::join_kept))]
 pub fn join_words(kind: NameType, s: &[u8], to: &mut [u8]) -> usize
     ensures { Put to.old to.new 0 result (joined_words kind s.now) }
 {
-    let mut p: usize = 0;
-    loop {
-        let w = next_word(s, p);
-        if w.len() == 0 {
-            return 0;
-        }
-        p = past_word(s, p);
+    let mut p = 0;
+    while let Some((w, next)) = take_word(s, p) {
+        p = next;
         let k = kept_of(kind, w);
         if drops_out(kind, k) {
             continue;
         }
         let n = copy(k, to, 0);
-        return add_words(kind, s, p, to, n);
+        return add_words(kind, s, next, to, n);
     }
+    0
 }

@@ -1,5 +1,5 @@
 // Words of a name (01, Spelling a name, step 4), each shown as the part of the name where it stands.
-ghost use Rattle.std.specs.Prelude.{◌≡◌};
+ghost use Rattle.std.specs.Prelude.{◌≡◌, MatchOption, length};
 ghost use Rattle.name_parts.specs.Words.{word_start, word_end, word_at, past_word, one_word};
 
 // The first place at or after p with no space, or the end.
@@ -7,15 +7,7 @@ ghost use Rattle.name_parts.specs.Words.{word_start, word_end, word_at, past_wor
 fn word_start(s: &[u8], p: usize) -> usize
     ensures { result ≡ word_start s.now p }
 {
-    let mut i = p;
-    while i < s.len() {
-        if s[i] == b' ' {
-            i += 1;
-        } else {
-            return i;
-        }
-    }
-    i
+    p + s.iter().skip(p).take_while(|b| **b == b' ').count()
 }
 
 // The first place at or after p with a space, or the end.
@@ -23,14 +15,7 @@ fn word_start(s: &[u8], p: usize) -> usize
 fn word_end(s: &[u8], p: usize) -> usize
     ensures { result ≡ word_end s.now p }
 {
-    let mut i = p;
-    while i < s.len() {
-        if s[i] == b' ' {
-            return i;
-        }
-        i += 1;
-    }
-    i
+    p + s.iter().skip(p).take_while(|b| **b != b' ').count()
 }
 
 // The next word at or after p: the part of s from its start up to the place behind it; empty where there is none.
@@ -38,13 +23,9 @@ fn word_end(s: &[u8], p: usize) -> usize
 pub fn next_word(s: &[u8], p: usize) -> &[u8]
     ensures { result.now ≡ word_at s.now p }
 {
-    let a = word_start(s, p);
-    if a <= s.len() {
-        let e = word_end(s, a);
-        &s[a..e]
-    } else {
-        &s[0..0]
-    }
+    let start = word_start(s, p);
+    let end = word_end(s, start);
+    s.get(start..end).unwrap_or(&[])
 }
 
 // The place behind that word.
@@ -55,13 +36,23 @@ pub fn past_word(s: &[u8], p: usize) -> usize
     word_end(s, word_start(s, p))
 }
 
+// That word and the place behind it, where there is one.
+#[tactic(auto, using(crate::proofs::WordLaws::word_laws))]
+pub(crate) fn take_word(s: &[u8], p: usize) -> Option<(&[u8], usize)>
+    ensures { MatchOption result (length (word_at s.now p) ≡ 0) (λ x. (x.0.now ≡ word_at s.now p) × (length x.0.now ≡ 0 → ⊥) × (x.1 ≡ past_word s.now p)) }
+{
+    let word = next_word(s, p);
+    if word.is_empty() {
+        None
+    } else {
+        Some((word, past_word(s, p)))
+    }
+}
+
 // Whether the name has exactly one word.
 #[tactic(auto, using(crate::proofs::WordLaws::word_laws))]
 pub fn one_word(s: &[u8]) -> bool
     ensures { result ≡ one_word s.now }
 {
-    if next_word(s, 0).len() == 0 {
-        return false;
-    }
-    next_word(s, past_word(s, 0)).len() == 0
+    !next_word(s, 0).is_empty() && next_word(s, past_word(s, 0)).is_empty()
 }

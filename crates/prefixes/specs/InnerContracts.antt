@@ -1,5 +1,6 @@
 -- What only the contracts within `prefixes` use.
-use Rattle.std.specs.Prelude.{ℕ, Bool, true, ltb}
+use Rattle.std.specs.Prelude.{ℕ, Bool, true, List, map, ltb}
+use Rattle.std.specs.Borrow.{Bor}
 use Rattle.prefixes.specs.declared.prefixes.Prefix.{Prefix}
 use Rattle.prefixes.specs.declared.prefixes.Prefix.TheVariants.{Leads, Whole}
 
@@ -7,3 +8,7 @@ use Rattle.prefixes.specs.declared.prefixes.Prefix.TheVariants.{Leads, Whole}
 unfoldable pub longer_than : Prefix → ℕ → Bool
 longer_than (Leads most rest) size = ltb most size
 longer_than Whole size = true
+
+-- the prefixes that a table lends
+abbrev pub texts_of : List (Bor (List ℕ)) → List (List ℕ)
+texts_of table = map (λ p. p.now) table

@@ -26,8 +26,7 @@ use Rattle.texts.proofs.Laws.{prefix_byte}
 use Rattle.texts.proofs.SignatureLaws.{Has, In, all_has, char_byte, signature_covers, covered}
 use Rattle.regex_optim.specs.Contexts.{box_inner, form_in, left_form, right_form, code_at, first_char, code_of, back_char, whole_char, or_else, last_char, char_fits, fits}
 use Rattle.regex_optim.specs.InnerContracts.{box_char, box_fits, literal_fits, all_bits, box_bits, rest_bits, left_bits, right_bits}
-use Rattle.regex_optim.specs.declared.Letter.{Letter}
-use Rattle.regex_optim.specs.declared.Letter.TheVariants.{Code, Absent}
+use Rattle.std.specs.Prelude.{Option, Some, None}
 use Rattle.regex_optim.proofs.Laws.{left_is, right_is, fits_by_box, fits_by_none, fits_by_other}
 
 -- ---- the character beside the place
@@ -47,7 +46,7 @@ byte_has {x} {k} bits w a =
     subst (λ (c : ℕ). Has bits (bit_of c)) (char_byte x w.place k w.size w.i w.stands w.within ∙ sym w.is)
     (a w.i (omega (arith, char_length_lem x w.place k w.size w.stands, w.within)))
 
-first_by : (x : List ℕ) (k : ℕ) (r : Step) → decode_at x 0 ≡ r → code_at r ≡ Code k → ByteOf x k (first_byte x)
+first_by : (x : List ℕ) (k : ℕ) (r : Step) → decode_at x 0 ≡ r → code_at r ≡ Some k → ByteOf x k (first_byte x)
 unfolding code_at
 first_by x k (Char c n) e q =
     let same : c ≡ k = cc in
@@ -61,17 +60,17 @@ record Back (x : List ℕ) (k n : ℕ) : Type 0 where
   fits : n ≤ length x
   stands : decode_at x (length x - n) ≡ Char k n
 
-back_by : (x : List ℕ) (k n : ℕ) → n ≤ length x → (r : Step) → decode_at x (length x - n) ≡ r → code_of n r ≡ Code k → Back x k n
+back_by : (x : List ℕ) (k n : ℕ) → n ≤ length x → (r : Step) → decode_at x (length x - n) ≡ r → code_of n r ≡ Some k → Back x k n
 unfolding code_of
 back_by x k n h (Char c m) e q = ⊎_elim
     (λ v. let size = eqb-true m n v.0 in record { fits = h; stands = cc })
-    (λ v. clash (cc)) (pick_inv (eqb m n) (Code c) Absent (Code k) q)
+    (λ v. clash (cc)) (pick_inv (eqb m n) (Some c) None (Some k) q)
 back_by x k n h Ill e q = clash (cc)
 back_by x k n h End e q = clash (cc)
 
-back_in : (x : List ℕ) (k n : ℕ) → back_char x n ≡ Code k → Back x k n
+back_in : (x : List ℕ) (k n : ℕ) → back_char x n ≡ Some k → Back x k n
 unfolding back_char
-back_in x k n q = ⊎_elim (λ v. clash (cc)) (λ v. back_by x k n (ltb-false (length x) n v.0) _ refl v.1) (pick_inv (ltb (length x) n) Absent _ (Code k) q)
+back_in x k n q = ⊎_elim (λ v. clash (cc)) (λ v. back_by x k n (ltb-false (length x) n v.0) _ refl v.1) (pick_inv (ltb (length x) n) None _ (Some k) q)
 
 back_last : {x : List ℕ} {k n : ℕ} → Back x k n → ByteOf x k (last_byte x)
 back_last {x} {k} {n} w =
@@ -85,15 +84,15 @@ whole_first {x} {k} w =
     let here : decode_at x 0 ≡ Char k (length x) = ap (decode_at x) (sym start) ∙ w.stands in
     record { place = 0; size = length x; i = 0; stands = here; within = (char_at x 0 k (length x) here).some; is = refl }
 
-else_by : (x : List ℕ) (k : ℕ) (a b : Letter) → or_else a b ≡ Code k → (a ≡ Code k → ByteOf x k (last_byte x)) → (b ≡ Code k → ByteOf x k (last_byte x)) → ByteOf x k (last_byte x)
+else_by : (x : List ℕ) (k : ℕ) (a b : Option ℕ) → or_else a b ≡ Some k → (a ≡ Some k → ByteOf x k (last_byte x)) → (b ≡ Some k → ByteOf x k (last_byte x)) → ByteOf x k (last_byte x)
 unfolding or_else
-else_by x k (Code c) b e f g = f e
-else_by x k Absent b e f g = g e
+else_by x k (Some c) b e f g = f e
+else_by x k None b e f g = g e
 
-back_of : (x : List ℕ) (k n : ℕ) → back_char x n ≡ Code k → ByteOf x k (last_byte x)
+back_of : (x : List ℕ) (k n : ℕ) → back_char x n ≡ Some k → ByteOf x k (last_byte x)
 back_of x k n e = back_last (back_in x k n e)
 
-last_by : (x : List ℕ) (k : ℕ) → last_char x ≡ Code k → ByteOf x k (last_byte x)
+last_by : (x : List ℕ) (k : ℕ) → last_char x ≡ Some k → ByteOf x k (last_byte x)
 unfolding last_char
 last_by x k e =
     else_by x k _ _ e (back_of x k 1) (λ e. else_by x k _ _ e (back_of x k 2) (λ e. else_by x k _ _ e (back_of x k 3) (back_of x k 4)))
@@ -102,7 +101,7 @@ last_by x k e =
 
 -- with these anchors it is compared with the text from one side: `byte` is the byte there
 record Side (s e : Bool) (byte : List ℕ → ℕ) : Type 0 where
-  box : (x : List ℕ) (k : ℕ) → box_char s e x ≡ Code k → ByteOf x k (byte x)
+  box : (x : List ℕ) (k : ℕ) → box_char s e x ≡ Some k → ByteOf x k (byte x)
   literal : (t x : List ℕ) → (length t ≡ 0 → s ≡ e) → literal_fits t s e x ≡ true → byte x ≡ byte t
 
 -- what fits without one of the anchors is not empty
@@ -131,12 +130,12 @@ behind false = record {
 }
 
 module _ {s e : Bool} {byte : List ℕ → ℕ} (side : Side s e byte) (x : List ℕ) where
-  char_has : (inner : List ℕ) (a : Letter) → box_char s e x ≡ a → char_fits true inner a ≡ true → Has (signature_of inner) (bit_of (byte x))
+  char_has : (inner : List ℕ) (a : Option ℕ) → box_char s e x ≡ a → char_fits true inner a ≡ true → Has (signature_of inner) (bit_of (byte x))
   unfolding char_fits
-  char_has inner (Code k) q f = ⊎_elim
+  char_has inner (Some k) q f = ⊎_elim
       (λ v. byte_has (signature_of inner) (side.box x k q) (covered _ k v.0 (signature_covers inner)))
       (λ v. absurd (false≢true v.1)) (pick_inv (has k (codes_of inner)) true false true f)
-  char_has inner Absent q f = absurd (false≢true f)
+  char_has inner None q f = absurd (false≢true f)
 
   box_has : (inner : List ℕ) (n : Bool) → first_is caret inner ≡ n → box_fits inner s e x ≡ true → Has (box_bits inner) (bit_of (byte x))
   unfolding box_bits box_fits without_caret

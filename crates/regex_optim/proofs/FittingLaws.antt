@@ -19,8 +19,7 @@ use Rattle.texts.specs.Parts.{has, prefix_of, suffix_of}
 use Rattle.texts.proofs.Chars.{has_nil}
 use Rattle.regex_optim.specs.Contexts.{Form, always, empty, equals, starts, ends, only, first, last, outside, literal_form, box_form, takes_none, empty_box, back_char, whole_char, or_else, last_char, char_fits, fits}
 use Rattle.regex_optim.specs.InnerContracts.{box_char}
-use Rattle.regex_optim.specs.declared.Letter.{Letter}
-use Rattle.regex_optim.specs.declared.Letter.TheVariants.{Code, Absent}
+use Rattle.std.specs.Prelude.{Option, Some, None}
 use Rattle.regex_optim.proofs.Laws.{Anchored, fits_box, first_code_lem, back_code, back_ill}
 
 -- ---- a literal
@@ -47,10 +46,10 @@ fits_itself false false t a = clash (cc)
 -- ---- a text that is one character
 
 -- the last n bytes begin within a character
-back_within : (x : List ℕ) (n i : ℕ) → length x - n ≡ i → n ≤ length x → i < length x → Within 0x80 0xBF (get_or x i 0) → back_char x n ≡ Absent
+back_within : (x : List ℕ) (n i : ℕ) → length x - n ≡ i → n ≤ length x → i < length x → Within 0x80 0xBF (get_or x i 0) → back_char x n ≡ None
 back_within x n i e h l w = sym (back_ill x n h _ refl (ap (decode_at x) e ∙ tail_ill x i l w))
 
-last_by : (x : List ℕ) (k n : ℕ) → length x ≡ n → back_char x n ≡ Code k → Shape (get_or x 0 0) (get_or x 1 0) (get_or x 2 0) (get_or x 3 0) k n → last_char x ≡ Code k
+last_by : (x : List ℕ) (k n : ℕ) → length x ≡ n → back_char x n ≡ Some k → Shape (get_or x 0 0) (get_or x 1 0) (get_or x 2 0) (get_or x 3 0) k n → last_char x ≡ Some k
 unfolding last_char or_else
 last_by x k n size whole (of_one h e) = rw whole refl
 last_by x k n size whole (of_two g h e) = rw (back_within x 1 1 (omega arith) (omega arith) (omega arith) h, whole) refl
@@ -65,11 +64,11 @@ last_by x k n size whole (of_four g h i j l e) =
     ) refl
 
 module _ (x : List ℕ) (k : ℕ) (e : decode_at x 0 ≡ Char k (length x)) where
-  whole : back_char x (length x) ≡ Code k
+  whole : back_char x (length x) ≡ Some k
   whole = sym (back_code x (length x) (omega arith) _ refl k (length x) (ap (decode_at x) (sub_self (length x)) ∙ e) refl)
 
   -- a box sees it, whatever its anchors
-  box_sees : (s e : Bool) → Anchored s e → box_char s e x ≡ Code k
+  box_sees : (s e : Bool) → Anchored s e → box_char s e x ≡ Some k
   unfolding box_char whole_char pick
   box_sees true true a = whole
   box_sees true false a = sym (first_code_lem x _ refl k (length x) e)
@@ -82,11 +81,11 @@ module _ (x : List ℕ) (k : ℕ) (e : decode_at x 0 ≡ Char k (length x)) wher
 
 -- ---- an empty box
 
-takes_none_lem : (hit : Bool) (l : List ℕ) (a : Letter) → takes_none hit l ≡ true → char_fits hit l a ≡ false
+takes_none_lem : (hit : Bool) (l : List ℕ) (a : Option ℕ) → takes_none hit l ≡ true → char_fits hit l a ≡ false
 unfolding takes_none char_fits codes_of symbols_of symbols_from codes_in pick
-takes_none_lem hit l Absent e = refl
-takes_none_lem hit [] (Code k) e = ap (λ (b : Bool). pick b hit (not hit)) (has_nil k) ∙ ap not (and_inv hit _ e).0
-takes_none_lem hit (x ∷ l) (Code k) e = let w = eqb-true (length (x ∷ l)) 0 (and_inv hit _ e).1 in absurd (omega arith)
+takes_none_lem hit l None e = refl
+takes_none_lem hit [] (Some k) e = ap (λ (b : Bool). pick b hit (not hit)) (has_nil k) ∙ ap not (and_inv hit _ e).0
+takes_none_lem hit (x ∷ l) (Some k) e = let w = eqb-true (length (x ∷ l)) 0 (and_inv hit _ e).1 in absurd (omega arith)
 
 pub empty_fits_nothing : (f : Form) (x : List ℕ) → empty_box f ≡ true → fits f x ≡ false
 unfolding empty_box fits

@@ -16,10 +16,9 @@ use Rattle.letters.specs.declared.utf8.Step.{Step}
 use Rattle.letters.specs.declared.utf8.Step.TheVariants.{Char, Ill, End}
 use Rattle.texts.specs.Parts.{tail, front, first_is, last_is, place_of, has, prefix_of, suffix_of, caret, dollar, opening, closing, without_caret, without_dollar}
 use Rattle.texts.proofs.Laws.{front_is}
-use Rattle.regex_optim.specs.Contexts.{Form, outside, literal_form, box_form, box_inner, boxed, form_in, form_of, left_form, right_form, kind_of, takes_none, empty_box, code_at, first_char, code_of, back_char, whole_char, or_else, char_fits, fits}
+use Rattle.regex_optim.specs.Contexts.{Form, outside, literal_form, box_form, box_inner, boxed, form_in, form_of, left_form, right_form, kind_of, takes_none, empty_box, code_at, first_char, code_of, back_char, whole_char, char_fits, fits}
 use Rattle.regex_optim.specs.InnerContracts.{box_char, box_fits, literal_fits, box_kind, literal_kind, empty_rest}
-use Rattle.regex_optim.specs.declared.Letter.{Letter}
-use Rattle.regex_optim.specs.declared.Letter.TheVariants.{Code, Absent}
+use Rattle.std.specs.Prelude.{Option, Some, None}
 use Rattle.regex_optim.specs.declared.OptimizedRegex.{OptimizedRegex}
 use Rattle.regex_optim.specs.declared.OptimizedRegex.TheVariants.{Outside}
 use Rattle.base.proofs.Arms.{clash}
@@ -28,19 +27,19 @@ use Rattle.base.proofs.PickLaws.{pick_true, pick_false, pick_all, and_first, and
 -- ---- one character
 
 module _ (x : List ℕ) (r : Step) (e : r ≡ decode_at x 0) where
-  pub first_code_lem : (k n : ℕ) → r ≡ Char k n → Code k ≡ first_char x
+  pub first_code_lem : (k n : ℕ) → r ≡ Char k n → Some k ≡ first_char x
   unfolding first_char code_at
   first_code_lem k n q = sym (ap code_at (sym e ∙ q))
 
-  pub first_ill_lem : r ≡ Ill → Absent ≡ first_char x
+  pub first_ill_lem : r ≡ Ill → None ≡ first_char x
   unfolding first_char code_at
   first_ill_lem q = sym (ap code_at (sym e ∙ q))
 
-  pub first_end : r ≡ End → Absent ≡ first_char x
+  pub first_end : r ≡ End → None ≡ first_char x
   unfolding first_char code_at
   first_end q = sym (ap code_at (sym e ∙ q))
 
-pub back_short : (x : List ℕ) (n : ℕ) → length x < n → Absent ≡ back_char x n
+pub back_short : (x : List ℕ) (n : ℕ) → length x < n → None ≡ back_char x n
 unfolding back_char
 back_short x n h = sym (pick_true _ _ _ (lt-ltb _ _ h))
 
@@ -49,33 +48,25 @@ module _ (x : List ℕ) (n : ℕ) (h : n ≤ length x) (r : Step) (e : r ≡ dec
   unfolding back_char
   back_by y q = pick_false _ _ _ (le-ltb _ _ h) ∙ ap (code_of n) (sym e ∙ q)
 
-  pub back_code : (k m : ℕ) → r ≡ Char k m → m ≡ n → Code k ≡ back_char x n
+  pub back_code : (k m : ℕ) → r ≡ Char k m → m ≡ n → Some k ≡ back_char x n
   unfolding code_of
   back_code k m q f = sym (back_by (Char k m) q ∙ pick_true _ _ _ (eq-eqb m n f))
 
-  pub back_other : (k m : ℕ) → r ≡ Char k m → (m ≡ n → ⊥) → Absent ≡ back_char x n
+  pub back_other : (k m : ℕ) → r ≡ Char k m → (m ≡ n → ⊥) → None ≡ back_char x n
   unfolding code_of
   back_other k m q f = sym (back_by (Char k m) q ∙ pick_false _ _ _ (ne_eqb m n f))
 
-  pub back_ill : r ≡ Ill → Absent ≡ back_char x n
+  pub back_ill : r ≡ Ill → None ≡ back_char x n
   unfolding code_of
   back_ill q = sym (back_by Ill q)
 
-  pub back_end : r ≡ End → Absent ≡ back_char x n
+  pub back_end : r ≡ End → None ≡ back_char x n
   unfolding code_of
   back_end q = sym (back_by End q)
 
-pub whole_by_lem : (x : List ℕ) (r : Letter) → r ≡ back_char x (length x) → r ≡ whole_char x
+pub whole_by_lem : (x : List ℕ) (r : Option ℕ) → r ≡ back_char x (length x) → r ≡ whole_char x
 unfolding whole_char
 whole_by_lem x r e = e
-
-pub else_code : (a b : Letter) (r : Letter) (k : ℕ) → r ≡ a → r ≡ Code k → Code k ≡ or_else a b
-unfolding or_else
-else_code a b r k e q = sym (ap (λ (y : Letter). or_else y b) (sym e ∙ q))
-
-pub else_absent : (a b : Letter) (r s : Letter) → r ≡ a → r ≡ Absent → s ≡ b → s ≡ or_else a b
-unfolding or_else
-else_absent a b r s e q f = f ∙ sym (ap (λ (y : Letter). or_else y b) (sym e ∙ q))
 
 pub ruleset char_laws = (first_code_lem, first_ill_lem, first_end, back_short, back_code, back_other, back_ill, back_end, whole_by_lem, rules)
 
@@ -91,10 +82,6 @@ pub inner_some : (t : List ℕ) → 2 ≤ length t → take (length t - 1 - 1) (
 unfolding box_inner tail
 inner_some [] h = absurd (omega arith)
 inner_some (x ∷ t) h = let e : suc (length t) - 1 - 1 ≡ length t - 1 = omega arith in ap (λ (n : ℕ). take n t) e ∙ front_is t
-
-pub has_by : (b : ℕ) (t : List ℕ) (n : ℕ) → n ≡ place_of b t → ltb n (length t) ≡ has b t
-unfolding has
-has_by b t n e = ap (λ (i : ℕ). ltb i (length t)) e
 
 module _ (t : List ℕ) (f : Bool) (e : f ≡ first_is opening t) where
   pub boxed_not : f ≡ false → false ≡ boxed t
@@ -380,23 +367,23 @@ unfolding without_dollar last_is pick form_in has place_of literal_form fits
 right_empty [] x h = sym (ap (λ (f : Form). fits f x) (right_is []))
 right_empty (y ∷ c) x h = let no_way : ⊥ = omega arith in absurd no_way
 
-pub box_fit : (i l x : List ℕ) (n : Bool) (a : Letter) (s e r : Bool) → n ≡ first_is caret i → l ≡ without_caret i → a ≡ box_char s e x → r ≡ char_fits (not n) l a → r ≡ box_fits i s e x
+pub box_fit : (i l x : List ℕ) (n : Bool) (a : Option ℕ) (s e r : Bool) → n ≡ first_is caret i → l ≡ without_caret i → a ≡ box_char s e x → r ≡ char_fits (not n) l a → r ≡ box_fits i s e x
 unfolding box_fits
 box_fit i l x n a s e r p q w f = rw (← p, ← q, ← w) f
 
-module _ (hit : Bool) (l : List ℕ) (a : Letter) (k : ℕ) (t : Bool) where
-  pub char_member : a ≡ Code k → t ≡ has k (codes_of l) → t ≡ true → hit ≡ char_fits hit l a
+module _ (hit : Bool) (l : List ℕ) (a : Option ℕ) (k : ℕ) (t : Bool) where
+  pub char_member : a ≡ Some k → t ≡ has k (codes_of l) → t ≡ true → hit ≡ char_fits hit l a
   unfolding char_fits
   char_member e m q = sym (ap (char_fits hit l) e ∙ pick_true _ _ _ (sym m ∙ q))
 
-  pub char_other : a ≡ Code k → t ≡ has k (codes_of l) → t ≡ false → not hit ≡ char_fits hit l a
+  pub char_other : a ≡ Some k → t ≡ has k (codes_of l) → t ≡ false → not hit ≡ char_fits hit l a
   unfolding char_fits
   char_other e m q = sym (ap (char_fits hit l) e ∙ pick_false _ _ _ (sym m ∙ q))
 
-pub char_absent : (hit : Bool) (l : List ℕ) (a : Letter) → a ≡ Absent → false ≡ char_fits hit l a
+pub char_absent : (hit : Bool) (l : List ℕ) (a : Option ℕ) → a ≡ None → false ≡ char_fits hit l a
 unfolding char_fits
 char_absent hit l a e = sym (ap (char_fits hit l) e)
 
-pub ruleset part_laws = (inner_none, inner_some, has_by, boxed_not, boxed_open, boxed_by, inside_none, inside_some, left_empty_box, right_empty_box, else_code, else_absent, rules)
+pub ruleset part_laws = (inner_none, inner_some, boxed_not, boxed_open, boxed_by, inside_none, inside_some, left_empty_box, right_empty_box, rules)
 
 pub ruleset form_laws = (kind_by_literal, kind_by_box, kind_by_none, only_fits, only_fails, fits_by_literal, fits_by_other, fits_by_box, fits_by_none, left_empty, right_empty, left_kind, right_kind, left_fit, right_fit, box_fit, char_member, char_other, char_absent, rules)

@@ -7,8 +7,7 @@ use Rattle.letters.specs.Order.{same_text}
 use Rattle.letters.specs.declared.utf8.Step.{Step}
 use Rattle.letters.specs.declared.utf8.Step.TheVariants.{Char, Ill, End}
 use Rattle.texts.specs.Parts.{tail, front, first_is, last_is, has, prefix_of, suffix_of, caret, dollar, opening, closing, without_caret, without_dollar}
-use Rattle.regex_optim.specs.declared.Letter.{Letter}
-use Rattle.regex_optim.specs.declared.Letter.TheVariants.{Code, Absent}
+use Rattle.std.specs.Prelude.{Option, Some, None}
 use Rattle.regex_optim.specs.declared.OptimizedRegex.{OptimizedRegex}
 use Rattle.regex_optim.specs.declared.OptimizedRegex.TheVariants.{AllStringsMatcher, IsEmpty, Equals, StartsWith, EndsWith, EqualsChar, StartsWithChar, EndsWithChar, Outside}
 
@@ -92,36 +91,36 @@ empty_box outside = false
 -- ---- fitting
 
 -- the character that stands at the front of x, is x, and stands at its end: of one byte, two, three or four
-unfoldable pub code_at : Step → Letter
-code_at (Char k n) = Code k
-code_at Ill = Absent
-code_at End = Absent
+unfoldable pub code_at : Step → Option ℕ
+code_at (Char k n) = Some k
+code_at Ill = None
+code_at End = None
 
-unfoldable pub first_char : List ℕ → Letter
+unfoldable pub first_char : List ℕ → Option ℕ
 first_char x = code_at (decode_at x 0)
 
-unfoldable pub code_of : ℕ → Step → Letter
-code_of n (Char k m) = pick (eqb m n) (Code k) Absent
-code_of n Ill = Absent
-code_of n End = Absent
+unfoldable pub code_of : ℕ → Step → Option ℕ
+code_of n (Char k m) = pick (eqb m n) (Some k) None
+code_of n Ill = None
+code_of n End = None
 
-unfoldable pub back_char : List ℕ → ℕ → Letter
-back_char x n = pick (ltb (length x) n) Absent (code_of n (decode_at x (length x - n)))
+unfoldable pub back_char : List ℕ → ℕ → Option ℕ
+back_char x n = pick (ltb (length x) n) None (code_of n (decode_at x (length x - n)))
 
-unfoldable pub whole_char : List ℕ → Letter
+unfoldable pub whole_char : List ℕ → Option ℕ
 whole_char x = back_char x (length x)
 
-unfoldable pub or_else : Letter → Letter → Letter
-or_else (Code k) other = Code k
-or_else Absent other = other
+unfoldable pub or_else : Option ℕ → Option ℕ → Option ℕ
+or_else (Some k) other = Some k
+or_else None other = other
 
-unfoldable pub last_char : List ℕ → Letter
+unfoldable pub last_char : List ℕ → Option ℕ
 last_char x = or_else (back_char x 1) (or_else (back_char x 2) (or_else (back_char x 3) (back_char x 4)))
 
 -- "a box always needs a character, and with both anchors exactly one"
-unfoldable pub char_fits : Bool → List ℕ → Letter → Bool
-char_fits hit l (Code k) = pick (has k (codes_of l)) hit (not hit)
-char_fits hit l Absent = false
+unfoldable pub char_fits : Bool → List ℕ → Option ℕ → Bool
+char_fits hit l (Some k) = pick (has k (codes_of l)) hit (not hit)
+char_fits hit l None = false
 
 unfoldable pub fits : Form → List ℕ → Bool
 fits always x = true

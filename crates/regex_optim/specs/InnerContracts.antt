@@ -6,13 +6,12 @@ use Rattle.letters.specs.Order.{same_text}
 use Rattle.texts.specs.Parts.{first_byte, last_byte, first_is, prefix_of, suffix_of, caret, opening, without_caret, without_dollar}
 use Rattle.texts.specs.Signatures.{bit_of, signature_of}
 use Rattle.regex_optim.specs.Contexts.{box_inner, boxed, first_char, whole_char, last_char, char_fits}
-use Rattle.regex_optim.specs.declared.Letter.{Letter}
-use Rattle.regex_optim.specs.declared.Letter.TheVariants.{Absent}
+use Rattle.std.specs.Prelude.{Option, None}
 use Rattle.regex_optim.specs.declared.OptimizedRegex.{OptimizedRegex}
 use Rattle.regex_optim.specs.declared.OptimizedRegex.TheVariants.{AllStringsMatcher, IsEmpty, Equals, StartsWith, EndsWith, EqualsChar, StartsWithChar, EndsWithChar, Outside}
 
-unfoldable pub box_char : Bool → Bool → List ℕ → Letter
-box_char s e x = pick s (pick e (whole_char x) (first_char x)) (pick e (last_char x) Absent)
+unfoldable pub box_char : Bool → Bool → List ℕ → Option ℕ
+box_char s e x = pick s (pick e (whole_char x) (first_char x)) (pick e (last_char x) None)
 
 unfoldable pub box_fits : List ℕ → Bool → Bool → List ℕ → Bool
 box_fits inner s e x = char_fits (not (first_is caret inner)) (without_caret inner) (box_char s e x)

@@ -6,10 +6,10 @@ ghost use Rattle.regex_optim.specs.InnerContracts.{box_bits, rest_bits, left_bit
 use crate::boxes::box_inner;
 
 // The bits of all kinds of byte.
-pub const ALL_BITS: u64 = 0xFFFF_FFFF_FFFF_FFFF;
+pub const ALL_BITS: u64 = u64::MAX;
 
 // The bits of a box with this inside: of all bytes of its characters, or, where it is negated, of all that there are.
-#[tactic(auto, unfolding(crate::specs::InnerContracts::box_bits))]
+#[tactic(auto, using(crate::proofs::BesideLaws::beside_laws), unfolding(crate::specs::InnerContracts::box_bits))]
 fn box_bits(inner: &[u8]) -> u64
     ensures { result ≡ box_bits inner.now }
 {
@@ -21,7 +21,7 @@ fn box_bits(inner: &[u8]) -> u64
 }
 
 // The bits of the rest t of a context; as a literal it has the byte b beside the place.
-#[tactic(auto, unfolding(crate::specs::InnerContracts::rest_bits))]
+#[tactic(auto, using(crate::proofs::BesideLaws::beside_laws), unfolding(crate::specs::InnerContracts::rest_bits))]
 fn rest_bits(t: &[u8], b: u8) -> u64
     ensures { result ≡ rest_bits t.now b }
 {
@@ -33,11 +33,11 @@ fn rest_bits(t: &[u8], b: u8) -> u64
 }
 
 // The bits of the bytes that a text may end with where a left context fits it; no byte counts as 0.
-#[tactic(auto, unfolding(crate::specs::InnerContracts::left_bits))]
+#[tactic(auto, using(crate::proofs::BesideLaws::beside_laws), unfolding(crate::specs::InnerContracts::left_bits))]
 pub fn left_bits(context: &[u8]) -> u64
     ensures { result ≡ left_bits context.now }
 {
-    if context.len() == 0 {
+    if context.is_empty() {
         return ALL_BITS;
     }
     let t = texts::without_caret(context);
@@ -45,11 +45,11 @@ pub fn left_bits(context: &[u8]) -> u64
 }
 
 // The bits of the bytes that a text may begin with where a right context fits it; no byte counts as 0.
-#[tactic(auto, unfolding(crate::specs::InnerContracts::right_bits))]
+#[tactic(auto, using(crate::proofs::BesideLaws::beside_laws), unfolding(crate::specs::InnerContracts::right_bits))]
 pub fn right_bits(context: &[u8]) -> u64
     ensures { result ≡ right_bits context.now }
 {
-    if context.len() == 0 {
+    if context.is_empty() {
         return ALL_BITS;
     }
     let t = texts::without_dollar(context);

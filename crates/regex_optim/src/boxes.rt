@@ -9,15 +9,18 @@ ghost use Rattle.regex_optim.specs.InnerContracts.{empty_rest};
 pub(crate) fn box_inner(t: &[u8]) -> &[u8]
     ensures { result.now ≡ box_inner t.now }
 {
-    let n = t.len();
-    if n < 2 { &t[0..0] } else { &t[1..n - 1] }
+    match t {
+        [_, inner @ .., _] => inner,
+        _ => &[],
+    }
 }
 
-#[tactic(auto, using(crate::proofs::Laws::part_laws))]
+// Whether a `[` stands in t.
+#[tactic(auto, using(texts::proofs::Chars::has_by))]
 pub(crate) fn has_opening(t: &[u8]) -> bool
     ensures { result ≡ has opening t.now }
 {
-    texts::find_byte(t, b'[') < t.len()
+    t.contains(&b'[')
 }
 
 // Whether t is a box: `[` first, `]` last and no other `[`.
@@ -25,15 +28,7 @@ pub(crate) fn has_opening(t: &[u8]) -> bool
 pub(crate) fn is_boxed(t: &[u8]) -> bool
     ensures { result ≡ boxed t.now }
 {
-    if texts::first_is(t, b'[') {
-        if texts::last_is(t, b']') {
-            !has_opening(box_inner(t))
-        } else {
-            false
-        }
-    } else {
-        false
-    }
+    texts::first_is(t, b'[') && texts::last_is(t, b']') && !has_opening(box_inner(t))
 }
 
 // Whether t is `[]`. Most contexts have more bytes, so those are not looked through for another `[`.
@@ -41,9 +36,5 @@ pub(crate) fn is_boxed(t: &[u8]) -> bool
 pub(crate) fn is_empty_box(t: &[u8]) -> bool
     ensures { result ≡ empty_rest t.now }
 {
-    if box_inner(t).len() == 0 {
-        is_boxed(t)
-    } else {
-        false
-    }
+    box_inner(t).is_empty() && is_boxed(t)
 }

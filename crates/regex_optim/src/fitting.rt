@@ -5,21 +5,19 @@ ghost use Rattle.texts.specs.Parts.{has, opening};
 ghost use Rattle.regex_optim.specs.Contexts.{form_in, left_form, right_form, fits};
 ghost use Rattle.regex_optim.specs.InnerContracts.{box_char, literal_fits, box_fits};
 
-use crate::Letter;
 use crate::boxes::{box_inner, has_opening};
 use crate::characters::{char_fits, first_char, last_char, whole_char};
 
 // The character that a box with these anchors looks at.
 #[tactic(auto, using(base::proofs::PickLaws::cases), unfolding(crate::specs::InnerContracts::box_char))]
-fn box_char(s: bool, e: bool, x: &[u8]) -> Letter
+fn box_char(s: bool, e: bool, x: &[u8]) -> Option<u32>
     ensures { result ≡ box_char s e x.now }
 {
-    if s {
-        if e { whole_char(x) } else { first_char(x) }
-    } else if e {
-        last_char(x)
-    } else {
-        Letter::Absent
+    match (s, e) {
+        (true, true) => whole_char(x),
+        (true, false) => first_char(x),
+        (false, true) => last_char(x),
+        (false, false) => None,
     }
 }
 
@@ -38,16 +36,11 @@ fn box_fits(inner: &[u8], s: bool, e: bool, x: &[u8]) -> bool
 fn literal_fits(t: &[u8], s: bool, e: bool, x: &[u8]) -> bool
     ensures { result ≡ literal_fits t.now s e x.now }
 {
-    if s {
-        if e {
-            letters::same(t, x)
-        } else {
-            texts::starts_with(x, t)
-        }
-    } else if e {
-        texts::ends_with(x, t)
-    } else {
-        false
+    match (s, e) {
+        (true, true) => letters::same(t, x),
+        (true, false) => texts::starts_with(x, t),
+        (false, true) => texts::ends_with(x, t),
+        (false, false) => false,
     }
 }
 
@@ -56,11 +49,7 @@ fn literal_fits(t: &[u8], s: bool, e: bool, x: &[u8]) -> bool
 fn only_box_fits(inner: &[u8], s: bool, e: bool, x: &[u8]) -> bool
     ensures { result ≡ pick (has opening inner.now) false (box_fits inner.now s e x.now) }
 {
-    if box_fits(inner, s, e, x) {
-        !has_opening(inner)
-    } else {
-        false
-    }
+    box_fits(inner, s, e, x) && !has_opening(inner)
 }
 
 // Whether the rest t of a context with these anchors fits x. A box or a literal is compared first, which mostly ends at once, and only
@@ -70,15 +59,9 @@ fn fits_in(t: &[u8], s: bool, e: bool, x: &[u8]) -> bool
     ensures { result ≡ fits (form_in s e t.now) x.now }
 {
     if texts::first_is(t, b'[') {
-        if texts::last_is(t, b']') {
-            only_box_fits(box_inner(t), s, e, x)
-        } else {
-            false
-        }
-    } else if literal_fits(t, s, e, x) {
-        !has_opening(t)
+        texts::last_is(t, b']') && only_box_fits(box_inner(t), s, e, x)
     } else {
-        false
+        literal_fits(t, s, e, x) && !has_opening(t)
     }
 }
 
@@ -87,7 +70,7 @@ fn fits_in(t: &[u8], s: bool, e: bool, x: &[u8]) -> bool
 pub fn left_fits(context: &[u8], before: &[u8]) -> bool
     ensures { result ≡ fits (left_form context.now) before.now }
 {
-    if context.len() == 0 {
+    if context.is_empty() {
         return true;
     }
     let anchored = texts::first_is(context, b'^');
@@ -99,7 +82,7 @@ pub fn left_fits(context: &[u8], before: &[u8]) -> bool
 pub fn right_fits(context: &[u8], after: &[u8]) -> bool
     ensures { result ≡ fits (right_form context.now) after.now }
 {
-    if context.len() == 0 {
+    if context.is_empty() {
         return true;
     }
     let anchored = texts::last_is(context, b'$');

@@ -11,16 +11,11 @@ use crate::boxes::{has_opening, is_boxed, is_empty_box};
 fn box_kind(s: bool, e: bool) -> OptimizedRegex
     ensures { result ≡ box_kind s e }
 {
-    if s {
-        if e {
-            OptimizedRegex::EqualsChar
-        } else {
-            OptimizedRegex::StartsWithChar
-        }
-    } else if e {
-        OptimizedRegex::EndsWithChar
-    } else {
-        OptimizedRegex::Outside
+    match (s, e) {
+        (true, true) => OptimizedRegex::EqualsChar,
+        (true, false) => OptimizedRegex::StartsWithChar,
+        (false, true) => OptimizedRegex::EndsWithChar,
+        (false, false) => OptimizedRegex::Outside,
     }
 }
 
@@ -28,26 +23,13 @@ fn box_kind(s: bool, e: bool) -> OptimizedRegex
 fn literal_kind(n: usize, s: bool, e: bool) -> OptimizedRegex
     ensures { result ≡ literal_kind n s e }
 {
-    if s {
-        if e {
-            if n == 0 {
-                OptimizedRegex::IsEmpty
-            } else {
-                OptimizedRegex::Equals
-            }
-        } else if n == 0 {
-            OptimizedRegex::AllStringsMatcher
-        } else {
-            OptimizedRegex::StartsWith
-        }
-    } else if e {
-        if n == 0 {
-            OptimizedRegex::AllStringsMatcher
-        } else {
-            OptimizedRegex::EndsWith
-        }
-    } else {
-        OptimizedRegex::Outside
+    match (s, e, n) {
+        (true, true, 0) => OptimizedRegex::IsEmpty,
+        (true, true, _) => OptimizedRegex::Equals,
+        (true, false, 0) | (false, true, 0) => OptimizedRegex::AllStringsMatcher,
+        (true, false, _) => OptimizedRegex::StartsWith,
+        (false, true, _) => OptimizedRegex::EndsWith,
+        (false, false, _) => OptimizedRegex::Outside,
     }
 }
 

@@ -24,10 +24,3 @@ pub enum OptimizedRegex {
     EndsWithChar,
     Outside,
 }
-
-// A code point, or that there is none.
-#[derive(Clone, Copy)]
-pub(crate) enum Letter {
-    Code(u32),
-    Absent,
-}

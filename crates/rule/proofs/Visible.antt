@@ -1,15 +1,14 @@
 -- The quick tests: what they say of a text, and the loop that makes them. Assumes nothing.
 use mathlib.Core.Path.{◌≡◌, refl, sym, ap, ◌∙◌}
-use mathlib.Core.Bool.{Bool, true, false}
+use mathlib.Core.Bool.{Bool, true, false, ◌&&◌}
 use mathlib.Core.List.{List, [], ◌∷◌}
 use Prim.Native.Nat.{ℕ, zero, suc, ◌+◌, ◌≤◌, ◌<◌}
-use native.Mathlib.Numerals.{add-one}
 use native.Mathlib.Omega.{arith}
 use lib.Dec.{eqb, ltb, leb-suc-suc}
-use lib.ListN.{length, get_or, drop, drop_of_length-le}
-use lib.Seq.{drop-cons}
+use lib.ListN.{length, get_or}
 use borrow.Author.Rules.{rules}
 use borrow.Author.Tests.{le-ltb, ne_eqb, ltb-false, eqb-false, leb-true}
+use Rattle.std.specs.List.{list_all}
 use Rattle.base.specs.Pick.{pick, and}
 use Rattle.letters.specs.Utf8.{decode_at}
 use Rattle.letters.specs.Reading.{Symbol, symbol, stray_byte}
@@ -18,37 +17,25 @@ use Rattle.letters.proofs.Utf8Laws.{decode_one, char_at, ill_in_lem}
 use Rattle.letters.proofs.ReadingLaws.{Pieces, end, one, bad, pieces_of}
 use Rattle.texts.specs.Parts.{tail, front, place_of, has, opening}
 use Rattle.rule.specs.Matching.{plain_code, plain_in, rule_text}
-use Rattle.base.proofs.PickLaws.{pick_true, and_inv, and_first, pick_past}
+use Rattle.base.proofs.PickLaws.{pick_true, and_inv, pick_past}
 use Rattle.rule.specs.InnerContracts.{visible, all_visible, visible_literal}
 use Rattle.base.proofs.Arms.{clash}
 
--- ---- the loop: what is left from i on decides
+-- ---- the code asks whether all are visible
 
-pub record Seeing (but : ℕ) (s : List ℕ) (i : ℕ) : Type 0 where
-  pub rest : all_visible but s ≡ all_visible but (drop i s)
+and_by : (t u : Bool) → (t && u) ≡ and t u
+unfolding and
+and_by true u = refl
+and_by false u = refl
 
-pub seeing_start : (but : ℕ) (s : List ℕ) → Seeing but s 0
-seeing_start but s = record { rest = refl }
+visible_is : (but : ℕ) (s : List ℕ) → list_all (visible but) s ≡ all_visible but s
+unfolding all_visible
+visible_is but [] = refl
+visible_is but (b ∷ s) = ap (λ (t : Bool). visible but b && t) (visible_is but s) ∙ and_by (visible but b) (all_visible but s)
 
-module _ {but : ℕ} {s : List ℕ} {i : ℕ} (w : Seeing but s i) where
-  here : i < length s → all_visible but s ≡ and (visible but (get_or s i 0)) (all_visible but (drop (i + 1) s))
-  unfolding all_visible
-  here h = let at : drop i s ≡ get_or s i 0 ∷ drop (i + 1) s = rw add-one (drop-cons s i 0 h) in w.rest ∙ ap (all_visible but) at
-
-  pub seeing_next : (t : Bool) → i < length s → t ≡ visible but (get_or s i 0) → t ≡ true → Seeing but s (i + 1)
-  unfolding and
-  seeing_next t h e p = record { rest = here h ∙ rw (sym e ∙ p) refl }
-
-  pub seeing_stop : (t : Bool) → i < length s → t ≡ visible but (get_or s i 0) → t ≡ false → false ≡ all_visible but s
-  seeing_stop t h e p = sym (here h ∙ and_first _ _ (sym e ∙ p))
-
-  pub seeing_end : length s ≤ i → true ≡ all_visible but s
-  unfolding all_visible
-  seeing_end h = sym (w.rest ∙ ap (all_visible but) (drop_of_length-le s h))
-
-pub literal_by : (s : List ℕ) (t : Bool) → t ≡ all_visible opening s → t ≡ visible_literal s
+pub literal_by : (s : List ℕ) (t : Bool) → t ≡ list_all (visible opening) s → t ≡ visible_literal s
 unfolding visible_literal
-literal_by s t e = e
+literal_by s t e = e ∙ visible_is opening s
 
 -- ---- what a byte that passes is
 
@@ -98,14 +85,14 @@ module _ (but : ℕ) (s : List ℕ) (v : all_visible but s ≡ true) where
   unfolding rule_text
   visible_text = plain_pieces 0 _ (pieces_of s)
 
-pub text_by_lem : (s : List ℕ) (but : ℕ) (t : Bool) → t ≡ all_visible but s → t ≡ true → true ≡ rule_text s
-text_by_lem s but t e p = sym (visible_text but s (sym e ∙ p))
+pub text_by_lem : (s : List ℕ) (but : ℕ) (t : Bool) → t ≡ list_all (visible but) s → t ≡ true → t ≡ rule_text s
+text_by_lem s but t e p = p ∙ sym (visible_text but s (sym (visible_is but s) ∙ sym e ∙ p))
 
 pub literal_text : (s : List ℕ) → visible_literal s ≡ true → rule_text s ≡ true
 unfolding visible_literal
 literal_text s e = visible_text opening s e
 
-pub ruleset literal_laws = (seeing_start, seeing_next, seeing_stop, seeing_end, literal_by, text_by_lem, rules)
+pub ruleset literal_laws = (literal_by, text_by_lem, rules)
 
 -- ---- it has no `[`, and neither has a part of it
 

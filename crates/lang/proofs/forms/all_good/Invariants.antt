@@ -1,10 +1,9 @@
 use Rattle.lang.proofs.FormLaws.{Passing}
 use lib.ListN.{length}
-use Prim.Native.Nat.{◌-◌}
 use Rattle.lang.proofs.forms.all_good.Given as goal
 
-abbrev pub invariant-loop-q : goal.invariant-loop-q
-invariant-loop-q l = Passing l.t l.q
+abbrev pub invariant-loop-rest : goal.invariant-loop-rest
+invariant-loop-rest l = Passing l.t l.rest
 
-abbrev pub decreases-loop-q : goal.decreases-loop-q
-decreases-loop-q l = length l.t - l.q
+abbrev pub decreases-loop-rest : goal.decreases-loop-rest
+decreases-loop-rest l = length l.rest

@@ -1,10 +1,9 @@
 use Rattle.lang.proofs.PairLaws.{Chaining}
 use lib.ListN.{length}
-use Prim.Native.Nat.{◌-◌}
 use Rattle.lang.proofs.pairs.pairs_in.Given as goal
 
-abbrev pub invariant-loop-q : goal.invariant-loop-q
-invariant-loop-q l = Chaining l.t l.start l.end l.known l.prev l.bits l.q
+abbrev pub invariant-loop-rest : goal.invariant-loop-rest
+invariant-loop-rest l = Chaining l.t l.start l.end l.prev l.bits l.rest
 
-abbrev pub decreases-loop-q : goal.decreases-loop-q
-decreases-loop-q l = length l.t - l.q
+abbrev pub decreases-loop-rest : goal.decreases-loop-rest
+decreases-loop-rest l = length l.rest

@@ -1,5 +1,5 @@
-use Rattle.name_parts.proofs.JoinLaws.{join_laws}
+use Rattle.name_parts.proofs.JoinLaws.{add_end}
 use Rattle.name_parts.proofs.joining.add_words.Goals as goal
 
-pub returns-then-w-eq0 : goal.returns-then-w-eq0
-returns-then-w-eq0 c = search join_laws
+pub returns : goal.returns
+returns c = add_end _ _ _ _ _ _ _ _ c.loop-w.invariant c.in_default.ensures

@@ -1,8 +1,10 @@
 use Rattle.name_parts.proofs.JoinLaws.{join_here, join_laws}
 use Rattle.name_parts.proofs.joining.join_words.Goals as goal
 
-pub returns-then-w-eq0 : goal.returns-then-w-eq0
-returns-then-w-eq0 c = search join_laws
+pub returns-in-Some : goal.returns-in-Some
+returns-in-Some c =
+    let taken = c.in-Some.ensures in
+    join_here _ _ _ _ _ c.loop-w.invariant _ taken.0 taken.1 _ taken.2 _ c.kept_of-k.ensures _ c.drops_out.ensures c.if-drops_out.false _ _ _ _ c.copy-n.ensures c.add_words.ensures
 
-pub returns-in-loop-w : goal.returns-in-loop-w
-returns-in-loop-w c = search join_here
+pub returns : goal.returns
+returns c = let none = c.in_default.ensures in search join_laws

@@ -1,5 +1,5 @@
-use Rattle.prefixes.proofs.PrefixLaws.{prefix_laws}
+use Rattle.prefixes.proofs.PrefixLaws.{longest_start}
 use Rattle.prefixes.proofs.prefixes.longest_fit.Goals as goal
 
-pub returns-in-Cut : goal.returns-in-Cut
-returns-in-Cut c = search prefix_laws
+pub loop-p-init : goal.loop-p-init
+loop-p-init c = longest_start c.args.s.now c.args.table.now

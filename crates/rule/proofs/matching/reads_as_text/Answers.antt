@@ -1,11 +1,8 @@
 use Rattle.rule.proofs.MatchLaws.{plain_laws}
 use Rattle.rule.proofs.matching.reads_as_text.Goals as goal
 
-pub returns-else-may_hold : goal.returns-else-may_hold
-returns-else-may_hold c = search plain_laws
+pub returns-then-not-may_hold : goal.returns-then-not-may_hold
+returns-then-not-may_hold c = search plain_laws
 
-pub returns-in-Ill : goal.returns-in-Ill
-returns-in-Ill c = search plain_laws
-
-pub returns-in-End : goal.returns-in-End
-returns-in-End c = search plain_laws
+pub returns : goal.returns
+returns c = search plain_laws
