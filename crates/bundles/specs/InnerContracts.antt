@@ -1,19 +1,19 @@
 -- What the functions answer, by places.
-use Rattle.std.specs.Prelude.{◌≡◌, ℕ, ◌+◌, ◌-◌, ◌≤◌, Bool, true, List, length, take, drop}
-use Rattle.base.specs.Pick.{pick}
+use Rattle.std.specs.Prelude.{Option, Some, None, ◌≡◌, ℕ, ◌+◌, ◌-◌, ◌≤◌, Bool, true, List, length, take, drop}
 use Rattle.letters.specs.Order.{order_of, is_less}
 use Rattle.strings.specs.Reading.{cut, got, read_number}
 use Rattle.bundles.specs.Bundles.{file, read_file, File}
 use Rattle.bundles.specs.declared.Entry.{Entry}
-use Rattle.bundles.specs.declared.Entry.TheVariants.{Whole, Cut}
 use Rattle.strings.specs.InnerContracts.{behind, read_some}
 
 -- the files of any bytes, up to where they run out
 unfoldable pub files_of : List ℕ → List File
 files_of s = behind (read_number 2 s) (λ n r. read_some read_file n r)
 
-unfoldable pub follows_in : Bool → List ℕ → List ℕ → Bool
-follows_in first before name = pick first true (is_less (order_of before name))
+-- a name stands behind the one before it, where there is one
+unfoldable pub follows_in : Option (List ℕ) → List ℕ → Bool
+follows_in None name = true
+follows_in (Some before) name = is_less (order_of before name)
 
 -- the part of s from a to b is t
 pub record Stands (s : List ℕ) (a b : ℕ) (t : List ℕ) : Type 0 where
@@ -30,6 +30,6 @@ pub record Placed (s : List ℕ) (at a b c d : ℕ) : Type 0 where
   pub order : c ≤ d
   pub within : d ≤ length s
 
-unfoldable pub EntryIs : List ℕ → ℕ → Entry → Type 0
-EntryIs s at (Whole a b c d) = Placed s at a b c d
-EntryIs s at Cut = read_file (drop at s) ≡ cut
+unfoldable pub EntryIs : List ℕ → ℕ → Option Entry → Type 0
+EntryIs s at (Some e) = Placed s at e.name e.name_end e.start e.end
+EntryIs s at None = read_file (drop at s) ≡ cut

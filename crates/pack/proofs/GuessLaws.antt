@@ -1,4 +1,9 @@
 -- A guessing rule by its places, the test of one, and the loop over the section. Assumes nothing.
+use Rattle.std.proofs.lemmas.Option.{same_Some}
+use Rattle.pack.specs.Places.{guess_span}
+use Rattle.pack.specs.declared.guessing.GuessAt.{GuessAt}
+use Rattle.strings.specs.declared.Number.{Number}
+use Rattle.strings.specs.declared.Span.{Span}
 use Prim.{Unit}
 use mathlib.Core.Path.{◌≡◌, refl, sym, ap, ap₂, ◌∙◌}
 use mathlib.Core.Bool.{Bool, true, false, not}
@@ -11,10 +16,9 @@ use lib.Pow.{shl_exact, pow_pos}
 use lib.ListN.{length, get_or, take, drop, length-take, length-drop}
 use lib.Seq.{drop-drop}
 use borrow.Author.Rules.{rules}
+use Rattle.std.specs.Prelude.{Option, Some, None}
 use borrow.Author.Tests.{le-leb, lt-leb, lt-ltb, le-ltb, eq-eqb, ne_eqb}
 use Rattle.base.specs.Pick.{pick, and}
-use Rattle.strings.specs.declared.Next.{Next}
-use Rattle.strings.specs.declared.Next.TheVariants as next
 use Rattle.rule.specs.Matching.{rule_text}
 use Rattle.lang.specs.Patterns.{in_forms}
 use Rattle.strings.specs.Reading.{Read, cut, got, and_read, read_byte, read_number, read_many, place_in}
@@ -23,13 +27,6 @@ use specs.Packs.{Guess, guess, read_guess, read_guesses, all, guess_good, guesse
 use specs.Guessing.{all_listed}
 use specs.InnerContracts.{end_in, all_from, guesses_from, placed_guess, guess_stands_at}
 use Rattle.strings.specs.InnerContracts.{ByteIs, number_at, string_at}
-use Rattle.strings.specs.declared.Number.{Number}
-use Rattle.strings.specs.declared.Number.TheVariants as number
-use specs.declared
-use declared.sections.Section.{Section}
-use declared.sections.Section.TheVariants.{End, Bad}
-use declared.guessing.GuessAt.{GuessAt}
-use declared.guessing.GuessAt.TheVariants as guesses
 use Rattle.pack.proofs
 use proofs.Readers.{guess_ends}
 use proofs.RuleLaws.{then_text}
@@ -40,32 +37,32 @@ use Rattle.base.proofs.PickLaws.{and_first, and_second}
 
 -- ---- a guessing rule at a place
 
-pub guess_none : (s : List ℕ) (at : ℕ) → length s ≤ at → guesses.Cut ≡ guess_stands_at s at
+pub guess_none : (s : List ℕ) (at : ℕ) → length s ≤ at → None ≡ guess_stands_at s at
 unfolding guess_stands_at placed_guess read_guess and_read
 guess_none s at h = rw (byte_none s at h) refl
 
-module _ (s : List ℕ) (at : ℕ) (h : at < length s) (y : Number) (g : y ≡ number_at 4 s (at + 1)) where
-  pub guess_cut_mask : y ≡ number.Cut → guesses.Cut ≡ guess_stands_at s at
+module _ (s : List ℕ) (at : ℕ) (h : at < length s) (y : Option Number) (g : y ≡ number_at 4 s (at + 1)) where
+  pub guess_cut_mask : y ≡ None → None ≡ guess_stands_at s at
   unfolding guess_stands_at placed_guess read_guess and_read
   guess_cut_mask q = rw (byte_some s at h, mask_cut s (at + 1) y g q) refl
 
-  module _ (m d : ℕ) (q : y ≡ number.Of m d) where
-    mask_reads : read_number 4 (drop (at + 1) s) ≡ got m (drop d s)
-    mask_reads = (mask_of s (at + 1) y m d g q).reads
+  module _ (told : Number) (q : y ≡ Some told) where
+    mask_reads : read_number 4 (drop (at + 1) s) ≡ got told.value (drop told.next s)
+    mask_reads = (mask_of s (at + 1) y told g q).reads
 
-    module _ (x : Next) (f : x ≡ string_at s d) where
-      pub guess_cut_text : x ≡ next.Cut → guesses.Cut ≡ guess_stands_at s at
+    module _ (x : Option Span) (f : x ≡ string_at s told.next) where
+      pub guess_cut_text : x ≡ None → None ≡ guess_stands_at s at
       unfolding guess_stands_at placed_guess read_guess and_read
-      guess_cut_text p = rw (byte_some s at h, mask_reads, text_cut s d x f p) refl
+      guess_cut_text p = rw (byte_some s at h, mask_reads, text_cut s told.next x f p) refl
 
-      pub guess_whole : (a e b : ℕ) → x ≡ next.Whole a e → ByteIs s at b → guesses.At b m a e ≡ guess_stands_at s at
+      pub guess_whole : (part : Span) (b : ℕ) → x ≡ Some part → ByteIs s at b → Some (guess_span b told.value part.start part.end) ≡ guess_stands_at s at
       unfolding guess_stands_at placed_guess read_guess and_read
-      guess_whole a e b p k =
-          let w = text_is s d x f a e p in
+      guess_whole part b p k =
+          let w = text_is s told.next x f part p in
           let accept : b ≡ get_or s at 0 = k.is in
-          let end : e ≡ place_in s (drop e s) = sym (place_drop s e w.fits) in
-          let start : a ≡ place_in s (drop e s) - length (take (e - a) (drop a s)) =
-          omega (arith, place_drop s e w.fits, length-take (e - a) (drop a s), length-drop a s) in
+          let end : part.end ≡ place_in s (drop part.end s) = sym (place_drop s part.end w.fits) in
+          let start : part.start ≡ place_in s (drop part.end s) - length (take (part.end - part.start) (drop part.start s)) =
+          omega (arith, place_drop s part.end w.fits, length-take (part.end - part.start) (drop part.start s), length-drop part.start s) in
           rw (byte_some s at h, mask_reads, w.reads) (cc)
 
 pub ruleset guess_at_laws = (guess_none, guess_cut_mask, guess_cut_text, guess_whole, rules)
@@ -79,10 +76,10 @@ pub record GuessIs (s : List ℕ) (at b m a e : ℕ) : Type 0 where
 rest_drop : (s r q : List ℕ) (d : ℕ) → r ≡ drop d s → (v : EndOf r q) → q ≡ drop (d + v.at) s
 rest_drop s r q d e v = v.is ∙ ap (drop v.at) e ∙ drop-drop v.at d s
 
-is_by : (s : List ℕ) (at b m a e : ℕ) (x : Read Guess) → read_guess (drop at s) ≡ x → placed_guess s x ≡ guesses.At b m a e → GuessIs s at b m a e
+is_by : (s : List ℕ) (at : ℕ) (spans : GuessAt) (x : Read Guess) → read_guess (drop at s) ≡ x → placed_guess s x ≡ Some spans → GuessIs s at spans.accept spans.mask spans.pattern.start spans.pattern.end
 unfolding read_guess placed_guess
-is_by s at b m a e cut g h = clash (cc)
-is_by s at b m a e (got g q) r k =
+is_by s at spans cut g h = clash (cc)
+is_by s at spans (got g q) r k =
     let i = then_inv (read_byte (drop at s)) _ g q r in
     let j = then_inv (read_number 4 i.1) _ g q i.3 in
     let v = byte_ends (drop at s) i.0 i.1 i.2 in
@@ -93,17 +90,18 @@ is_by s at b m a e (got g q) r k =
     let parts = w.rest in
     let rest : drop (d + 1 + length w.text) s ≡ q = cc in
     let is : guess i.0 j.0 w.text ≡ g = cc in
-    let accept : g.accept ≡ b = cc in
-    let mask : g.mask ≡ m = cc in
+    let told = same_Some _ _ k in
+    let accept : g.accept ≡ spans.accept = ap (λ (x : GuessAt). x.accept) told in
+    let mask : g.mask ≡ spans.mask = ap (λ (x : GuessAt). x.mask) told in
     let pattern : w.text ≡ g.pattern = ap (λ (y : Guess). y.pattern) is in
-    let end : place_in s q ≡ e = cc in
-    let start : place_in s q - length g.pattern ≡ a = cc in
+    let end : place_in s q ≡ spans.pattern.end = ap (λ (x : GuessAt). x.pattern.end) told in
+    let start : place_in s q - length g.pattern ≡ spans.pattern.start = ap (λ (x : GuessAt). x.pattern.start) told in
     let place : place_in s q ≡ d + 1 + length w.text = sym (ap (place_in s) rest) ∙ place_drop s (d + 1 + length w.text) w.read.fits in
     let size : length w.text ≡ length g.pattern = ap length pattern in
-    let from : a ≡ d + 1 = omega arith in
-    let n : e - a ≡ length w.text = omega arith in
-    let text : g.pattern ≡ take (e - a) (drop a s) = sym pattern ∙ sym w.read.text ∙ ap₂ (λ (i j : ℕ). take i (drop j s)) (sym n) (sym from) in
-    let to : d + 1 + length w.text ≡ e = sym place ∙ end in
+    let from : spans.pattern.start ≡ d + 1 = omega arith in
+    let n : spans.pattern.end - spans.pattern.start ≡ length w.text = omega arith in
+    let text : g.pattern ≡ take (spans.pattern.end - spans.pattern.start) (drop spans.pattern.start s) = sym pattern ∙ sym w.read.text ∙ ap₂ (λ (i j : ℕ). take i (drop j s)) (sym n) (sym from) in
+    let to : d + 1 + length w.text ≡ spans.pattern.end = sym place ∙ end in
     let fits = w.read.fits in
     record {
       order = omega arith;
@@ -111,17 +109,17 @@ is_by s at b m a e (got g q) r k =
       reads = r ∙ ap₂ (λ (y : Guess) (l : List ℕ). got y l) (λ i. record { accept = accept i; mask = mask i; pattern = text i }) (sym rest ∙ ap (λ (i : ℕ). drop i s) to);
     }
 
-cut_by : (s : List ℕ) (at : ℕ) (x : Read Guess) → read_guess (drop at s) ≡ x → placed_guess s x ≡ guesses.Cut → read_guess (drop at s) ≡ cut
+cut_by : (s : List ℕ) (at : ℕ) (x : Read Guess) → read_guess (drop at s) ≡ x → placed_guess s x ≡ None → read_guess (drop at s) ≡ cut
 unfolding placed_guess
 cut_by s at cut g h = g
 cut_by s at (got r q) g h = clash (cc)
 
-module _ (s : List ℕ) (at : ℕ) (x : GuessAt) (g : x ≡ guess_stands_at s at) where
-  pub guess_is : (b m a e : ℕ) → x ≡ guesses.At b m a e → GuessIs s at b m a e
+module _ (s : List ℕ) (at : ℕ) (x : Option GuessAt) (g : x ≡ guess_stands_at s at) where
+  pub guess_is : (spans : GuessAt) → x ≡ Some spans → GuessIs s at spans.accept spans.mask spans.pattern.start spans.pattern.end
   unfolding guess_stands_at
-  guess_is b m a e q = is_by s at b m a e _ refl (sym g ∙ q)
+  guess_is spans q = is_by s at spans _ refl (sym g ∙ q)
 
-  pub guess_cut : x ≡ guesses.Cut → read_guess (drop at s) ≡ cut
+  pub guess_cut : x ≡ None → read_guess (drop at s) ≡ cut
   unfolding guess_stands_at
   guess_cut q = cut_by s at _ refl (sym g ∙ q)
 
@@ -182,57 +180,57 @@ pub ruleset guess_test_laws = (guess_accept, guess_zero, guess_unlisted, guess_n
 
 -- ---- one after the other
 
-module _ (s : List ℕ) (at n : ℕ) (x : GuessAt) (g : x ≡ guess_stands_at s at) where
-  pub next_guess_cut : x ≡ guesses.Cut → Bad ≡ end_in s (guess_good n) (read_guess (drop at s))
+module _ (s : List ℕ) (at n : ℕ) (x : Option GuessAt) (g : x ≡ guess_stands_at s at) where
+  pub next_guess_cut : x ≡ None → None ≡ end_in s (guess_good n) (read_guess (drop at s))
   unfolding end_in
   next_guess_cut q = sym (judge_faulty _ _ _ _ (runs_out (guess_cut s at x g q)))
 
-  module _ (b m a e : ℕ) (q : x ≡ guesses.At b m a e) where
-    pub guess_order : a ≤ e
-    guess_order = (guess_is s at x g b m a e q).order
+  module _ (spans : GuessAt) (q : x ≡ Some spans) where
+    pub guess_order : spans.pattern.start ≤ spans.pattern.end
+    guess_order = (guess_is s at x g spans q).order
 
-    pub guess_fits : e ≤ length s
-    guess_fits = (guess_is s at x g b m a e q).fits
+    pub guess_fits : spans.pattern.end ≤ length s
+    guess_fits = (guess_is s at x g spans q).fits
 
-    module _ (t : Bool) (k : t ≡ guess_good n (guess b m (take (e - a) (drop a s)))) where
-      pub next_guess_bad : t ≡ false → Bad ≡ end_in s (guess_good n) (read_guess (drop at s))
+    module _ (t : Bool) (k : t ≡ guess_good n (guess spans.accept spans.mask (take (spans.pattern.end - spans.pattern.start) (drop spans.pattern.start s)))) where
+      pub next_guess_bad : t ≡ false → None ≡ end_in s (guess_good n) (read_guess (drop at s))
       unfolding end_in
-      next_guess_bad v = sym (judge_faulty _ _ _ _ (fails _ _ (guess_is s at x g b m a e q).reads (sym k ∙ v)))
+      next_guess_bad v = sym (judge_faulty _ _ _ _ (fails _ _ (guess_is s at x g spans q).reads (sym k ∙ v)))
 
-      pub next_guess_good : t ≡ true → End e ≡ end_in s (guess_good n) (read_guess (drop at s))
+      pub next_guess_good : t ≡ true → Some spans.pattern.end ≡ end_in s (guess_good n) (read_guess (drop at s))
       unfolding end_in
       next_guess_good v =
-          let w = guess_is s at x g b m a e q in
-          sym (judge_fine _ _ _ _ _ _ w.reads (sym k ∙ v) ∙ ap End (place_drop s e w.fits))
+          let w = guess_is s at x g spans q in
+          sym (judge_fine _ _ _ _ _ _ w.reads (sym k ∙ v) ∙ ap Some (place_drop s spans.pattern.end w.fits))
 
 pub ruleset next_guess_laws = (next_guess_cut, guess_order, guess_fits, next_guess_bad, next_guess_good, rules)
 
-pub record Guessing (s : List ℕ) (n start count at left : ℕ) : Type 0 where
+pub record Guessing (s : List ℕ) (n start count at i : ℕ) : Type 0 where
   pub within : at ≤ length s
-  pub is : end_in s (guesses_from n) (read_many read_guess count (drop start s)) ≡ end_in s (guesses_from n) (read_many read_guess left (drop at s))
+  pub is : end_in s (guesses_from n) (read_many read_guess count (drop start s)) ≡ end_in s (guesses_from n) (read_many read_guess (count - i) (drop at s))
 
-pub guessing_start : (s : List ℕ) (n start count : ℕ) → start ≤ length s → Guessing s n start count start count
-guessing_start s n start count h = record { within = h; is = refl }
+pub guessing_start : (s : List ℕ) (n start count : ℕ) → start ≤ length s → Guessing s n start count start 0
+guessing_start s n start count h = let all : count - 0 ≡ count = omega arith in record { within = h; is = rw all refl }
 
-module _ {s : List ℕ} {n start count at left : ℕ} (w : Guessing s n start count at left) where
-  module _ (x : Section) (g : x ≡ end_in s (guess_good n) (read_guess (drop at s))) (h : 0 < left) where
-    pub guessing_next : (e : ℕ) → x ≡ End e → Guessing s n start count e (left - 1)
+module _ {s : List ℕ} {n start count at i : ℕ} (w : Guessing s n start count at i) where
+  module _ (x : Option ℕ) (g : x ≡ end_in s (guess_good n) (read_guess (drop at s))) (h : i < count) where
+    pub guessing_next : (e : ℕ) → x ≡ Some e → Guessing s n start count e (i + 1)
     unfolding guesses_from
     guessing_next e q =
         let o = section_ends s (guess_good n) read_guess (drop at s) x g guess_ends (end_here s at w.within) e q in
         record {
           within = o.fits;
-          is = w.is ∙ walk_on s read_guess (λ (u : Unit {0}) y. guess_good n y) (λ u y. u) (λ u. true) tt left _ o.value _ h o.reads o.passes;
+          is = w.is ∙ walk_on s read_guess (λ (u : Unit {0}) y. guess_good n y) (λ u y. u) (λ u. true) tt count i _ o.value _ h o.reads o.passes;
         }
 
-    pub guessing_bad : x ≡ Bad → Bad ≡ end_in s (guesses_from n) (read_many read_guess count (drop start s))
+    pub guessing_bad : x ≡ None → None ≡ end_in s (guesses_from n) (read_many read_guess count (drop start s))
     unfolding guesses_from
     guessing_bad q =
-        sym (w.is ∙ walk_off s read_guess (λ (u : Unit {0}) y. guess_good n y) (λ u y. u) (λ u. true) tt left _ h (section_faulty s (guess_good n) read_guess (drop at s) x g q))
+        sym (w.is ∙ walk_off s read_guess (λ (u : Unit {0}) y. guess_good n y) (λ u y. u) (λ u. true) tt count i _ h (section_faulty s (guess_good n) read_guess (drop at s) x g q))
 
-  pub guessing_done : left ≤ 0 → End at ≡ end_in s (guesses_from n) (read_many read_guess count (drop start s))
+  pub guessing_done : count ≤ i → Some at ≡ end_in s (guesses_from n) (read_many read_guess count (drop start s))
   unfolding guesses_from pick
-  guessing_done h = sym (w.is ∙ walk_end s read_guess (λ (u : Unit {0}) y. guess_good n y) (λ u y. u) (λ u. true) tt left at h w.within)
+  guessing_done h = sym (w.is ∙ walk_end s read_guess (λ (u : Unit {0}) y. guess_good n y) (λ u y. u) (λ u. true) tt count i at h w.within)
 
 pub ruleset guessing_laws = (guessing_start, guessing_next, guessing_bad, guessing_done, rules)
 
@@ -251,21 +249,21 @@ section_not : (n : ℕ) (gs : List Guess) → 4096 < length gs → guesses_good 
 unfolding guesses_good
 section_not n gs h = and_first _ _ (lt-leb _ _ h)
 
-module _ (s : List ℕ) (n at : ℕ) (r : Number) (p : r ≡ number_at 2 s at) where
-  pub guesses_cut : r ≡ number.Cut → Bad ≡ end_in s (guesses_good n) (read_guesses (drop at s))
+module _ (s : List ℕ) (n at : ℕ) (r : Option Number) (p : r ≡ number_at 2 s at) where
+  pub guesses_cut : r ≡ None → None ≡ end_in s (guesses_good n) (read_guesses (drop at s))
   unfolding read_guesses
   guesses_cut = counted_cut s read_guess (guesses_good n) (guesses_from n) 4096 (section_not n) (section_is n) at r p
 
-  module _ (k d : ℕ) (q : r ≡ number.Of k d) where
-    pub guesses_much : 4096 < k → Bad ≡ end_in s (guesses_good n) (read_guesses (drop at s))
+  module _ (told : Number) (q : r ≡ Some told) where
+    pub guesses_much : 4096 < told.value → None ≡ end_in s (guesses_good n) (read_guesses (drop at s))
     unfolding read_guesses
-    guesses_much = counted_much s read_guess (guesses_good n) (guesses_from n) 4096 (section_not n) (section_is n) at r p k d q
+    guesses_much = counted_much s read_guess (guesses_good n) (guesses_from n) 4096 (section_not n) (section_is n) at r p told q
 
-    pub guesses_start : d ≤ length s
-    guesses_start = (count_of s at r k d p q).fits
+    pub guesses_start : told.next ≤ length s
+    guesses_start = (count_of s at r told p q).fits
 
-    pub guesses_many : (x : Section) → k ≤ 4096 → x ≡ end_in s (guesses_from n) (read_many read_guess k (drop d s)) → x ≡ end_in s (guesses_good n) (read_guesses (drop at s))
+    pub guesses_many : (x : Option ℕ) → told.value ≤ 4096 → x ≡ end_in s (guesses_from n) (read_many read_guess told.value (drop told.next s)) → x ≡ end_in s (guesses_good n) (read_guesses (drop at s))
     unfolding read_guesses
-    guesses_many = counted_many s read_guess (guesses_good n) (guesses_from n) 4096 (section_not n) (section_is n) at r p k d q
+    guesses_many = counted_many s read_guess (guesses_good n) (guesses_from n) 4096 (section_not n) (section_is n) at r p told q
 
 pub ruleset guesses_laws = (guesses_cut, guesses_much, guesses_start, guesses_many, rules)

@@ -1,22 +1,18 @@
 -- Sections judged by what is read, and the loops that read one of a kind after the other. Assumes nothing.
+use Rattle.strings.specs.declared.Number.{Number}
 use mathlib.Core.Path.{◌≡◌, refl, sym, ap, ◌∙◌}
 use mathlib.Core.Bool.{Bool, true, false}
 use mathlib.Core.List.{List, ◌∷◌}
-use Prim.Native.Nat.{ℕ, zero, suc, ◌-◌, ◌≤◌, ◌<◌}
-use native.Mathlib.Nat.{not-suc-le-zero}
+use Prim.Native.Nat.{ℕ, suc, ◌+◌, ◌-◌, ◌≤◌, ◌<◌}
 use native.Mathlib.Omega.{arith}
 use lib.ListN.{length, drop}
 use Rattle.base.specs.Pick.{pick}
 use Rattle.strings.specs.Reading.{Read, cut, got, and_read, read_number, read_many, place_in}
 use Rattle.strings.specs.InnerContracts.{number_at}
-use Rattle.strings.specs.declared.Number.{Number}
-use Rattle.strings.specs.declared.Number.TheVariants as number
 use Rattle.pack.specs
 use specs.PlaceContracts.{judge}
 use specs.InnerContracts.{end_in, all_from}
-use specs.declared
-use declared.sections.Section.{Section}
-use declared.sections.Section.TheVariants.{End, Bad}
+use Rattle.std.specs.Prelude.{Option, Some, None}
 use Rattle.strings.proofs.Readers.{EndOf, Ends, end_then, end_is, end_within, place_drop, many_length, count_of, count_cut}
 use Rattle.base.proofs.Arms.{clash}
 use Rattle.base.proofs.PickLaws.{pick_true, pick_false, pick_same, pick_and}
@@ -68,7 +64,7 @@ pub record Ending {A : Type 0} (s : List ℕ) (good : A → Bool) (rd : Read A) 
   pub passes : good value ≡ true
   pub fits : e ≤ length s
 
-ending_by : {A : Type 0} (s : List ℕ) (good : A → Bool) (f : List ℕ → Read A) (l : List ℕ) (e : ℕ) → Ends f → EndOf s l → Judged Bad good (f l) (λ a r. End (place_in s r)) (End e)
+ending_by : {A : Type 0} (s : List ℕ) (good : A → Bool) (f : List ℕ → Read A) (l : List ℕ) (e : ℕ) → Ends f → EndOf s l → Judged None good (f l) (λ a r. Some (place_in s r)) (Some e)
     → Ending s good (f l) e
 ending_by s good f l e v w (faulty x y) = clash (cc)
 ending_by s good f l e v w (fine a r g h y) =
@@ -81,59 +77,61 @@ ending_by s good f l e v w (fine a r g h y) =
       fits = omega (arith, end_within o);
     }
 
-faulty_by : {A : Type 0} (s : List ℕ) (good : A → Bool) (rd : Read A) → Judged Bad good rd (λ a r. End (place_in s r)) Bad → Faulty good rd
+faulty_by : {A : Type 0} (s : List ℕ) (good : A → Bool) (rd : Read A) → Judged None good rd (λ a r. Some (place_in s r)) None → Faulty good rd
 faulty_by s good rd (faulty x y) = x
 faulty_by s good rd (fine a r g h y) = clash (cc)
 
-module _ {A : Type 0} (s : List ℕ) (good : A → Bool) (f : List ℕ → Read A) (l : List ℕ) (x : Section) (g : x ≡ end_in s good (f l)) where
-  pub section_ends : Ends f → EndOf s l → (e : ℕ) → x ≡ End e → Ending s good (f l) e
+module _ {A : Type 0} (s : List ℕ) (good : A → Bool) (f : List ℕ → Read A) (l : List ℕ) (x : Option ℕ) (g : x ≡ end_in s good (f l)) where
+  pub section_ends : Ends f → EndOf s l → (e : ℕ) → x ≡ Some e → Ending s good (f l) e
   unfolding end_in
-  section_ends v w e q = ending_by s good f l e v w (judged Bad good (f l) _ (End e) (sym g ∙ q))
+  section_ends v w e q = ending_by s good f l e v w (judged None good (f l) _ (Some e) (sym g ∙ q))
 
-  pub section_faulty : x ≡ Bad → Faulty good (f l)
+  pub section_faulty : x ≡ None → Faulty good (f l)
   unfolding end_in
-  section_faulty q = faulty_by s good (f l) (judged Bad good (f l) _ Bad (sym g ∙ q))
+  section_faulty q = faulty_by s good (f l) (judged None good (f l) _ None (sym g ∙ q))
 
 -- ---- n of a kind, with a test of each in turn
 
-suc_of : (n : ℕ) → 0 < n → n ≡ suc (n - 1)
-suc_of n h = omega arith
+suc_of : (n i : ℕ) → i < n → n - i ≡ suc (n - (i + 1))
+suc_of n i h = omega arith
 
 module _ {A S : Type 0} (s : List ℕ) (f : List ℕ → Read A) (ok : S → A → Bool) (next : S → A → S) (final : S → Bool) where
-  abbrev judged_in : S → Read (List A) → Section
+  abbrev judged_in : S → Read (List A) → Option ℕ
   judged_in st = end_in s (all_from ok next final st)
 
   over : (st : S) (a : A) (x : Read (List A))
-      → judged_in st (and_read x (λ rest q. got (a ∷ rest) q)) ≡ pick (ok st a) (judged_in (next st a) x) Bad
+      → judged_in st (and_read x (λ rest q. got (a ∷ rest) q)) ≡ pick (ok st a) (judged_in (next st a) x) None
   unfolding end_in judge and_read all_from
-  over st a cut = sym (pick_same (ok st a) Bad)
-  over st a (got rest q) = pick_and (ok st a) (all_from ok next final (next st a) rest) (End (place_in s q)) Bad
+  over st a cut = sym (pick_same (ok st a) None)
+  over st a (got rest q) = pick_and (ok st a) (all_from ok next final (next st a) rest) (Some (place_in s q)) None
 
   one : (st : S) (n : ℕ) (l : List ℕ) (a : A) (r : List ℕ) → f l ≡ got a r
-      → judged_in st (read_many f (suc n) l) ≡ pick (ok st a) (judged_in (next st a) (read_many f n r)) Bad
+      → judged_in st (read_many f (suc n) l) ≡ pick (ok st a) (judged_in (next st a) (read_many f n r)) None
   unfolding read_many and_read
   one st n l a r e = ap (λ (x : Read A). judged_in st (and_read x (λ y q. and_read (read_many f n q) (λ rest t. got (y ∷ rest) t)))) e ∙ over st a (read_many f n r)
 
-  none : (st : S) (n : ℕ) (l : List ℕ) → f l ≡ cut → judged_in st (read_many f (suc n) l) ≡ Bad
+  none : (st : S) (n : ℕ) (l : List ℕ) → f l ≡ cut → judged_in st (read_many f (suc n) l) ≡ None
   unfolding read_many and_read end_in judge
   none st n l e = ap (λ (x : Read A). judged_in st (and_read x (λ y q. and_read (read_many f n q) (λ rest t. got (y ∷ rest) t)))) e
 
-  pub walk_on : (st : S) (n : ℕ) (l : List ℕ) (a : A) (r : List ℕ) → 0 < n → f l ≡ got a r → ok st a ≡ true
-      → judged_in st (read_many f n l) ≡ judged_in (next st a) (read_many f (n - 1) r)
-  walk_on st n l a r h e g =
-      ap (λ (m : ℕ). judged_in st (read_many f m l)) (suc_of n h) ∙ one st (n - 1) l a r e ∙ pick_true _ _ _ g
+  pub walk_on : (st : S) (n i : ℕ) (l : List ℕ) (a : A) (r : List ℕ) → i < n → f l ≡ got a r → ok st a ≡ true
+      → judged_in st (read_many f (n - i) l) ≡ judged_in (next st a) (read_many f (n - (i + 1)) r)
+  walk_on st n i l a r h e g =
+      ap (λ (m : ℕ). judged_in st (read_many f m l)) (suc_of n i h) ∙ one st (n - (i + 1)) l a r e ∙ pick_true _ _ _ g
 
-  off : (st : S) (n : ℕ) (l : List ℕ) → Faulty (ok st) (f l) → judged_in st (read_many f (suc n) l) ≡ Bad
+  off : (st : S) (n : ℕ) (l : List ℕ) → Faulty (ok st) (f l) → judged_in st (read_many f (suc n) l) ≡ None
   off st n l (runs_out e) = none st n l e
   off st n l (fails a r e g) = one st n l a r e ∙ pick_false _ _ _ g
 
-  pub walk_off : (st : S) (n : ℕ) (l : List ℕ) → 0 < n → Faulty (ok st) (f l) → judged_in st (read_many f n l) ≡ Bad
-  walk_off st n l h x = ap (λ (m : ℕ). judged_in st (read_many f m l)) (suc_of n h) ∙ off st (n - 1) l x
+  pub walk_off : (st : S) (n i : ℕ) (l : List ℕ) → i < n → Faulty (ok st) (f l) → judged_in st (read_many f (n - i) l) ≡ None
+  walk_off st n i l h x = ap (λ (m : ℕ). judged_in st (read_many f m l)) (suc_of n i h) ∙ off st (n - (i + 1)) l x
 
-  pub walk_end : (st : S) (n at : ℕ) → n ≤ 0 → at ≤ length s → judged_in st (read_many f n (drop at s)) ≡ pick (final st) (End at) Bad
+  none_left : (st : S) (at : ℕ) → at ≤ length s → judged_in st (read_many f 0 (drop at s)) ≡ pick (final st) (Some at) None
   unfolding read_many end_in judge all_from
-  walk_end st zero at h w = ap (λ (e : ℕ). pick (final st) (End e) Bad) (place_drop s at w)
-  walk_end st (suc n) at h w = absurd (not-suc-le-zero h)
+  none_left st at w = ap (λ (e : ℕ). pick (final st) (Some e) None) (place_drop s at w)
+
+  pub walk_end : (st : S) (n i at : ℕ) → n ≤ i → at ≤ length s → judged_in st (read_many f (n - i) (drop at s)) ≡ pick (final st) (Some at) None
+  walk_end st n i at h w = let none : n - i ≡ 0 = omega arith in ap (λ (m : ℕ). judged_in st (read_many f m (drop at s))) none ∙ none_left st at w
 
 -- more than `most` of a kind
 pub much_by : {A : Type 0} (f : List ℕ → Read A) (whole : List A → Bool) (most : ℕ) → ((xs : List A) → most < length xs → whole xs ≡ false)
@@ -145,20 +143,20 @@ much_by f whole most over l n (got xs q) e h = fails xs q refl (over xs (omega (
 
 module _ {A : Type 0} (s : List ℕ) (f : List ℕ → Read A) (whole each : List A → Bool) (most : ℕ)
     (over : (xs : List A) → most < length xs → whole xs ≡ false) (under : (xs : List A) → length xs ≤ most → whole xs ≡ each xs)
-    (at : ℕ) (r : Number) (p : r ≡ number_at 2 s at) where
-  pub counted_cut : r ≡ number.Cut → Bad ≡ end_in s whole (and_read (read_number 2 (drop at s)) (λ m t. read_many f m t))
+    (at : ℕ) (r : Option Number) (p : r ≡ number_at 2 s at) where
+  pub counted_cut : r ≡ None → None ≡ end_in s whole (and_read (read_number 2 (drop at s)) (λ m t. read_many f m t))
   unfolding end_in and_read judge
   counted_cut q = rw (count_cut s at r p q) refl
 
-  module _ (n d : ℕ) (q : r ≡ number.Of n d) where
-    counted_reads : and_read (read_number 2 (drop at s)) (λ m t. read_many f m t) ≡ read_many f n (drop d s)
+  module _ (told : Number) (q : r ≡ Some told) where
+    counted_reads : and_read (read_number 2 (drop at s)) (λ m t. read_many f m t) ≡ read_many f told.value (drop told.next s)
     unfolding and_read
-    counted_reads = rw (count_of s at r n d p q).reads refl
+    counted_reads = rw (count_of s at r told p q).reads refl
 
-    pub counted_much : most < n → Bad ≡ end_in s whole (and_read (read_number 2 (drop at s)) (λ m t. read_many f m t))
+    pub counted_much : most < told.value → None ≡ end_in s whole (and_read (read_number 2 (drop at s)) (λ m t. read_many f m t))
     unfolding end_in
-    counted_much h = sym (ap (end_in s whole) counted_reads ∙ judge_faulty _ _ _ _ (much_by f whole most over _ n _ refl h))
+    counted_much h = sym (ap (end_in s whole) counted_reads ∙ judge_faulty _ _ _ _ (much_by f whole most over _ told.value _ refl h))
 
-    pub counted_many : (x : Section) → n ≤ most → x ≡ end_in s each (read_many f n (drop d s)) → x ≡ end_in s whole (and_read (read_number 2 (drop at s)) (λ m t. read_many f m t))
+    pub counted_many : (x : Option ℕ) → told.value ≤ most → x ≡ end_in s each (read_many f told.value (drop told.next s)) → x ≡ end_in s whole (and_read (read_number 2 (drop at s)) (λ m t. read_many f m t))
     unfolding end_in
-    counted_many x h e = e ∙ sym (ap (end_in s whole) counted_reads ∙ judge_same _ _ _ _ _ (λ xs t g. under xs (omega (arith, many_length f n (drop d s) xs t g))))
+    counted_many x h e = e ∙ sym (ap (end_in s whole) counted_reads ∙ judge_same _ _ _ _ _ (λ xs t g. under xs (omega (arith, many_length f told.value (drop told.next s) xs t g))))

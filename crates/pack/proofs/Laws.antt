@@ -1,5 +1,10 @@
 -- What the crates above use of a pack: where an accepted one holds its names, guessing rules and lists, and what each string keeps to.
 -- Assumes nothing.
+use Rattle.strings.specs.Places.{number}
+use Rattle.std.proofs.lemmas.Option.{same_Some}
+use Rattle.pack.specs.Places.{rule_spans}
+use Rattle.pack.specs.declared.rules.RuleAt.{RuleAt}
+use Rattle.std.specs.Prelude.{None, Option, Some}
 use mathlib.Core.Path.{◌≡◌, refl, sym, ap, ap₂, subst, ◌∙◌}
 use mathlib.Core.Bool.{Bool, true, false}
 use mathlib.Core.List.{List, [], ◌∷◌}
@@ -20,7 +25,6 @@ use Rattle.languages.specs.declared.sets.LanguageSet.TheVariants.{Any}
 use Rattle.languages.proofs.Laws.{without_below, any_below, mask_below}
 use Rattle.strings.proofs.Laws.{strings_none, strings_all, strings_one}
 use Rattle.letters.specs.Reading.{first_ill}
-use Rattle.letters.specs.declared.utf8.Found.TheVariants.{Nothing}
 use Rattle.rule.proofs.Formed.{text_formed}
 use Rattle.phonemes.specs.Expressions.{checked_of}
 use Rattle.phonemes.specs.declared.answers.Expression.TheVariants.{Good}
@@ -34,8 +38,6 @@ use Rattle.strings.specs.InnerContracts.{behind, read_some, number_in, number_at
 use specs.Guessing.{narrowed_by, narrowed_by_all, left_over, all_listed, guessed}
 use specs.InnerContracts.{rest_places, guesses_at, guessed_at}
 use specs.declared
-use declared.rules.RuleAt.{RuleAt}
-use declared.rules.RuleAt.TheVariants as rules
 use declared.sections.Surveyed.{Surveyed}
 use declared.sections.Surveyed.TheVariants as surveyed
 use Rattle.pack.proofs
@@ -177,8 +179,8 @@ is_pack s p e = pack_0 s p e (stage s 0 names_good read_names s _ p names_ends (
 -- ---- a rule keeps to the rules of the files
 
 pub record GoodRule (nm : List ℕ) (r : Rule) : Type 0 where
-  pub pattern_formed : first_ill r.pattern ≡ Nothing
-  pub expression_formed : first_ill r.expression ≡ Nothing
+  pub pattern_formed : first_ill r.pattern ≡ None
+  pub expression_formed : first_ill r.expression ≡ None
   pub pattern_some : 0 < length r.pattern
   pub alternatives : ℕ
   pub expression : checked_of nm r.expression ≡ Good alternatives
@@ -206,7 +208,7 @@ short_expression s at r q b e =
 -- rs stand from a place on: each by its places, and good
 pub data RulesAt (s nm : List ℕ) : ℕ → List Rule → Type 0 where
   no_rule : {at : ℕ} → RulesAt s nm at []
-  one_rule : {at a b c d e f g h : ℕ} {r : Rule} {rs : List Rule} → rule_stands_at s at ≡ rules.At a b c d e f g h → (w : RuleIs s at a b c d e f g h) → w.value ≡ r
+  one_rule : {at a b c d e f g h : ℕ} {r : Rule} {rs : List Rule} → rule_stands_at s at ≡ Some (rule_spans a b c d e f g h) → (w : RuleIs s at a b c d e f g h) → w.value ≡ r
       → rule_good nm r ≡ true → RulesAt s nm h rs → RulesAt s nm at (r ∷ rs)
 
 module _ (s nm : List ℕ) (at : ℕ) (x : Rule) (r : List ℕ) (o : read_rule (drop at s) ≡ got x r) where
@@ -217,7 +219,7 @@ module _ (s nm : List ℕ) (at : ℕ) (x : Rule) (r : List ℕ) (o : read_rule (
   rule_step : (rs : List Rule) → rule_good nm x ≡ true → ((h : ℕ) → r ≡ drop h s → RulesAt s nm h rs) → RulesAt s nm at (x ∷ rs)
   unfolding placed_from
   rule_step rs k ih =
-      let w = rule_is s at (rule_stands_at s at) refl _ _ _ _ _ _ _ _ placed_at in
+      let w = rule_is s at (rule_stands_at s at) refl _ placed_at in
       let same = sym w.reads ∙ o in
       let value : w.value ≡ x = cc in
       let rest : r ≡ drop (at + 4 + length x.pattern + length x.left + length x.right + length x.expression) s = cc in
@@ -229,12 +231,12 @@ pub record Held (s nm : List ℕ) (a b c d e f g h : ℕ) (r : Rule) (rs : List 
   pub good : rule_good nm r ≡ true
   pub rest : RulesAt s nm h rs
 
-pub held_by : (s nm : List ℕ) (at a b c d e f g h : ℕ) (r : Rule) (rs : List Rule) → rules.At a b c d e f g h ≡ rule_stands_at s at → RulesAt s nm at (r ∷ rs) → Held s nm a b c d e f g h r rs
-held_by s nm at a b c d e f g h r rs o (one_rule {a = a'} {b = b'} {h = h'} p w v k l) =
-    let same = o ∙ p in
-    let ea : a ≡ a' = cc in
-    let eb : b ≡ b' = cc in
-    let eh : h ≡ h' = cc in
+pub held_by : (s nm : List ℕ) (at : ℕ) (spans : RuleAt) (r : Rule) (rs : List Rule) → Some spans ≡ rule_stands_at s at → RulesAt s nm at (r ∷ rs) → Held s nm spans.pattern.start spans.pattern.end spans.left.start spans.left.end spans.right.start spans.right.end spans.expression.start spans.expression.end r rs
+held_by s nm at spans r rs o (one_rule {a = a'} {b = b'} {h = h'} p w v k l) =
+    let same = same_Some _ _ (o ∙ p) in
+    let ea : spans.pattern.start ≡ a' = ap (λ (x : RuleAt). x.pattern.start) same in
+    let eb : spans.pattern.end ≡ b' = ap (λ (x : RuleAt). x.pattern.end) same in
+    let eh : spans.expression.end ≡ h' = ap (λ (x : RuleAt). x.expression.end) same in
     record {
       pattern = ap₂ (λ (x y : ℕ). take (x - y) (drop y s)) eb ea ∙ w.pattern ∙ ap (λ (y : Rule). y.pattern) v;
       good = k;
@@ -242,10 +244,10 @@ held_by s nm at a b c d e f g h r rs o (one_rule {a = a'} {b = b'} {h = h'} p w 
     }
 
 -- one is there
-never_cut : (s nm : List ℕ) (at : ℕ) (r : Rule) (rs : List Rule) → rules.Cut ≡ rule_stands_at s at → RulesAt s nm at (r ∷ rs) → ⊥
+never_cut : (s nm : List ℕ) (at : ℕ) (r : Rule) (rs : List Rule) → None ≡ rule_stands_at s at → RulesAt s nm at (r ∷ rs) → ⊥
 never_cut s nm at r rs o (one_rule p w v k l) = let same = o ∙ p in clash (cc)
 
-pub held_whole : (s nm : List ℕ) (at : ℕ) (r : Rule) (rs : List Rule) (x : RuleAt) → RulesAt s nm at (r ∷ rs) → x ≡ rule_stands_at s at → x ≡ rules.Cut → ⊥
+pub held_whole : (s nm : List ℕ) (at : ℕ) (r : Rule) (rs : List Rule) (x : Option RuleAt) → RulesAt s nm at (r ∷ rs) → x ≡ rule_stands_at s at → x ≡ None → ⊥
 held_whole s nm at r rs x l o q = never_cut s nm at r rs (sym q ∙ o) l
 
 all_inv : (nm : List ℕ) (x : Rule) (xs : List Rule) → all (rule_good nm) (x ∷ xs) ≡ true → (rule_good nm x ≡ true) × (all (rule_good nm) xs ≡ true)
@@ -276,7 +278,7 @@ module _ (s nm : List ℕ) (at : ℕ) (rs : List Rule) (q : List ℕ) (k : list_
   list_by : (n : ℕ) (l : List ℕ) → read_number 2 (drop at s) ≡ got n l → read_many read_rule n l ≡ got rs q → ListIs s nm at rs
   unfolding number_at number_in rule_count count_in
   list_by n l o e =
-      let w = count_of s at (number_at 2 s at) n (place_in s l) refl (ap (number_in s) o) in
+      let w = count_of s at (number_at 2 s at) (number n (place_in s l)) refl (ap (number_in s) o) in
       let same = sym w.reads ∙ o in
       let rest : drop (place_in s l) s ≡ l = cc in
       record {
@@ -367,7 +369,7 @@ guess_section : (s : List ℕ) (place n : ℕ) (gs : List Guess) (q : List ℕ) 
 unfolding read_guesses guesses_good rule_count count_in number_at number_in
 guess_section s place n gs q e g =
     let i = then_inv (read_number 2 (drop place s)) _ gs q e in
-    let w = count_of s place _ i.0 (place_in s i.1) refl (ap (number_in s) i.2) in
+    let w = count_of s place _ (number i.0 (place_in s i.1)) refl (ap (number_in s) i.2) in
     let rest : i.1 ≡ drop (place + 2) s = (let o = sym i.2 ∙ w.reads in cc) ∙ ap (λ (k : ℕ). drop k s) w.ends in
     let count : rule_count s place ≡ i.0 = ap count_in i.2 in
     record {

@@ -1,4 +1,5 @@
 -- The names, the lists and the survey: the loops over them, and that the sections one after the other are the pack. Assumes nothing.
+use Rattle.strings.specs.declared.Span.{Span}
 use mathlib.Core.Path.{◌≡◌, refl, sym, ap, ap₂, subst, ◌∙◌}
 use mathlib.Core.Bool.{Bool, true, false}
 use mathlib.Core.List.{List, [], ◌∷◌, ◌++◌, map, append_assoc}
@@ -7,20 +8,17 @@ use native.Mathlib.Nat.{not-suc-le-zero}
 use native.Mathlib.Numerals.{add-one}
 use native.Mathlib.Omega.{arith}
 use lib.Dec.{eqb, leb}
-use lib.ListN.{length, get_or, take, drop, set, replicate, length-append, length-drop, length-set, take-append-drop}
+use lib.ListN.{length, get_or, take, drop, set, replicate, length-append, length-drop, take-append-drop}
 use lib.Seq.{sets, set_out, length-take-le}
 use borrow.Author.Rules.{rules}
+use Rattle.std.specs.Prelude.{Option, Some, None, Result, Ok, Err}
 use borrow.Author.Tests.{le-leb, lt-leb, leb-true, eq-eqb, ne_eqb}
 use Rattle.base.specs.Pick.{pick, and}
 use Rattle.letters.specs.Order.{order_of, same_text, is_less, increasing}
-use Rattle.letters.specs.declared.order.Order.{Order}
-use Rattle.letters.specs.declared.order.Order.TheVariants.{Less, Equal, Greater}
-use Rattle.letters.specs.OrderContracts.{Left}
-use Rattle.letters.proofs.OrderLaws.{left_start, order_short}
+use Rattle.std.specs.declared.cmp.Ordering.{Ordering}
+use Rattle.std.specs.declared.cmp.Ordering.TheVariants.{Less, Equal, Greater}
 use Rattle.languages.specs.Names.{language_name}
 use Rattle.languages.proofs.Laws.{name_some}
-use Rattle.strings.specs.declared.Next.{Next}
-use Rattle.strings.specs.declared.Next.TheVariants as next
 use Rattle.strings.specs.Reading.{Read, cut, got, and_read, read_byte, read_text, read_many, place_in, is_nil}
 use Rattle.pack.specs
 use specs.Packs.{Pack, Verdict, accepted, refused, read_names, read_guesses, read_list, all, holds, any, names_good, guesses_good, list_good, section, names_in, list_count, list_sections, end_section, pack_of, verdict_of, strings_length}
@@ -29,11 +27,6 @@ use specs.PlaceContracts.{surveyed_of, judge, found_in, places_of, row_at, Store
 use specs.InnerContracts.{end_in, all_from, past, follows, met_by, names_from, lists_end, ListNoted, ListsAre, ended, rest_of, rest_places, RestIs}
 use Rattle.strings.specs.InnerContracts.{ByteIs, string_at}
 use specs.declared
-use declared.sections.Section.{Section}
-use declared.sections.Section.TheVariants.{End, Bad}
-use declared.sections.Lists.{Lists}
-use declared.sections.Lists.TheVariants as lists
-use declared.sections.Checked.{Checked}
 use declared.sections.Checked.TheVariants as checked
 use declared.sections.Surveyed.{Surveyed}
 use declared.sections.Surveyed.TheVariants as surveyed
@@ -48,19 +41,17 @@ use Rattle.base.proofs.PickLaws.{pick_true, pick_false, and_first, and_inv, and_
 
 -- ---- the names, one after the other
 
-pub name_less : (p x : List ℕ) (o : Order) (t : Bool) → o ≡ order_of p x → o ≡ Less → t ≡ language_name x → t ≡ follows p x
+pub name_less : (p x : List ℕ) (t : Bool) → order_of p x ≡ Less → t ≡ language_name x → t ≡ follows p x
 unfolding follows is_less and
-name_less p x o t e q f = rw (sym e ∙ q) f
+name_less p x t q f = rw q f
 
-pub name_equal : (p x : List ℕ) (o : Order) → o ≡ order_of p x → o ≡ Equal → false ≡ follows p x
+pub name_other : (p x : List ℕ) (o : Ordering) → o ≡ order_of p x → (o ≡ Less → ⊥) → false ≡ follows p x
 unfolding follows is_less and
-name_equal p x o e q = rw (sym e ∙ q) refl
+name_other p x Less e n = absurd (n refl)
+name_other p x Equal e n = rw (← e) refl
+name_other p x Greater e n = rw (← e) refl
 
-pub name_greater : (p x : List ℕ) (o : Order) → o ≡ order_of p x → o ≡ Greater → false ≡ follows p x
-unfolding follows is_less and
-name_greater p x o e q = rw (sym e ∙ q) refl
-
-pub ruleset follows_laws = (name_less, name_equal, name_greater, rules)
+pub ruleset follows_laws = (name_less, name_other, rules)
 
 unfoldable shift : List ℕ → List (List ℕ) → Bool
 shift p [] = true
@@ -98,11 +89,9 @@ names_are p m (x ∷ xs) = names_cons p x m xs (names_are x (met_by m x) xs)
 
 -- the empty text stands before each name
 first_less : (x : List ℕ) → language_name x ≡ true → is_less (order_of [] x) ≡ true
-unfolding is_less
-first_less x e =
-    let some : 0 < length x = name_some x e in
-    let start : Left Order order_of [] x 0 = left_start in
-    sym (ap is_less (order_short start 0 (omega arith) zero-le some))
+unfolding is_less order_of
+first_less [] e = let some = name_some [] e in absurd (omega arith)
+first_less (y ∷ ys) e = refl
 
 shift_by : (x : List ℕ) (a b t : Bool) → language_name x ≡ t → and (and t a) (and (is_less (order_of [] x)) b) ≡ and (and t a) b
 unfolding and
@@ -122,72 +111,77 @@ names_not : (xs : List (List ℕ)) → 32 < length xs → names_good xs ≡ fals
 unfolding names_good
 names_not xs h = and_first _ _ (lt-leb _ _ h)
 
-names_reads : (s : List ℕ) → (length s ≡ 0 → ⊥) → read_names s ≡ read_many read_text (get_or s 0 0) (drop 1 s)
+names_reads : (s : List ℕ) → 0 < length s → read_names s ≡ read_many read_text (get_or s 0 0) (drop 1 s)
 unfolding read_names read_byte and_read
-names_reads [] h = absurd (h refl)
+names_reads [] h = let no_way : ⊥ = omega arith in absurd no_way
 names_reads (b ∷ s) h = refl
 
-pub names_none : (s : List ℕ) → length s ≡ 0 → Bad ≡ end_in s names_good (read_names s)
+pub names_none : (s : List ℕ) → length s ≡ 0 → None ≡ end_in s names_good (read_names s)
 unfolding end_in judge read_names read_byte and_read
 names_none [] h = refl
 names_none (b ∷ s) h = let no_way : ⊥ = omega arith in absurd no_way
 
-module _ (s : List ℕ) (n : ℕ) (h : length s ≡ 0 → ⊥) (b : ByteIs s 0 n) where
+module _ (s : List ℕ) (n : ℕ) (h : 0 < length s) (b : n ≡ get_or s 0 0) where
   reads_n : read_names s ≡ read_many read_text n (drop 1 s)
-  reads_n = names_reads s h ∙ ap (λ (k : ℕ). read_many read_text k (drop 1 s)) (sym b.is)
+  reads_n = names_reads s h ∙ ap (λ (k : ℕ). read_many read_text k (drop 1 s)) (sym b)
 
-  pub names_much : 32 < n → Bad ≡ end_in s names_good (read_names s)
+  pub names_much : 32 < n → None ≡ end_in s names_good (read_names s)
   unfolding end_in
   names_much l = sym (ap (end_in s names_good) reads_n ∙ judge_faulty _ _ _ _ (much_by read_text names_good 32 names_not _ n _ refl l))
 
-pub record Naming (s : List ℕ) (from at left : ℕ) (met : Bool) : Type 0 where
-  pub order : from ≤ at
-  pub within : at ≤ length s
-  pub is : end_in s names_good (read_names s) ≡ end_in s (names_from (past (take (at - from) (drop from s)) met)) (read_many read_text left (drop at s))
+pub met_already : (m : Bool) (x : List ℕ) → m ≡ true → m ≡ met_by m x
+unfolding met_by
+met_already m x e = e ∙ sym (pick_true _ _ _ e)
 
-pub naming_start : (s : List ℕ) (n : ℕ) → (length s ≡ 0 → ⊥) → ByteIs s 0 n → n ≤ 32 → Naming s 1 1 n false
+pub met_now : (m t : Bool) (x : List ℕ) → m ≡ false → t ≡ same_text x any → t ≡ met_by m x
+unfolding met_by
+met_now m t x e h = h ∙ sym (pick_false _ _ _ e)
+
+pub record Naming (s : List ℕ) (count : ℕ) (before : List ℕ) (at i : ℕ) (met : Bool) : Type 0 where
+  pub within : at ≤ length s
+  pub is : end_in s names_good (read_names s) ≡ end_in s (names_from (past before met)) (read_many read_text (count - i) (drop at s))
+
+pub naming_start : (s : List ℕ) (n : ℕ) → 0 < length s → n ≡ get_or s 0 0 → n ≤ 32 → Naming s n [] 1 0 false
 unfolding end_in
-naming_start s n h b l = record {
-  order = omega arith;
+naming_start s n h b l = let all : n - 0 ≡ n = omega arith in record {
   within = omega arith;
-  is = ap (end_in s names_good) (reads_n s n h b)
-      ∙ judge_same _ _ _ _ _ (λ xs t g. let few : length xs ≤ 32 = omega (arith, many_length read_text n (drop 1 s) xs t g) in names_is xs few);
+  is = rw all (ap (end_in s names_good) (reads_n s n h b)
+      ∙ judge_same _ _ _ _ _ (λ xs t g. let few : length xs ≤ 32 = omega (arith, many_length read_text n (drop 1 s) xs t g) in names_is xs few));
 }
 
-module _ {s : List ℕ} {from at left : ℕ} {met : Bool} (w : Naming s from at left met) where
-  module _ (x : Next) (g : x ≡ string_at s at) where
-    pub naming_cut : 0 < left → x ≡ next.Cut → Bad ≡ end_in s names_good (read_names s)
+module _ {s : List ℕ} {count : ℕ} {before : List ℕ} {at i : ℕ} {met : Bool} (w : Naming s count before at i met) where
+  module _ (x : Option Span) (g : x ≡ string_at s at) where
+    pub naming_cut : i < count → x ≡ None → None ≡ end_in s names_good (read_names s)
     unfolding names_from
-    naming_cut h q = sym (w.is ∙ walk_off s read_text _ _ _ _ left _ h (runs_out (text_cut s at x g q)))
+    naming_cut h q = sym (w.is ∙ walk_off s read_text _ _ _ _ count i _ h (runs_out (text_cut s at x g q)))
 
-    module _ (a e : ℕ) (q : x ≡ next.Whole a e) where
-      pub name_order : a ≤ e
-      name_order = let v = text_is s at x g a e q in omega arith
+    module _ (part : Span) (q : x ≡ Some part) where
+      pub name_order : part.start ≤ part.end
+      name_order = let v = text_is s at x g part q in omega arith
 
-      pub name_fits : e ≤ length s
-      name_fits = (text_is s at x g a e q).fits
+      pub name_fits : part.end ≤ length s
+      name_fits = (text_is s at x g part q).fits
 
-      module _ (t : Bool) (k : t ≡ follows (take (at - from) (drop from s)) (take (e - a) (drop a s))) (h : 0 < left) where
-        pub naming_bad : t ≡ false → Bad ≡ end_in s names_good (read_names s)
+      module _ (t : Bool) (k : t ≡ follows before (take (part.end - part.start) (drop part.start s))) (h : i < count) where
+        pub naming_bad : t ≡ false → None ≡ end_in s names_good (read_names s)
         unfolding names_from
-        naming_bad v = sym (w.is ∙ walk_off s read_text _ _ _ _ left _ h (fails _ _ (text_is s at x g a e q).reads (sym k ∙ v)))
+        naming_bad v = sym (w.is ∙ walk_off s read_text _ _ _ _ count i _ h (fails _ _ (text_is s at x g part q).reads (sym k ∙ v)))
 
-        pub naming_next : (m : Bool) → t ≡ true → m ≡ met_by met (take (e - a) (drop a s)) → Naming s a e (left - 1) m
+        pub naming_next : (m : Bool) → t ≡ true → m ≡ met_by met (take (part.end - part.start) (drop part.start s)) → Naming s count (take (part.end - part.start) (drop part.start s)) part.end (i + 1) m
         unfolding names_from
-        naming_next m v f = let z = text_is s at x g a e q in record {
-          order = name_order;
+        naming_next m v f = let z = text_is s at x g part q in record {
           within = z.fits;
-          is = w.is ∙ walk_on s read_text _ _ _ _ left _ _ _ h z.reads (sym k ∙ v)
-              ∙ ap (λ (u : Bool). end_in s (names_from (past (take (e - a) (drop a s)) u)) (read_many read_text (left - 1) (drop e s))) (sym f);
+          is = w.is ∙ walk_on s read_text _ _ _ _ count i _ _ _ h z.reads (sym k ∙ v)
+              ∙ ap (λ (u : Bool). end_in s (names_from (past (take (part.end - part.start) (drop part.start s)) u)) (read_many read_text (count - (i + 1)) (drop part.end s))) (sym f);
         }
 
-  pub naming_done : left ≤ 0 → met ≡ true → End at ≡ end_in s names_good (read_names s)
+  pub naming_done : count ≤ i → met ≡ true → Some at ≡ end_in s names_good (read_names s)
   unfolding names_from
-  naming_done h q = sym (w.is ∙ walk_end s read_text _ _ _ _ left at h w.within ∙ pick_true _ _ _ q)
+  naming_done h q = sym (w.is ∙ walk_end s read_text _ _ _ _ count i at h w.within ∙ pick_true _ _ _ q)
 
-  pub naming_lacks : left ≤ 0 → met ≡ false → Bad ≡ end_in s names_good (read_names s)
+  pub naming_lacks : count ≤ i → met ≡ false → None ≡ end_in s names_good (read_names s)
   unfolding names_from
-  naming_lacks h q = sym (w.is ∙ walk_end s read_text _ _ _ _ left at h w.within ∙ pick_false _ _ _ q)
+  naming_lacks h q = sym (w.is ∙ walk_end s read_text _ _ _ _ count i at h w.within ∙ pick_false _ _ _ q)
 
 pub ruleset naming_laws = (names_none, names_much, naming_start, naming_cut, name_order, name_fits, naming_bad, naming_next, naming_done, naming_lacks, rules)
 
@@ -196,17 +190,14 @@ pub ruleset naming_laws = (names_none, names_much, naming_start, naming_cut, nam
 pub put_out : {A : Type 0} (l : List A) (k : ℕ) (v : A) → length l ≤ k → l ≡ set l k v
 put_out l k v h = sym (set_out l k v h)
 
-pub record Found (s names : List ℕ) (start count : ℕ) (places : List ℕ) (rows : List (List ℕ)) (at left k : ℕ) (places' : List ℕ) (rows' : List (List ℕ)) : Type 0 where
+pub record Found (s names : List ℕ) (start count : ℕ) (places : List ℕ) (rows : List (List ℕ)) (at k : ℕ) (places' : List ℕ) (rows' : List (List ℕ)) : Type 0 where
   pub within : at ≤ length s
-  pub counted : k + left ≡ count
-  pub same : length places' ≡ length places
-  pub wide : length rows' ≡ length rows
-  pub is : lists_end s names count (drop start s) ≡ lists_end s names left (drop at s)
-  pub placed : sets places 0 (found_in s names count (drop start s)) ≡ sets places' k (found_in s names left (drop at s))
-  pub noted : sets rows 0 (map (row_at s) (found_in s names count (drop start s))) ≡ sets rows' k (map (row_at s) (found_in s names left (drop at s)))
+  pub is : lists_end s names count (drop start s) ≡ lists_end s names (count - k) (drop at s)
+  pub placed : sets places 0 (found_in s names count (drop start s)) ≡ sets places' k (found_in s names (count - k) (drop at s))
+  pub noted : sets rows 0 (map (row_at s) (found_in s names count (drop start s))) ≡ sets rows' k (map (row_at s) (found_in s names (count - k) (drop at s)))
 
-pub found_start : (s names : List ℕ) (start count : ℕ) (places : List ℕ) (rows : List (List ℕ)) → start ≤ length s → Found s names start count places rows start count 0 places rows
-found_start s names start count places rows h = record { within = h; counted = omega arith; same = refl; wide = refl; is = refl; placed = refl; noted = refl }
+pub found_start : (s names : List ℕ) (start count : ℕ) (places : List ℕ) (rows : List (List ℕ)) → start ≤ length s → Found s names start count places rows start 0 places rows
+found_start s names start count places rows h = let all : count - 0 ≡ count = omega arith in record { within = h; is = rw all refl; placed = rw all refl; noted = rw all refl }
 
 -- what is stored of a list at a place, and then of the others
 stored_next : {A : Type 0} (f : ℕ → A) (l : List A) (k place : ℕ) (found more : List ℕ) → found ≡ place ∷ more → sets l k (map f found) ≡ sets (set l k (f place)) (k + 1) (map f more)
@@ -218,7 +209,7 @@ unfolding lists_end
 ends_one s names zero r rules q h e g = absurd (not-suc-le-zero h)
 ends_one s names (suc n) r rules q h e g = let m : n ≡ suc n - 1 = omega arith in judge_fine _ _ _ _ rules q e g ∙ ap (λ (k : ℕ). lists_end s names k q) m
 
-ends_none : (s names : List ℕ) (n : ℕ) (r : List ℕ) → 0 < n → Faulty (list_good names) (read_list r) → lists_end s names n r ≡ lists.Fault (place_in s r)
+ends_none : (s names : List ℕ) (n : ℕ) (r : List ℕ) → 0 < n → Faulty (list_good names) (read_list r) → lists_end s names n r ≡ Err (place_in s r)
 unfolding lists_end
 ends_none s names zero r h f = absurd (not-suc-le-zero h)
 ends_none s names (suc n) r h f = judge_faulty _ _ _ _ f
@@ -235,39 +226,39 @@ unfolding found_in
 found_none s names zero r f = refl
 found_none s names (suc n) r f = judge_faulty _ _ _ _ f
 
-module _ {s names : List ℕ} {start count : ℕ} {places : List ℕ} {rows : List (List ℕ)} {at left k : ℕ} {places' : List ℕ} {rows' : List (List ℕ)} (w : Found s names start count places rows at left k places' rows') where
-  module _ (x : Section) (row : List ℕ) (g : ListNoted s names at (replicate 128 0) x row) (h : 0 < left) where
-    pub found_next : (e : ℕ) (places'' : List ℕ) (rows'' : List (List ℕ)) → x ≡ End e → places'' ≡ set places' k at → rows'' ≡ set rows' k row → Found s names start count places rows e (left - 1) (k + 1) places'' rows''
+module _ {s names : List ℕ} {start count : ℕ} {places : List ℕ} {rows : List (List ℕ)} {at k : ℕ} {places' : List ℕ} {rows' : List (List ℕ)} (w : Found s names start count places rows at k places' rows') where
+  module _ (x : Option ℕ) (row : List ℕ) (g : ListNoted s names at (replicate 128 0) x row) (h : k < count) where
+    pub found_next : (e : ℕ) (places'' : List ℕ) (rows'' : List (List ℕ)) → x ≡ Some e → places'' ≡ set places' k at → rows'' ≡ set rows' k row → Found s names start count places rows e (k + 1) places'' rows''
     found_next e places'' rows'' q f f₂ =
         let o = section_ends s (list_good names) read_list (drop at s) x g.result list_ends (end_here s at w.within) e q in
-        let one : found_in s names left (drop at s) ≡ at ∷ found_in s names (left - 1) (drop e s) =
-        found_one s names left _ o.value _ h o.reads o.passes ∙ ap (λ (n : ℕ). n ∷ found_in s names (left - 1) (drop e s)) (place_drop s at w.within) in
+        let some : 0 < count - k = omega arith in
+        let left : count - k - 1 ≡ count - (k + 1) = omega arith in
+        let one : found_in s names (count - k) (drop at s) ≡ at ∷ found_in s names (count - (k + 1)) (drop e s) =
+        found_one s names (count - k) _ o.value _ some o.reads o.passes ∙ ap₂ (λ (n m : ℕ). n ∷ found_in s names m (drop e s)) (place_drop s at w.within) left in
         record {
           within = o.fits;
-          counted = omega arith;
-          same = ap length f ∙ length-set places' k at ∙ w.same;
-          wide = ap length f₂ ∙ length-set rows' k row ∙ w.wide;
-          is = w.is ∙ ends_one s names left _ o.value _ h o.reads o.passes;
-          placed = w.placed ∙ ap (sets places' k) one ∙ ap₂ (λ (l : List ℕ) (v : ℕ). sets l v (found_in s names (left - 1) (drop e s))) (sym f) (sym (add-one k));
+          is = w.is ∙ ends_one s names (count - k) _ o.value _ some o.reads o.passes ∙ ap (λ (n : ℕ). lists_end s names n (drop e s)) left;
+          placed = w.placed ∙ ap (sets places' k) one ∙ ap₂ (λ (l : List ℕ) (v : ℕ). sets l v (found_in s names (count - (k + 1)) (drop e s))) (sym f) (sym (add-one k));
           noted = w.noted ∙ stored_next (row_at s) rows' k at _ _ one
-              ∙ ap (λ (l : List (List ℕ)). sets l (k + 1) (map (row_at s) (found_in s names (left - 1) (drop e s)))) (sym (f₂ ∙ ap (set rows' k) (g.noted e q)));
+              ∙ ap (λ (l : List (List ℕ)). sets l (k + 1) (map (row_at s) (found_in s names (count - (k + 1)) (drop e s)))) (sym (f₂ ∙ ap (set rows' k) (rw q at g.noted)));
         }
 
-    pub found_fault : x ≡ Bad → ListsAre s names count start places rows (lists.Fault at) places' rows'
+    pub found_fault : x ≡ None → ListsAre s names count start places rows (Err at) places' rows'
     found_fault q =
         let o = section_faulty s (list_good names) read_list (drop at s) x g.result q in
-        let none = found_none s names left _ o in
+        let none = found_none s names (count - k) _ o in
+        let some : 0 < count - k = omega arith in
         record {
-          result = sym (w.is ∙ ends_none s names left _ h o ∙ ap lists.Fault (place_drop s at w.within));
+          result = sym (w.is ∙ ends_none s names (count - k) _ some o ∙ ap Err (place_drop s at w.within));
           stored = record { placed = sym (w.placed ∙ ap (sets places' k) none); noted = sym (w.noted ∙ ap (λ (l : List ℕ). sets rows' k (map (row_at s) l)) none) };
         }
 
-  pub found_done : left ≤ 0 → ListsAre s names count start places rows (lists.Done at) places' rows'
+  pub found_done : count ≤ k → ListsAre s names count start places rows (Ok at) places' rows'
   unfolding lists_end found_in
   found_done h =
-      let none : left ≡ 0 = omega arith in
+      let none : count - k ≡ 0 = omega arith in
       record {
-        result = sym (w.is ∙ ap (λ (n : ℕ). lists_end s names n (drop at s)) none ∙ ap lists.Done (place_drop s at w.within));
+        result = sym (w.is ∙ ap (λ (n : ℕ). lists_end s names n (drop at s)) none ∙ ap Ok (place_drop s at w.within));
         stored = record {
           placed = sym (w.placed ∙ ap (λ (n : ℕ). sets places' k (found_in s names n (drop at s))) none);
           noted = sym (w.noted ∙ ap (λ (n : ℕ). sets rows' k (map (row_at s) (found_in s names n (drop at s)))) none);
@@ -283,41 +274,41 @@ none_stored s places rows found e = record { placed = sym (ap (sets places 0) e)
 -- ---- the list count, the lists and the end
 
 module _ (s names : List ℕ) (n at : ℕ) (places : List ℕ) (rows : List (List ℕ)) where
-  pub rest_none : length s ≤ at → at ≤ length s → RestIs s names n at places rows (checked.Refused at) places rows
+  pub rest_none : length s ≤ at → at ≤ length s → RestIs s names n at places rows (Err at) places rows
   unfolding rest_of rest_places judge
-  rest_none h w = record { result = rw (byte_none s at h) (ap checked.Refused (sym (place_drop s at w))); stored = none_stored s places rows _ (rw (byte_none s at h) refl) }
+  rest_none h w = record { result = rw (byte_none s at h) (ap Err (sym (place_drop s at w))); stored = none_stored s places rows _ (rw (byte_none s at h) refl) }
 
   module _ (k : ℕ) (h : at < length s) (b : ByteIs s at k) where
     byte_reads : read_byte (drop at s) ≡ got k (drop (at + 1) s)
     byte_reads = byte_some s at h ∙ ap (λ (x : ℕ). got x (drop (at + 1) s)) (sym b.is)
 
-    pub rest_count : (k ≡ 3 * n + 2 → ⊥) → RestIs s names n at places rows (checked.Refused at) places rows
+    pub rest_count : (k ≡ 3 * n + 2 → ⊥) → RestIs s names n at places rows (Err at) places rows
     unfolding rest_of rest_places list_count
     rest_count e =
         let f : Faulty (λ (c : ℕ). eqb c (3 * n + 2)) (read_byte (drop at s)) = fails k _ byte_reads (ne_eqb _ _ e) in
         let w : at ≤ length s = omega arith in
         record {
-          result = sym (judge_faulty _ _ _ _ f ∙ ap checked.Refused (place_drop s at w));
+          result = sym (judge_faulty _ _ _ _ f ∙ ap Err (place_drop s at w));
           stored = none_stored s places rows _ (judge_faulty _ _ _ _ f);
         }
 
-    module _ (e : k ≡ 3 * n + 2) (x : Lists) (places' : List ℕ) (rows' : List (List ℕ)) (l : ListsAre s names k (at + 1) places rows x places' rows') where
-      rest_by : (y : Checked) → y ≡ ended s x → RestIs s names n at places rows y places' rows'
+    module _ (e : k ≡ 3 * n + 2) (x : Result ℕ ℕ) (places' : List ℕ) (rows' : List (List ℕ)) (l : ListsAre s names k (at + 1) places rows x places' rows') where
+      rest_by : (y : Result (Unit {0}) ℕ) → y ≡ ended s x → RestIs s names n at places rows y places' rows'
       unfolding rest_of rest_places list_count
       rest_by y q = record {
         result = q ∙ ap (ended s) l.result ∙ sym (judge_fine _ _ _ _ k _ byte_reads (eq-eqb _ _ e));
         stored = subst (λ (f : List ℕ). Stored s places rows f places' rows') (sym (judge_fine _ _ _ _ k _ byte_reads (eq-eqb _ _ e))) l.stored;
       }
 
-      pub rest_fault : (p : ℕ) → x ≡ lists.Fault p → RestIs s names n at places rows (checked.Refused p) places' rows'
+      pub rest_fault : (p : ℕ) → x ≡ Err p → RestIs s names n at places rows (Err p) places' rows'
       unfolding ended
       rest_fault p q = rest_by _ (sym (ap (ended s) q))
 
-      pub rest_ends : (p : ℕ) → x ≡ lists.Done p → p ≡ length s → RestIs s names n at places rows checked.Accepted places' rows'
+      pub rest_ends : (p : ℕ) → x ≡ Ok p → p ≡ length s → RestIs s names n at places rows (Ok tt) places' rows'
       unfolding ended
       rest_ends p q f = rest_by _ (sym (ap (ended s) q ∙ pick_true _ _ _ (eq-eqb _ _ f)))
 
-      pub rest_more : (p : ℕ) → x ≡ lists.Done p → (p ≡ length s → ⊥) → RestIs s names n at places rows (checked.Refused p) places' rows'
+      pub rest_more : (p : ℕ) → x ≡ Ok p → (p ≡ length s → ⊥) → RestIs s names n at places rows (Err p) places' rows'
       unfolding ended
       rest_more p q f = rest_by _ (sym (ap (ended s) q ∙ pick_false _ _ _ (ne_eqb _ _ f)))
 
@@ -341,30 +332,30 @@ judge_cong bad good cut k j e = refl
 judge_cong bad good (got a r) k j e = ap (λ (y : _). pick (good a) y bad) (e a r refl)
 
 -- the names are known, and the rest is judged
-unfoldable told : List (List ℕ) → Checked → Surveyed
-told names checked.Accepted = surveyed.Accepted (length names) (1 + strings_length names)
-told names (checked.Refused n) = surveyed.Refused n
+unfoldable told : List (List ℕ) → Result (Unit {0}) ℕ → Surveyed
+told names (Ok u) = surveyed.Accepted (length names) (1 + strings_length names)
+told names (Err n) = surveyed.Refused n
 
-told_step : {A : Type 0} (names : List (List ℕ)) (place : ℕ) (good : A → Bool) (x : Read A) (k : A → List ℕ → Verdict) (j : A → List ℕ → Checked)
-    → ((a : A) (r : List ℕ) → x ≡ got a r → surveyed_of (k a r) ≡ told names (j a r)) → surveyed_of (section place good x k) ≡ told names (judge (checked.Refused place) good x j)
+told_step : {A : Type 0} (names : List (List ℕ)) (place : ℕ) (good : A → Bool) (x : Read A) (k : A → List ℕ → Verdict) (j : A → List ℕ → Result (Unit {0}) ℕ)
+    → ((a : A) (r : List ℕ) → x ≡ got a r → surveyed_of (k a r) ≡ told names (j a r)) → surveyed_of (section place good x k) ≡ told names (judge (Err place) good x j)
 unfolding surveyed_of told
 told_step names place good x k j e =
     ap surveyed_of (section_is place good x k) ∙ judge_map surveyed_of (refused place) good x k
-    ∙ judge_cong _ good x _ _ e ∙ sym (judge_map (told names) (checked.Refused place) good x j)
+    ∙ judge_cong _ good x _ _ e ∙ sym (judge_map (told names) (Err place) good x j)
 
 nil_is : (s r : List ℕ) → EndOf s r → is_nil r ≡ eqb (place_in s r) (length s)
 unfolding is_nil place_in
 nil_is s [] v = sym (eq-eqb (length s - 0) (length s) (omega arith))
 nil_is s (x ∷ r) v = sym (ne_eqb (length s - suc (length r)) (length s) (λ e. omega (arith, end_length v)))
 
-end_by : (s : List ℕ) (names : List (List ℕ)) (e : ℕ) (p : Pack) (t : Bool) → p.names ≡ names → surveyed_of (pick t (accepted p) (refused e)) ≡ told names (pick t checked.Accepted (checked.Refused e))
+end_by : (s : List ℕ) (names : List (List ℕ)) (e : ℕ) (p : Pack) (t : Bool) → p.names ≡ names → surveyed_of (pick t (accepted p) (refused e)) ≡ told names (pick t (Ok tt) (Err e))
 unfolding surveyed_of told pick
 end_by s names e p true h = ap (λ (n : List (List ℕ)). surveyed.Accepted (length n) (1 + strings_length n)) h
 end_by s names e p false h = refl
 
-end_told : (s : List ℕ) (names : List (List ℕ)) (r : List ℕ) (p : Pack) → EndOf s r → p.names ≡ names → surveyed_of (end_section s p r) ≡ told names (ended s (lists.Done (place_in s r)))
+end_told : (s : List ℕ) (names : List (List ℕ)) (r : List ℕ) (p : Pack) → EndOf s r → p.names ≡ names → surveyed_of (end_section s p r) ≡ told names (ended s (Ok (place_in s r)))
 unfolding end_section ended
-end_told s names r p v h = end_by s names (place_in s r) p (is_nil r) h ∙ ap (λ (t : Bool). told names (pick t checked.Accepted (checked.Refused (place_in s r)))) (nil_is s r v)
+end_told s names r p v h = end_by s names (place_in s r) p (is_nil r) h ∙ ap (λ (t : Bool). told names (pick t (Ok tt) (Err (place_in s r)))) (nil_is s r v)
 
 lists_told : (s nm : List ℕ) (names : List (List ℕ)) (n : ℕ) (r : List ℕ) (mk : List (List Rule) → Pack) → EndOf s r → ((ls : List (List Rule)) → (mk ls).names ≡ names)
     → surveyed_of (list_sections s nm n r (λ ls t. end_section s (mk ls) t)) ≡ told names (ended s (lists_end s nm n r))
@@ -373,7 +364,7 @@ lists_told s nm names zero r mk v h = end_told s names r (mk []) v (h [])
 lists_told s nm names (suc n) r mk v h =
     told_step names (place_in s r) (list_good nm) (read_list r) _ (λ rules q. ended s (lists_end s nm n q))
     (λ rules q e. lists_told s nm names n q (λ ls. mk (rules ∷ ls)) (end_then v (list_ends r rules q e)) (λ ls. h (rules ∷ ls)))
-    ∙ sym (ap (told names) (judge_map (ended s) (lists.Fault (place_in s r)) (list_good nm) (read_list r) (λ rules q. lists_end s nm n q)))
+    ∙ sym (ap (told names) (judge_map (ended s) (Err (place_in s r)) (list_good nm) (read_list r) (λ rules q. lists_end s nm n q)))
 
 -- ---- what the names tell
 
@@ -468,8 +459,8 @@ module _ (s : List ℕ) (g : ℕ) (w : Ending s names_good (read_names s) g) whe
 
 -- ---- the survey
 
-module _ (s places : List ℕ) (rows : List (List ℕ)) (x₁ : Section) (e₁ : x₁ ≡ end_in s names_good (read_names s)) where
-  pub survey_names : x₁ ≡ Bad → SurveyIs s places rows (surveyed.Refused 0) places rows
+module _ (s places : List ℕ) (rows : List (List ℕ)) (x₁ : Option ℕ) (e₁ : x₁ ≡ end_in s names_good (read_names s)) where
+  pub survey_names : x₁ ≡ None → SurveyIs s places rows (surveyed.Refused 0) places rows
   unfolding pack_of places_of surveyed_of
   survey_names q =
       let f = section_faulty s names_good read_names s x₁ e₁ q in
@@ -478,7 +469,7 @@ module _ (s places : List ℕ) (rows : List (List ℕ)) (x₁ : Section) (e₁ :
         stored = none_stored s places rows _ (judge_faulty _ _ _ _ f);
       }
 
-  module _ (g : ℕ) (q₁ : x₁ ≡ End g) where
+  module _ (g : ℕ) (q₁ : x₁ ≡ Some g) where
     front : Ending s names_good (read_names s) g
     front = section_ends s names_good read_names s x₁ e₁ names_ends (end_here s 0 zero-le) g q₁
 
@@ -495,11 +486,11 @@ module _ (s places : List ℕ) (rows : List (List ℕ)) (x₁ : Section) (e₁ :
       pub survey_few : n ≤ 32
       survey_few = omega (arith, count, names_few s g front)
 
-      module _ (x₂ : Section) (e₂ : x₂ ≡ end_in s (guesses_good n) (read_guesses (drop g s))) where
+      module _ (x₂ : Option ℕ) (e₂ : x₂ ≡ end_in s (guesses_good n) (read_guesses (drop g s))) where
         e₂' : x₂ ≡ end_in s (guesses_good (length front.value)) (read_guesses (drop g s))
         e₂' = e₂ ∙ ap (λ (k : ℕ). end_in s (guesses_good k) (read_guesses (drop g s))) (sym count)
 
-        pub survey_guesses : x₂ ≡ Bad → SurveyIs s places rows (surveyed.Refused g) places rows
+        pub survey_guesses : x₂ ≡ None → SurveyIs s places rows (surveyed.Refused g) places rows
         unfolding pack_of places_of surveyed_of
         survey_guesses q =
             let f = section_faulty s _ read_guesses (drop g s) x₂ e₂' q in
@@ -509,27 +500,27 @@ module _ (s places : List ℕ) (rows : List (List ℕ)) (x₁ : Section) (e₁ :
               stored = none_stored s places rows _ (judge_fine _ _ _ _ front.value _ front.reads front.passes ∙ judge_faulty _ _ _ _ f);
             }
 
-        module _ (c : ℕ) (q₂ : x₂ ≡ End c) where
+        module _ (c : ℕ) (q₂ : x₂ ≡ Some c) where
           middle : Ending s (guesses_good (length front.value)) (read_guesses (drop g s)) c
           middle = section_ends s _ read_guesses (drop g s) x₂ e₂' guesses_ends (end_here s g front.fits) c q₂
 
           pub survey_counted : c ≤ length s
           survey_counted = middle.fits
 
-          module _ (x₃ : Checked) (places' : List ℕ) (rows' : List (List ℕ)) (r : RestIs s (take (g - 1) (drop 1 s)) n c places rows x₃ places' rows') where
+          module _ (x₃ : Result (Unit {0}) ℕ) (places' : List ℕ) (rows' : List (List ℕ)) (r : RestIs s (take (g - 1) (drop 1 s)) n c places rows x₃ places' rows') where
             survey_by : (y : Surveyed) → y ≡ told front.value x₃ → SurveyIs s places rows y places' rows'
             survey_by y f = record {
               result = surveyed_told _ _ (f ∙ sym (rest_told s g front c middle ∙ ap (told front.value) (ap (λ (k : ℕ). rest_of s (take (g - 1) (drop 1 s)) k (drop c s)) count ∙ sym r.result)));
               stored = subst (λ (f : List ℕ). Stored s places rows f places' rows') (sym (rest_places_lem s g front c middle ∙ ap (λ (k : ℕ). rest_places s (take (g - 1) (drop 1 s)) k (drop c s)) count)) r.stored;
             }
 
-            pub survey_refused : (p : ℕ) → x₃ ≡ checked.Refused p → SurveyIs s places rows (surveyed.Refused p) places' rows'
+            pub survey_refused : (p : ℕ) → x₃ ≡ Err p → SurveyIs s places rows (surveyed.Refused p) places' rows'
             unfolding told
             survey_refused p q = survey_by _ (sym (ap (told front.value) q))
 
-            pub survey_accepted : x₃ ≡ checked.Accepted → SurveyIs s places rows (surveyed.Accepted n g) places' rows'
+            pub survey_accepted : (u : Unit {0}) → x₃ ≡ Ok u → SurveyIs s places rows (surveyed.Accepted n g) places' rows'
             unfolding told
-            survey_accepted q = survey_by _ (sym (ap (told front.value) q ∙ ap₂ (λ (i j : ℕ). surveyed.Accepted i j) count (sym (names_end s g front))))
+            survey_accepted u q = survey_by _ (sym (ap (told front.value) q ∙ ap₂ (λ (i j : ℕ). surveyed.Accepted i j) count (sym (names_end s g front))))
 
 pub ruleset survey_laws = (survey_names, survey_first, survey_fits, survey_few, survey_guesses, survey_counted, survey_refused, survey_accepted, rules)
 

@@ -1,3 +1,4 @@
+pub mod Places
 pub mod Packs
 pub mod PlaceContracts
 pub mod Guessing

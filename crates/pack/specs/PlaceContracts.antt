@@ -1,5 +1,7 @@
 -- Where things stand in a pack: its guessing section, its lists, and the strings of a rule.
-use Rattle.std.specs.Prelude.{◌≡◌, ℕ, zero, suc, ◌+◌, ◌%◌, Bool, List, [], ◌∷◌, map, eqb, length, drop, get_or, set, replicate}
+use Rattle.pack.specs.Places.{rule_spans}
+use Rattle.pack.specs.declared.rules.RuleAt.{RuleAt}
+use Rattle.std.specs.Prelude.{◌≡◌, ℕ, zero, suc, ◌+◌, ◌%◌, Bool, List, [], ◌∷◌, map, eqb, length, drop, get_or, set, replicate, Option, Some, None}
 use Rattle.std.proofs.lemmas.List.Edits.{sets}
 use Rattle.base.specs.Pick.{pick}
 use Rattle.strings.specs.Reading.{Read, cut, got, read_byte, read_number, place_in}
@@ -8,8 +10,6 @@ use Rattle.rule_lines.specs.Rules.{Rule}
 use Rattle.pack.specs.Numbers.{surveyed_numbers}
 use Rattle.pack.specs.declared.sections.Surveyed.{Surveyed}
 use Rattle.pack.specs.declared.sections.Surveyed.TheVariants as surveyed
-use Rattle.pack.specs.declared.rules.RuleAt.{RuleAt}
-use Rattle.pack.specs.declared.rules.RuleAt.TheVariants as rules
 use Rattle.strings.specs.InnerContracts.{behind, read_some}
 
 -- ---- what a survey finds
@@ -41,16 +41,16 @@ places_of s =
 -- ---- a rule by its places
 
 -- where each of the four strings starts, behind its length byte, and ends
-unfoldable pub placed_from : ℕ → ℕ → ℕ → ℕ → ℕ → RuleAt
+unfoldable pub placed_from : ℕ → ℕ → ℕ → ℕ → ℕ → Option RuleAt
 placed_from place p l r e =
-    rules.At (place + 1) (place + 1 + p) (place + 2 + p) (place + 2 + p + l) (place + 3 + p + l) (place + 3 + p + l + r) (place + 4 + p + l + r) (place + 4 + p + l + r + e)
+    Some (rule_spans (place + 1) (place + 1 + p) (place + 2 + p) (place + 2 + p + l) (place + 3 + p + l) (place + 3 + p + l + r) (place + 4 + p + l + r) (place + 4 + p + l + r + e))
 
-unfoldable pub placed_rule : ℕ → Read Rule → RuleAt
-placed_rule place cut = rules.Cut
+unfoldable pub placed_rule : ℕ → Read Rule → Option RuleAt
+placed_rule place cut = None
 placed_rule place (got r q) = placed_from place (length r.pattern) (length r.left) (length r.right) (length r.expression)
 
 -- the rule at a place, of any bytes
-unfoldable pub rule_stands_at : List ℕ → ℕ → RuleAt
+unfoldable pub rule_stands_at : List ℕ → ℕ → Option RuleAt
 rule_stands_at s place = placed_rule place (read_rule (drop place s))
 
 -- ---- how many rules a list has

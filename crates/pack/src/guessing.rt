@@ -5,41 +5,31 @@ ghost use Rattle.pack.specs.Packs.{guess, read_guess, read_guesses, guess_good, 
 ghost use Rattle.pack.specs.Guessing.{all_listed};
 ghost use Rattle.pack.specs.InnerContracts.{end_in, guess_stands_at, guesses_from};
 
-use crate::sections::Section;
-use strings::{Next, Number};
+use strings::{Number, Span};
 
-// A guessing rule by its places, or that bytes run out: its pattern stands from start to end.
+// A guessing rule, its pattern by where it stands; the next one stands where the pattern ends.
 #[derive(Clone, Copy)]
-pub enum GuessAt {
-    At {
-        accept: u32,
-        mask: u32,
-        start: usize,
-        end: usize,
-    },
-    Cut,
+pub struct GuessAt {
+    pub accept: u32,
+    pub mask: u32,
+    pub pattern: Span,
 }
 
-// The guessing rule at a place, of any bytes.
+// The guessing rule at a place, of any bytes; none where they run out.
 #[tactic(auto, using(crate::proofs::GuessLaws::guess_at_laws))]
-pub fn guess_at(pack: &[u8], at: usize) -> GuessAt
+pub fn guess_at(pack: &[u8], at: usize) -> Option<GuessAt>
     ensures { result ≡ guess_stands_at pack.now at }
 {
     if pack.len() <= at {
-        return GuessAt::Cut;
+        return None;
     }
-    match strings::mask_at(pack, at + 1) {
-        Number::Of { value: mask, next } => match strings::string_at(pack, next) {
-            Next::Whole { start, end } => GuessAt::At {
-                accept: strings::byte_at(pack, at),
-                mask,
-                start,
-                end,
-            },
-            Next::Cut => GuessAt::Cut,
-        },
-        Number::Cut => GuessAt::Cut,
-    }
+    let Number { value: mask, next } = strings::mask_at(pack, at + 1)?;
+    let pattern = strings::string_at(pack, next)?;
+    Some(GuessAt {
+        accept: strings::byte_at(pack, at),
+        mask,
+        pattern,
+    })
 }
 
 // The bits of the listed languages, at most 32.
@@ -50,9 +40,7 @@ pub fn listed_mask(languages: usize) -> u32
     if 32 <= languages {
         0xFFFFFFFF
     } else {
-        let n = languages as u32;
-        let bit: u32 = 1 << n;
-        bit - 1
+        (1u32 << languages as u32) - 1
     }
 }
 
@@ -62,80 +50,47 @@ fn guess_good(accept: u32, mask: u32, languages: usize, pattern: &[u8]) -> bool
     requires { languages ≤ 32 }
     ensures { result ≡ guess_good languages (guess accept mask pattern.now) }
 {
-    if 1 < accept {
-        return false;
-    }
-    if mask == 0 {
-        return false;
-    }
-    if listed_mask(languages) < mask {
-        return false;
-    }
-    if rule::is_rule_text(pattern) {
-        lang::check_pattern(pattern)
-    } else {
-        false
-    }
+    accept <= 1
+        && mask != 0
+        && mask <= listed_mask(languages)
+        && rule::is_rule_text(pattern)
+        && lang::check_pattern(pattern)
 }
 
 // Where the guessing rule at a place ends.
 #[tactic(auto, using(crate::proofs::GuessLaws::next_guess_laws))]
-fn next_guess(pack: &[u8], at: usize, languages: usize) -> Section
+fn next_guess(pack: &[u8], at: usize, languages: usize) -> Option<usize>
     requires { languages ≤ 32 }
     ensures { result ≡ end_in pack.now (guess_good languages) (read_guess (drop at pack.now)) }
 {
-    match guess_at(pack, at) {
-        GuessAt::At {
-            accept,
-            mask,
-            start,
-            end,
-        } => {
-            if guess_good(accept, mask, languages, &pack[start..end]) {
-                Section::End(end)
-            } else {
-                Section::Bad
-            }
-        }
-        GuessAt::Cut => Section::Bad,
-    }
+    let guess = guess_at(pack, at)?;
+    let Span { start, end } = guess.pattern;
+    guess_good(guess.accept, guess.mask, languages, &pack[start..end]).then_some(end)
 }
 
 // Where `count` guessing rules end.
 #[tactic(auto, using(crate::proofs::GuessLaws::guessing_laws))]
-fn guesses_from(pack: &[u8], start: usize, count: u32, languages: usize) -> Section
+fn guesses_from(pack: &[u8], start: usize, count: u32, languages: usize) -> Option<usize>
     requires { (languages ≤ 32) × (start ≤ length pack.now) }
     ensures { result ≡ end_in pack.now (guesses_from languages) (read_many read_guess count (drop start pack.now)) }
 {
     let mut at = start;
-    let mut left = count;
-    while 0 < left {
-        match next_guess(pack, at, languages) {
-            Section::End(end) => {
-                at = end;
-                left -= 1;
-            }
-            Section::Bad => {
-                return Section::Bad;
-            }
-        }
+    for _ in 0..count {
+        at = next_guess(pack, at, languages)?;
     }
-    Section::End(at)
+    Some(at)
 }
 
 // Where the guessing section at a place ends; at most 4,096 rules.
 #[tactic(auto, using(crate::proofs::GuessLaws::guesses_laws))]
-pub(crate) fn guess_section(pack: &[u8], at: usize, languages: usize) -> Section
+pub(crate) fn guess_section(pack: &[u8], at: usize, languages: usize) -> Option<usize>
     requires { languages ≤ 32 }
     ensures { result ≡ end_in pack.now (guesses_good languages) (read_guesses (drop at pack.now)) }
 {
-    match strings::count_at(pack, at) {
-        Number::Of { value: count, next } => {
-            if 4096 < count {
-                return Section::Bad;
-            }
-            guesses_from(pack, next, count, languages)
-        }
-        Number::Cut => Section::Bad,
+    let Number { value: count, next } = strings::count_at(pack, at)?;
+    if count <= 4096 {
+        guesses_from(pack, next, count, languages)
+    } else {
+        None
     }
 }

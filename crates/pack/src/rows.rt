@@ -1,5 +1,5 @@
 // The row of a list: for each kind of byte where the first rule stands whose pattern begins with such a byte, and where the last one ends.
-ghost use Rattle.std.specs.Prelude.{◌≡◌, ◌+◌, ◌%◌, ◌≤◌, length, get_or, set};
+ghost use Rattle.std.specs.Prelude.{◌≡◌, ◌+◌, ◌%◌, ◌≤◌, length, get_or};
 ghost use Rattle.pack.specs.PlaceContracts.{NUMBERS, noted_in};
 
 // Bytes are told apart by their lower six bits.
@@ -21,18 +21,8 @@ pub fn note_rule(row: &mut Row, byte: u32, at: usize, end: usize)
     let kind = byte as usize % KINDS;
     if row[kind + KINDS] == 0 {
         row[kind] = at;
-        row[kind + KINDS] = end;
-    } else {
-        row[kind + KINDS] = end;
     }
-}
-
-// A place of `pack` as a row has it, behind the numbers.
-fn shifted(pack: &[u8], place: usize) -> usize
-    requires { place ≤ length pack.now }
-    ensures { result ≡ NUMBERS + place }
-{
-    NUMBERS + place
+    row[kind + KINDS] = end;
 }
 
 // The rule from one place of `pack` to another noted in a row; its pattern stands behind its length byte.
@@ -42,15 +32,5 @@ pub(crate) fn note_place(pack: &[u8], row: &mut Row, at: usize, end: usize)
     ensures { row.new ≡ noted_in row.old (get_or pack.now (at + 1) 0 % 64) (NUMBERS + at) (NUMBERS + end) }
 {
     let byte = strings::byte_at(pack, at + 1);
-    note_rule(row, byte, shifted(pack, at), shifted(pack, end));
-}
-
-// A row stored as number k of `rows`, where they go so far.
-#[tactic(auto, using(crate::proofs::SectionLaws::put_out))]
-pub(crate) fn put_row(rows: &mut [Row], k: usize, row: Row)
-    ensures { rows.new ≡ set rows.old k row }
-{
-    if k < rows.len() {
-        rows[k] = row;
-    }
+    note_rule(row, byte, NUMBERS + at, NUMBERS + end);
 }

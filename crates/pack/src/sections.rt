@@ -3,11 +3,11 @@ ghost use Rattle.std.specs.Prelude.{◌≡◌, ◌≤◌, length, set};
 ghost use Rattle.pack.specs.Packs.{read_names, names_good, pack_of, verdict_of};
 ghost use Rattle.pack.specs.Numbers.{checked_numbers};
 ghost use Rattle.pack.specs.PlaceContracts.{SurveyIs};
-ghost use Rattle.pack.specs.InnerContracts.{end_in, follows, met_by, ListsAre, RestIs};
+ghost use Rattle.pack.specs.InnerContracts.{end_in, follows, ListsAre, RestIs};
 
-use crate::rows::{COLUMNS, Row, put_row};
-use letters::Order;
-use strings::Next;
+use crate::rows::{COLUMNS, Row};
+use std::cmp::Ordering;
+use strings::Span;
 
 // Accepted (0), or refused (5) with the first byte of the section at fault.
 #[derive(Clone, Copy)]
@@ -23,91 +23,50 @@ pub enum Surveyed {
     Refused(usize),
 }
 
-// Where a section ends, or that it is at fault.
-#[derive(Clone, Copy)]
-pub(crate) enum Section {
-    End(usize),
-    Bad,
-}
-
-// Where the lists end, or the place of the first at fault.
-#[derive(Clone, Copy)]
-pub(crate) enum Lists {
-    Done(usize),
-    Fault(usize),
-}
-
 // Whether `name` is a language name behind the one before it.
 #[tactic(auto, using(crate::proofs::SectionLaws::follows_laws))]
 fn follows_name(before: &[u8], name: &[u8]) -> bool
     ensures { result ≡ follows before.now name.now }
 {
-    match letters::compare(before, name) {
-        Order::Less => languages::is_language_name(name),
-        Order::Equal => false,
-        Order::Greater => false,
-    }
-}
-
-// Whether `any` was met, or is met now.
-#[tactic(auto, using(base::proofs::PickLaws::cases), unfolding(crate::specs::InnerContracts::met_by))]
-fn meets_any(met: bool, name: &[u8]) -> bool
-    ensures { result ≡ met_by met name.now }
-{
-    if met {
-        true
-    } else {
-        letters::same(name, b"any")
-    }
+    letters::compare(before, name) == Ordering::Less && languages::is_language_name(name)
 }
 
 // Where the names end: at most 32, "strictly increasing, with `any`".
 #[tactic(auto, using(crate::proofs::SectionLaws::naming_laws))]
-fn names_section(pack: &[u8]) -> Section
+fn names_section(pack: &[u8]) -> Option<usize>
     ensures { result ≡ end_in pack.now names_good (read_names pack.now) }
 {
-    if pack.len() == 0 {
-        return Section::Bad;
-    }
-    let count = strings::byte_at(pack, 0);
+    let count = *pack.first()?;
     if 32 < count {
-        return Section::Bad;
+        return None;
     }
-    let mut left = count;
-    let mut from: usize = 1;
+    let mut before = &pack[..0];
     let mut at: usize = 1;
     let mut met = false;
-    while 0 < left {
-        match strings::string_at(pack, at) {
-            Next::Whole { start, end } => {
-                if follows_name(&pack[from..at], &pack[start..end]) {
-                    met = meets_any(met, &pack[start..end]);
-                    from = start;
-                    at = end;
-                    left -= 1;
-                } else {
-                    return Section::Bad;
-                }
-            }
-            Next::Cut => {
-                return Section::Bad;
-            }
+    for _ in 0..count {
+        let Span { start, end } = strings::string_at(pack, at)?;
+        let name = &pack[start..end];
+        if !follows_name(before, name) {
+            return None;
         }
+        met = met || letters::same(name, b"any");
+        before = name;
+        at = end;
     }
-    if met { Section::End(at) } else { Section::Bad }
+    met.then_some(at)
 }
 
-// The place stored as number k of `places`, where it goes so far.
+// A value stored as number k of `list`, where it goes so far.
 #[tactic(auto, using(crate::proofs::SectionLaws::put_out))]
-fn put(places: &mut [usize], k: usize, place: usize)
-    ensures { places.new ≡ set places.old k place }
+fn put<T: Copy>(list: &mut [T], k: usize, value: T)
+    ensures { list.new ≡ set list.old k value }
 {
-    if k < places.len() {
-        places[k] = place;
+    if k < list.len() {
+        list[k] = value;
     }
 }
 
-// Where `count` lists end, with the place and the row of each that is good stored in `places` and `rows`.
+// Where `count` lists end, with the place and the row of each that is good stored in `places` and `rows`; or the place of the first at fault.
 #[tactic(auto, using(crate::proofs::SectionLaws::found_laws))]
 fn lists_section(
     pack: &[u8],
@@ -116,33 +75,23 @@ fn lists_section(
     names: &[u8],
     places: &mut [usize],
     rows: &mut [Row],
-) -> Lists
+) -> Result<usize, usize>
     requires { start ≤ length pack.now }
     ensures { ListsAre pack.now names.now count start places.old rows.old result
         places.new rows.new }
 {
     let mut at = start;
-    let mut left = count;
-    let mut k: usize = 0;
-    while 0 < left {
+    for k in 0..count as usize {
         let mut row = [0usize; COLUMNS];
-        match crate::rules::list_section(pack, at, names, &mut row) {
-            Section::End(end) => {
-                put(places, k, at);
-                put_row(rows, k, row);
-                k += 1;
-                at = end;
-                left -= 1;
-            }
-            Section::Bad => {
-                return Lists::Fault(at);
-            }
-        }
+        let end = crate::rules::list_section(pack, at, names, &mut row).ok_or(at)?;
+        put(places, k, at);
+        put(rows, k, row);
+        at = end;
     }
-    Lists::Done(at)
+    Ok(at)
 }
 
-// The list count at a place, the lists behind it, and the end.
+// The list count at a place, the lists behind it, and the end; or the place at fault.
 #[tactic(auto, using(crate::proofs::SectionLaws::rest_laws))]
 fn rest_section(
     pack: &[u8],
@@ -151,29 +100,20 @@ fn rest_section(
     names: &[u8],
     places: &mut [usize],
     rows: &mut [Row],
-) -> Checked
+) -> Result<(), usize>
     requires { (at ≤ length pack.now) × (languages ≤ 32) }
     ensures { RestIs pack.now names.now languages at places.old rows.old result
         places.new rows.new }
 {
     if pack.len() <= at {
-        return Checked::Refused(at);
+        return Err(at);
     }
     let count = strings::byte_at(pack, at);
-    let wanted = 3 * languages + 2;
-    if count as usize != wanted {
-        return Checked::Refused(at);
+    if count as usize != 3 * languages + 2 {
+        return Err(at);
     }
-    match lists_section(pack, at + 1, count, names, places, rows) {
-        Lists::Done(end) => {
-            if end == pack.len() {
-                Checked::Accepted
-            } else {
-                Checked::Refused(end)
-            }
-        }
-        Lists::Fault(place) => Checked::Refused(place),
-    }
+    let end = lists_section(pack, at + 1, count, names, places, rows)?;
+    if end == pack.len() { Ok(()) } else { Err(end) }
 }
 
 // The verdict on `pack`; where it is accepted, its languages and the place of its guessing section, so that the names stand
@@ -182,21 +122,16 @@ fn rest_section(
 pub fn survey(pack: &[u8], places: &mut [usize], rows: &mut [Row]) -> Surveyed
     ensures { SurveyIs pack.now places.old rows.old result places.new rows.new }
 {
-    match names_section(pack) {
-        Section::End(guesses) => {
-            let languages = strings::byte_at(pack, 0) as usize;
-            match crate::guessing::guess_section(pack, guesses, languages) {
-                Section::End(counted) => {
-                    let names = &pack[1..guesses];
-                    match rest_section(pack, counted, languages, names, places, rows) {
-                        Checked::Accepted => Surveyed::Accepted { languages, guesses },
-                        Checked::Refused(place) => Surveyed::Refused(place),
-                    }
-                }
-                Section::Bad => Surveyed::Refused(guesses),
-            }
-        }
-        Section::Bad => Surveyed::Refused(0),
+    let Some(guesses) = names_section(pack) else {
+        return Surveyed::Refused(0);
+    };
+    let languages = strings::byte_at(pack, 0) as usize;
+    let Some(counted) = crate::guessing::guess_section(pack, guesses, languages) else {
+        return Surveyed::Refused(guesses);
+    };
+    match rest_section(pack, counted, languages, &pack[1..guesses], places, rows) {
+        Ok(()) => Surveyed::Accepted { languages, guesses },
+        Err(place) => Surveyed::Refused(place),
     }
 }
 
@@ -205,13 +140,8 @@ pub fn survey(pack: &[u8], places: &mut [usize], rows: &mut [Row]) -> Surveyed
 pub fn check_pack(pack: &[u8]) -> Checked
     ensures { checked_numbers result ≡ checked_numbers (verdict_of (pack_of pack.now)) }
 {
-    let mut places = [0usize; 1];
-    let mut rows = [[0usize; COLUMNS]; 1];
-    match survey(pack, &mut places, &mut rows) {
-        Surveyed::Accepted {
-            languages: _,
-            guesses: _,
-        } => Checked::Accepted,
+    match survey(pack, &mut [], &mut []) {
+        Surveyed::Accepted { .. } => Checked::Accepted,
         Surveyed::Refused(place) => Checked::Refused(place),
     }
 }

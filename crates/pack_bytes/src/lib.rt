@@ -14,20 +14,18 @@ pub fn put_text(s: &[u8], out: &mut [u8], at: usize) -> usize
     writing::copy(s, out, p)
 }
 
-// Writes a number of 2 bytes.
+// Writes a number of 2 bytes, the high one first.
 #[tactic(auto, using(crate::proofs::PutLaws::put_laws))]
 pub fn put_count(n: u16, out: &mut [u8], at: usize) -> usize
     ensures { Put out.old out.new at result (count_bytes n) }
 {
-    let p = writing::push(out, at, (n / 256) as u8);
-    writing::push(out, p, (n % 256) as u8)
+    writing::copy(&n.to_be_bytes(), out, at)
 }
 
-// Writes a number of 4 bytes.
+// Writes a number of 4 bytes, the highest first.
 #[tactic(auto, using(crate::proofs::PutLaws::put_laws))]
 pub fn put_mask(mask: u32, out: &mut [u8], at: usize) -> usize
     ensures { Put out.old out.new at result (mask_bytes mask) }
 {
-    let p = put_count((mask / 65536) as u16, out, at);
-    put_count((mask % 65536) as u16, out, p)
+    writing::copy(&mask.to_be_bytes(), out, at)
 }

@@ -1,21 +1,24 @@
 -- A text that is cut at each b, one part after the other; and the loops of the code over its parts. Assumes nothing.
-use mathlib.Core.Path.{◌≡◌, refl, sym, ap, ◌∙◌}
-use mathlib.Core.Bool.{Bool, true, false}
+use Rattle.std.specs.Prelude.{Option, Some, None}
+use mathlib.Core.Path.{◌≡◌, refl, sym, ap, subst, ◌∙◌}
+use mathlib.Core.Bool.{Bool, true, false, cond, ◌&&◌}
 use mathlib.Core.List.{List, [], ◌∷◌}
-use Prim.Native.Nat.{ℕ, suc, ◌+◌, ◌-◌, ◌^◌, ◌≤◌, ◌<◌, zero-le}
+use Prim.Native.Nat.{ℕ, suc, ◌+◌, ◌-◌, ◌^◌, ◌≤◌, ◌<◌}
+use native.Mathlib.Numerals.{add-one}
 use native.Mathlib.Omega.{arith}
 use lib.Bits.{bit_or, or_zero_l, or_zero_r}
 use lib.Dec.{eqb}
-use lib.ListN.{length, take, drop, length-drop}
-use lib.Seq.{drop-drop, length-take-le, take_all}
+use lib.ListN.{length, get_or, take, drop, length-drop, drop_of_length-le}
+use lib.Seq.{drop-cons, drop-drop, length-take-le, take_all}
 use mir.Syntax.{w64}
 use mir.Val.{Fits}
 use borrow.Author.Rules.{rules}
+use Rattle.std.specs.List.{slice_split, onto_first}
+use Rattle.std.proofs.lemmas.List.Splits.{length-slice_split}
+use Rattle.std.proofs.lemmas.List.Sums.{count_by-le-length}
 use Rattle.base.specs.Pick.{pick, and}
 use Rattle.base.proofs.Bits.{or_assoc}
 use Rattle.languages.specs.Names.{language_bit}
-use Rattle.languages.specs.declared.names.Listed.{Listed}
-use Rattle.languages.specs.declared.names.Listed.TheVariants.{Bit, Unlisted}
 use Rattle.texts.specs.Parts.{place_of}
 use Rattle.texts.proofs.Laws.{place_most}
 use Rattle.phonemes.specs
@@ -90,9 +93,6 @@ module _ (b : ℕ) (t : List ℕ) (from : ℕ) (h : from ≤ length t) where
     pub cut_fits : to ≤ length t
     cut_fits = rw e end_most
 
-    pub cut_less : to < length t → length t - (to + 1) < length t - from
-    cut_less g = let o = cut_order in omega arith
-
     place : place_of b (drop from t) ≡ to - from
     unfolding cut_end
     place = omega arith
@@ -127,85 +127,109 @@ module _ (b : ℕ) (t : List ℕ) (from : ℕ) (h : from ≤ length t) where
         let p = place in
         cut_one ∙ ap (λ (l : List (List ℕ)). take (to - from) (drop from t) ∷ l) (rest_none b (drop from t) (rw length-drop (omega arith)))
 
-pub ruleset cut_laws = (end_is, end_fits, cut_order, cut_fits, cut_less, rules)
+pub ruleset cut_laws = (end_is, end_fits, cut_order, cut_fits, rules)
 
 -- ---- the names between two brackets, as far as place from: mask has the bits of those before
 
-with_start_lem : (x : Listed) → x ≡ with_bits (Bit 0) x
+with_start_lem : (x : Option ℕ) → x ≡ with_bits (Some 0) x
 unfolding with_bits
-with_start_lem (Bit a) = ap Bit (sym (or_zero_l a))
-with_start_lem Unlisted = refl
+with_start_lem (Some a) = ap Some (sym (or_zero_l a))
+with_start_lem None = refl
 
-with_next : (m b : ℕ) (x : Listed) → with_bits (Bit m) (with_bits (Bit b) x) ≡ with_bits (Bit (bit_or m b)) x
+with_next : (m b : ℕ) (x : Option ℕ) → with_bits (Some m) (with_bits (Some b) x) ≡ with_bits (Some (bit_or m b)) x
 unfolding with_bits
-with_next m b (Bit a) = ap Bit (sym (or_assoc m b a))
-with_next m b Unlisted = refl
+with_next m b (Some a) = ap Some (sym (or_assoc m b a))
+with_next m b None = refl
 
-with_none : (m b : ℕ) → with_bits (Bit m) (with_bits (Bit b) (Bit 0)) ≡ Bit (bit_or m b)
-unfolding with_bits
-with_none m b = ap (λ (n : ℕ). Bit (bit_or m n)) (or_zero_r b)
+on_is : (x : ℕ) (ps : List (List ℕ)) → onto_first x ps ≡ on_first x ps
+unfolding on_first
+on_is x [] = refl
+on_is x (p ∷ ps) = refl
 
-pub record Naming (names joined : List ℕ) (from mask : ℕ) : Type 0 where
-  pub within : from ≤ length joined
-  pub is : names_mask names (cut_at plus joined) ≡ with_bits (Bit mask) (names_mask names (cut_at plus (drop from joined)))
+cut_step : (t : Bool) (x : ℕ) (ps : List (List ℕ)) → cond t ([] ∷ ps) (onto_first x ps) ≡ pick t ([] ∷ ps) (on_first x ps)
+unfolding pick
+cut_step true x ps = refl
+cut_step false x ps = on_is x ps
+
+-- the parts are those of the slice's own `split`
+cut_is : (b : ℕ) (s : List ℕ) → slice_split (λ x. eqb x b) s ≡ cut_at b s
+unfolding cut_at
+cut_is b [] = refl
+cut_is b (x ∷ s) = cut_step (eqb x b) x _ ∙ ap (λ (ps : List (List ℕ)). pick (eqb x b) ([] ∷ ps) (on_first x ps)) (cut_is b s)
+
+-- the part at k, and none behind the last
+part_here : (b : ℕ) (s : List ℕ) (k : ℕ) (x : List ℕ) → k < length (slice_split (λ y. eqb y b) s) → x ≡ get_or (slice_split (λ y. eqb y b) s) k x → drop k (cut_at b s) ≡ x ∷ drop (k + 1) (cut_at b s)
+part_here b s k x h g =
+    let all = slice_split (λ (y : ℕ). eqb y b) s in
+    let one : drop k all ≡ x ∷ drop (k + 1) all = rw add-one (drop-cons all k x h ∙ ap (λ (y : List ℕ). y ∷ drop (suc k) all) (sym g)) in
+    subst (λ (ps : List (List ℕ)). drop k ps ≡ x ∷ drop (k + 1) ps) (cut_is b s) one
+
+part_none : (b : ℕ) (s : List ℕ) (k : ℕ) → k ≡ length (slice_split (λ y. eqb y b) s) → drop k (cut_at b s) ≡ []
+part_none b s k h = drop_of_length-le (cut_at b s) (omega (arith, ap length (cut_is b s)))
+
+-- the first k names have the bits of mask
+pub record Naming (names joined : List ℕ) (k mask : ℕ) : Type 0 where
+  pub is : names_mask names (cut_at plus joined) ≡ with_bits (Some mask) (names_mask names (drop k (cut_at plus joined)))
 
 pub naming_start : (names joined : List ℕ) → Naming names joined 0 0
-naming_start names joined = record { within = zero-le; is = with_start_lem _ }
+naming_start names joined = record { is = with_start_lem _ }
 
-module _ {names joined : List ℕ} {from mask : ℕ} (w : Naming names joined from mask) (to : ℕ) (e : to ≡ cut_end plus joined from)
-    (r : Listed) (f : r ≡ language_bit names (take (to - from) (drop from joined))) where
-  name_by_lem : (x : Listed) (l : List (List ℕ)) → r ≡ x → cut_at plus (drop from joined) ≡ take (to - from) (drop from joined) ∷ l
-      → names_mask names (cut_at plus joined) ≡ with_bits (Bit mask) (with_bits x (names_mask names l))
-  unfolding names_mask
-  name_by_lem x l q g =
-      w.is ∙ ap (λ (p : List (List ℕ)). with_bits (Bit mask) (names_mask names p)) g
-      ∙ ap (λ (y : Listed). with_bits (Bit mask) (with_bits y (names_mask names l))) (sym f ∙ q)
+module _ {names joined : List ℕ} {k mask : ℕ} (w : Naming names joined k mask) where
+  module _ (x : List ℕ) (h : k < length (slice_split (λ b. eqb b plus) joined)) (g : x ≡ get_or (slice_split (λ b. eqb b plus) joined) k x) (r : Option ℕ) (f : r ≡ language_bit names x) where
+    name_by_lem : (y : Option ℕ) → r ≡ y → names_mask names (cut_at plus joined) ≡ with_bits (Some mask) (with_bits y (names_mask names (drop (k + 1) (cut_at plus joined))))
+    unfolding names_mask
+    name_by_lem y q =
+        w.is ∙ ap (λ (p : List (List ℕ)). with_bits (Some mask) (names_mask names p)) (part_here plus joined k x h g)
+        ∙ ap (λ (z : Option ℕ). with_bits (Some mask) (with_bits z (names_mask names (drop (k + 1) (cut_at plus joined))))) (sym f ∙ q)
 
-  pub naming_next : (b : ℕ) → r ≡ Bit b → to < length joined → Naming names joined (to + 1) (bit_or mask b)
-  naming_next b q h =
-      record { within = omega arith; is = name_by_lem (Bit b) _ q (cut_more plus joined from w.within to e h) ∙ with_next mask b _ }
+    pub naming_next : (b : ℕ) → r ≡ Some b → Naming names joined (k + 1) (bit_or mask b)
+    naming_next b q = record { is = name_by_lem (Some b) q ∙ with_next mask b _ }
 
-  pub naming_done : (b : ℕ) → r ≡ Bit b → length joined ≤ to → Bit (bit_or mask b) ≡ names_mask names (cut_at plus joined)
-  unfolding names_mask
-  naming_done b q h = sym (name_by_lem (Bit b) [] q (cut_last plus joined from w.within to e h) ∙ with_none mask b)
+    pub naming_stop : r ≡ None → None ≡ names_mask names (cut_at plus joined)
+    unfolding with_bits
+    naming_stop q = sym (name_by_lem None q)
 
-  pub naming_stop : r ≡ Unlisted → Unlisted ≡ names_mask names (cut_at plus joined)
-  unfolding with_bits
-  naming_stop q = sym (name_by_lem Unlisted _ q (cut_one plus joined from w.within to e))
+  pub naming_done : k ≡ length (slice_split (λ b. eqb b plus) joined) → Some mask ≡ names_mask names (cut_at plus joined)
+  unfolding names_mask with_bits
+  naming_done h =
+      sym (w.is ∙ ap (λ (p : List (List ℕ)). with_bits (Some mask) (names_mask names p)) (part_none plus joined k h) ∙ ap Some (or_zero_r mask))
 
-pub ruleset naming_laws = (naming_start, naming_next, naming_done, naming_stop, cut_laws, rules)
+pub ruleset naming_laws = (naming_start, naming_next, naming_done, naming_stop, rules)
 
 -- ---- the parts of an expression, as far as place from: count and known tell of those before
 
-pub record Judging (names t : List ℕ) (more from count : ℕ) (known : Bool) : Type 0 where
-  pub within : from ≤ length t
-  pub counted : count ≤ more + from
-  pub is : judged_pieces names more true (cut_at bar t) ≡ judged_pieces names count known (cut_at bar (drop from t))
+pub record Judging (names t : List ℕ) (more k count : ℕ) (known : Bool) : Type 0 where
+  pub counted : count ≡ more + k
+  pub is : judged_pieces names more true (cut_at bar t) ≡ judged_pieces names count known (drop k (cut_at bar t))
 
 pub judging_start : (names t : List ℕ) (more : ℕ) → Judging names t more 0 more true
-judging_start names t more = record { within = zero-le; counted = omega arith; is = refl }
+judging_start names t more = record { counted = omega arith; is = refl }
 
-module _ {names t : List ℕ} {more from count : ℕ} {known : Bool} (w : Judging names t more from count known) (to : ℕ) (e : to ≡ cut_end bar t from)
-    (g : Bool) (p : g ≡ formed_piece (take (to - from) (drop from t))) where
-  pub judging_stop : g ≡ false → Malformed ≡ judged_pieces names more true (cut_at bar t)
+and_by : (t u : Bool) → (t && u) ≡ and t u
+unfolding and
+and_by true u = refl
+and_by false u = refl
+
+module _ {names t : List ℕ} {more k count : ℕ} {known : Bool} (w : Judging names t more k count known) where
+  module _ (x : List ℕ) (h : k < length (slice_split (λ b. eqb b bar) t)) (g : x ≡ get_or (slice_split (λ b. eqb b bar) t) k x) where
+    pub judging_fits : more ≤ 1 → length t < 2 ^ 63 → Fits w64 (count + 1)
+    judging_fits m l = record { fits = omega (arith, w.counted, length-slice_split (λ (b : ℕ). eqb b bar) t, count_by-le-length (λ (b : ℕ). eqb b bar) t) }
+
+    module _ (f : Bool) (p : f ≡ formed_piece x) where
+      pub judging_stop : f ≡ false → Malformed ≡ judged_pieces names more true (cut_at bar t)
+      unfolding judged_pieces
+      judging_stop q = sym (w.is ∙ ap (judged_pieces names count known) (part_here bar t k x h g) ∙ pick_false _ _ _ (sym p ∙ q))
+
+      pub judging_next : f ≡ true → (u : Bool) → u ≡ listed_piece names x → Judging names t more (k + 1) (count + 1) (known && u)
+      unfolding judged_pieces
+      judging_next q u e = record {
+        counted = omega (arith, w.counted);
+        is = w.is ∙ ap (judged_pieces names count known) (part_here bar t k x h g) ∙ pick_true _ _ _ (sym p ∙ q)
+            ∙ ap (λ (b : Bool). judged_pieces names (count + 1) b (drop (k + 1) (cut_at bar t))) (ap (and known) (sym e) ∙ sym (and_by known u));
+      }
+
+  pub judging_done : k ≡ length (slice_split (λ b. eqb b bar) t) → (r : Expression) → r ≡ expression_told count known → r ≡ judged_pieces names more true (cut_at bar t)
   unfolding judged_pieces
-  judging_stop q = sym (w.is ∙ ap (judged_pieces names count known) (cut_one bar t from w.within to e) ∙ pick_false _ _ _ (sym p ∙ q))
+  judging_done h r e = e ∙ sym (w.is ∙ ap (judged_pieces names count known) (part_none bar t k h))
 
-  module _ (q : g ≡ true) (u v : Bool) (f : u ≡ listed_piece names (take (to - from) (drop from t))) (k : v ≡ and known u) where
-    piece_by : (l : List (List ℕ)) → cut_at bar (drop from t) ≡ take (to - from) (drop from t) ∷ l
-        → judged_pieces names more true (cut_at bar t) ≡ judged_pieces names (count + 1) v l
-    unfolding judged_pieces
-    piece_by l s =
-        w.is ∙ ap (judged_pieces names count known) s ∙ pick_true _ _ _ (sym p ∙ q)
-        ∙ ap (λ (x : Bool). judged_pieces names (count + 1) x l) (ap (and known) (sym f) ∙ sym k)
-
-    pub judging_next : to < length t → Judging names t more (to + 1) (count + 1) v
-    judging_next h =
-        let o = cut_order bar t from w.within to e in
-        record { within = omega arith; counted = omega arith; is = piece_by _ (cut_more bar t from w.within to e h) }
-
-    pub judging_done : (r : Expression) → length t ≤ to → r ≡ expression_told (count + 1) v → r ≡ judged_pieces names more true (cut_at bar t)
-    unfolding judged_pieces
-    judging_done r h s = s ∙ sym (piece_by [] (cut_last bar t from w.within to e h))
-
-pub ruleset judging_laws = (judging_start, judging_stop, judging_next, judging_done, cut_laws, rules)
+pub ruleset judging_laws = (judging_start, judging_stop, judging_next, judging_done, rules)

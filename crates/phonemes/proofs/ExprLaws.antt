@@ -1,4 +1,5 @@
 -- A law for each way out of the code over one alternative and over the whole expression. Assumes nothing.
+use Rattle.std.specs.Prelude.{Option, Some, None}
 use mathlib.Core.Path.{◌≡◌, refl, sym, ap, ap₂, ◌∙◌}
 use mathlib.Core.Bool.{Bool, true, false}
 use mathlib.Core.List.{List, [], ◌∷◌, ◌++◌, append-nil}
@@ -13,8 +14,6 @@ use mir.Val.{Fits}
 use borrow.Author.Rules.{rules}
 use borrow.Author.Tests.{lt-ltb, le-ltb}
 use Rattle.base.specs.Pick.{pick, and}
-use Rattle.languages.specs.declared.names.Listed.{Listed}
-use Rattle.languages.specs.declared.names.Listed.TheVariants.{Bit, Unlisted}
 use Rattle.languages.specs.declared.sets.LanguageSet.{LanguageSet}
 use Rattle.languages.specs.declared.sets.LanguageSet.TheVariants.{Any, SomeLanguages}
 use Rattle.texts.specs.Parts.{tail, front, first_is, last_is, place_of, has}
@@ -70,11 +69,11 @@ module _ (a : List ℕ) (p : ℕ) (e : p ≡ place_of opening a) where
   formed_plain h = sym (pick_false _ _ _ (has_no h))
 
   module _ (names : List ℕ) where
-    pub mask_box : (l : List ℕ) (r : Listed) → p < length a → l ≡ box_of a → r ≡ names_mask names (cut_at plus l) → r ≡ piece_mask names a
+    pub mask_box : (l : List ℕ) (r : Option ℕ) → p < length a → l ≡ box_of a → r ≡ names_mask names (cut_at plus l) → r ≡ piece_mask names a
     unfolding piece_mask
     mask_box l r h f g = g ∙ ap (λ (x : List ℕ). names_mask names (cut_at plus x)) f ∙ sym (pick_true _ _ _ (has_yes h))
 
-    pub mask_plain : length a ≤ p → Bit 0 ≡ piece_mask names a
+    pub mask_plain : length a ≤ p → Some 0 ≡ piece_mask names a
     unfolding piece_mask
     mask_plain h = sym (pick_false _ _ _ (has_no h))
 
@@ -82,21 +81,21 @@ module _ (a : List ℕ) (p : ℕ) (e : p ≡ place_of opening a) where
     unfolding set_of
     set_plain h = sym (pick_false _ _ _ (has_no h))
 
-    module _ (m : Listed) (f : m ≡ piece_mask names a) where
-      pub set_box : (k : ℕ) → p < length a → m ≡ Bit k → SomeLanguages k ≡ set_of names a
+    module _ (m : Option ℕ) (f : m ≡ piece_mask names a) where
+      pub set_box : (k : ℕ) → p < length a → m ≡ Some k → SomeLanguages k ≡ set_of names a
       unfolding set_of mask_set
       set_box k h q = sym (pick_true _ _ _ (has_yes h) ∙ ap mask_set (sym f ∙ q))
 
-      pub set_unlisted : p < length a → m ≡ Unlisted → SomeLanguages 0 ≡ set_of names a
+      pub set_unlisted : p < length a → m ≡ None → SomeLanguages 0 ≡ set_of names a
       unfolding set_of mask_set
       set_unlisted h q = sym (pick_true _ _ _ (has_yes h) ∙ ap mask_set (sym f ∙ q))
 
-module _ (names a : List ℕ) (m : Listed) (f : m ≡ piece_mask names a) where
-  pub listed_yes : (k : ℕ) → m ≡ Bit k → true ≡ listed_piece names a
+module _ (names a : List ℕ) (m : Option ℕ) (f : m ≡ piece_mask names a) where
+  pub listed_yes : (k : ℕ) → m ≡ Some k → true ≡ listed_piece names a
   unfolding listed_piece is_listed
   listed_yes k q = sym (ap is_listed (sym f ∙ q))
 
-  pub listed_no : m ≡ Unlisted → false ≡ listed_piece names a
+  pub listed_no : m ≡ None → false ≡ listed_piece names a
   unfolding listed_piece is_listed
   listed_no q = sym (ap is_listed (sym f ∙ q))
 
@@ -110,8 +109,8 @@ unfolding piece_from
 piece_is names a start next p s e f = ap₂ (λ (n : ℕ) (x : LanguageSet). At start (start + n) x next) (e ∙ sym (text_long a)) f
 
 -- a place in a piece is one in the expression
-pub piece_fits : (b : ℕ) (a : List ℕ) (start p : ℕ) → p ≡ place_of b a → start + length a < 2 ^ 64 → Fits w64 (start + p)
-piece_fits b a start p e h = record { fits = omega (arith, place_most b a) }
+pub piece_fits : (b : ℕ) (a x : List ℕ) (start p : ℕ) → x ≡ a → p ≡ place_of b x → start + length a < 2 ^ 64 → Fits w64 (start + p)
+piece_fits b a x start p q e h = record { fits = omega (arith, place_most b x, ap length q) }
 
 pub ruleset piece_laws = (inside_none, inside_some, box_open, box_some, formed_box, formed_plain, mask_box, mask_plain, set_plain, set_box, set_unlisted, listed_yes, listed_no, piece_is, piece_fits, rules)
 

@@ -1,4 +1,5 @@
 -- What the crates above use of expressions and of a rule's match. Assumes nothing.
+use Rattle.std.specs.Prelude.{Option, Some, None}
 use Prim.{Unit}
 use mathlib.Core.Path.{◌≡◌, refl, sym, ap, ap₂, ◌∙◌}
 use mathlib.Core.Bool.{Bool, true, false}
@@ -15,8 +16,6 @@ use lib.Pow.{pow_pos}
 use lib.Seq.{take-nil, take-length, take-take, drop-drop}
 use borrow.Author.Tests.{ltb-false, eq-eqb, ne_eqb}
 use Rattle.languages.specs.Names.{language_bit}
-use Rattle.languages.specs.declared.names.Listed.{Listed}
-use Rattle.languages.specs.declared.names.Listed.TheVariants.{Bit, Unlisted}
 use Rattle.languages.specs.declared.sets.LanguageSet.{LanguageSet}
 use Rattle.languages.proofs.Laws.{any_below, mask_below, bit_below}
 use Rattle.texts.specs.Parts.{tail, front, first_is, last_is, place_of}
@@ -62,20 +61,20 @@ inside_part e s z h =
 -- ---- a piece's set has only bits of listed names
 
 -- m is below 2 ^ k, where every listed name's bit is
-Under : ℕ → Listed → Type 0
-Under k (Bit m) = m < 2 ^ k
-Under k Unlisted = Unit {0}
+Under : ℕ → Option ℕ → Type 0
+Under k (Some m) = m < 2 ^ k
+Under k None = Unit {0}
 
-under_with : (k : ℕ) (a b : Listed) → Under k a → Under k b → Under k (with_bits a b)
+under_with : (k : ℕ) (a b : Option ℕ) → Under k a → Under k b → Under k (with_bits a b)
 unfolding Under with_bits
-under_with k (Bit a) (Bit b) p q = or_lt k a b p q
-under_with k (Bit a) Unlisted p q = tt
-under_with k Unlisted b p q = tt
+under_with k (Some a) (Some b) p q = or_lt k a b p q
+under_with k (Some a) None p q = tt
+under_with k None b p q = tt
 
-under_set : (k : ℕ) (m : Listed) → Under k m → BitsBelow k (mask_set m)
+under_set : (k : ℕ) (m : Option ℕ) → Under k m → BitsBelow k (mask_set m)
 unfolding Under mask_set
-under_set k (Bit m) p = mask_below k m p
-under_set k Unlisted p = mask_below k 0 (pow_pos k)
+under_set k (Some m) p = mask_below k m p
+under_set k None p = mask_below k 0 (pow_pos k)
 
 module _ (names : List ℕ) (k : ℕ) (h : (name : List ℕ) → Under k (language_bit names name)) where
   under_names : (ns : List (List ℕ)) → Under k (names_mask names ns)
@@ -91,10 +90,10 @@ module _ (names : List ℕ) (k : ℕ) (h : (name : List ℕ) → Under k (langua
   unfolding set_of
   set_below a = pick_all (BitsBelow k) _ _ _ (under_set k _ (under_piece a)) (any_below k)
 
-bit_under : (names name : List ℕ) (x : Listed) → language_bit names name ≡ x → Under 32 x
+bit_under : (names name : List ℕ) (x : Option ℕ) → language_bit names name ≡ x → Under 32 x
 unfolding Under
-bit_under names name (Bit b) e = bit_below names name b _ refl e
-bit_under names name Unlisted e = tt
+bit_under names name (Some b) e = bit_below names name b _ refl e
+bit_under names name None e = tt
 
 set_small : (names a : List ℕ) → BitsBelow 32 (set_of names a)
 set_small names a = set_below names 32 (λ name. bit_under names name _ refl) a

@@ -1,10 +1,8 @@
 -- Phoneme expressions (01, Phoneme expressions): which are well formed, and their alternatives.
-use Rattle.std.specs.Prelude.{ℕ, suc, Bool, true, false, List, [], ◌∷◌, ◌++◌, eqb, length, take, drop}
+use Rattle.std.specs.Prelude.{ℕ, suc, Bool, true, false, List, [], ◌∷◌, ◌++◌, eqb, length, take, drop, Option, Some, None}
 use Rattle.std.specs.Int.Bits.{bit_or}
 use Rattle.base.specs.Pick.{pick, and}
 use Rattle.languages.specs.Names.{language_bit}
-use Rattle.languages.specs.declared.names.Listed.{Listed}
-use Rattle.languages.specs.declared.names.Listed.TheVariants.{Bit, Unlisted}
 use Rattle.languages.specs.declared.sets.LanguageSet.{LanguageSet}
 use Rattle.languages.specs.declared.sets.LanguageSet.TheVariants.{Any, SomeLanguages}
 use Rattle.texts.specs.Parts.{tail, front, first_is, last_is, place_of, has}
@@ -68,29 +66,29 @@ unfoldable pub box_of : List ℕ → List ℕ
 box_of a = front (drop (suc (place_of opening a)) a)
 
 -- the bits of the names, or that one is not listed
-unfoldable pub with_bits : Listed → Listed → Listed
-with_bits (Bit a) (Bit b) = Bit (bit_or a b)
-with_bits (Bit a) Unlisted = Unlisted
-with_bits Unlisted b = Unlisted
+unfoldable pub with_bits : Option ℕ → Option ℕ → Option ℕ
+with_bits (Some a) (Some b) = Some (bit_or a b)
+with_bits (Some a) None = None
+with_bits None b = None
 
-unfoldable pub names_mask : List ℕ → List (List ℕ) → Listed
-names_mask names [] = Bit 0
+unfoldable pub names_mask : List ℕ → List (List ℕ) → Option ℕ
+names_mask names [] = Some 0
 names_mask names (n ∷ ns) = with_bits (language_bit names n) (names_mask names ns)
 
-unfoldable pub piece_mask : List ℕ → List ℕ → Listed
-piece_mask names a = pick (has opening a) (names_mask names (cut_at plus (box_of a))) (Bit 0)
+unfoldable pub piece_mask : List ℕ → List ℕ → Option ℕ
+piece_mask names a = pick (has opening a) (names_mask names (cut_at plus (box_of a))) (Some 0)
 
-unfoldable pub is_listed : Listed → Bool
-is_listed (Bit m) = true
-is_listed Unlisted = false
+unfoldable pub is_listed : Option ℕ → Bool
+is_listed (Some m) = true
+is_listed None = false
 
 -- the text of an alternative is what stands before the `[`; "No `[` means Any."
 unfoldable pub text_of : List ℕ → List ℕ
 text_of a = take (place_of opening a) a
 
-unfoldable pub mask_set : Listed → LanguageSet
-mask_set (Bit m) = SomeLanguages m
-mask_set Unlisted = SomeLanguages 0
+unfoldable pub mask_set : Option ℕ → LanguageSet
+mask_set (Some m) = SomeLanguages m
+mask_set None = SomeLanguages 0
 
 unfoldable pub set_of : List ℕ → List ℕ → LanguageSet
 set_of names a = pick (has opening a) (mask_set (piece_mask names a)) Any

@@ -8,7 +8,7 @@ ghost use Rattle.texts.specs.Parts.{place_of};
 ghost use Rattle.phonemes.specs.InnerContracts.{cut_end, has_extra, listed_piece, judged_pieces, expression_told, piece_from, parts_from, first_from, alternative_from};
 
 use crate::answers::{Alternative, Expression};
-use languages::{LanguageSet, Listed};
+use languages::LanguageSet;
 
 // What is between the round brackets.
 #[tactic(auto, using(crate::proofs::ExprLaws::piece_laws))]
@@ -16,7 +16,7 @@ fn between(e: &[u8]) -> &[u8]
     ensures { result.now ≡ inside e.now }
 {
     let n = e.len();
-    if n < 2 { &e[0..0] } else { &e[1..n - 1] }
+    if n < 2 { &e[..0] } else { &e[1..n - 1] }
 }
 
 // Where the part that starts at `from` ends: at the next b, or with t.
@@ -25,112 +25,98 @@ fn cut_end(t: &[u8], b: u8, from: usize) -> usize
     requires { from ≤ length t.now }
     ensures { result ≡ cut_end b t.now from }
 {
-    from + texts::find_byte(&t[from..t.len()], b)
+    from + texts::find_byte(&t[from..], b)
 }
 
-// Whether the first `[` of an alternative, at p, is closed at its very end.
-#[tactic(auto, using(crate::proofs::ExprLaws::piece_laws))]
-fn piece_formed(a: &[u8], p: usize) -> bool
-    requires { p ≡ place_of opening a.now }
-    ensures { result ≡ formed_piece a.now }
-{
-    if p < a.len() {
-        texts::last_is(a, b']')
-    } else {
-        true
-    }
-}
-
-// What is between the first `[` of an alternative, at p, and its last byte.
-#[tactic(auto, using(crate::proofs::ExprLaws::piece_laws))]
-fn names_part(a: &[u8], p: usize) -> &[u8]
-    requires { (p ≡ place_of opening a.now) × (p < length a.now) }
-    ensures { result.now ≡ box_of a.now }
-{
-    let n = a.len();
-    if n <= p + 1 {
-        &a[0..0]
-    } else {
-        &a[p + 1..n - 1]
-    }
-}
-
-// The bits of names joined by `+`, or that one of them is not listed.
+// The bits of names joined by `+`; none where one of them is not listed.
 #[tactic(auto, using(crate::proofs::CutLaws::naming_laws, languages::proofs::NumberLaws::listed_told, languages::proofs::NumberLaws::listed_one))]
-pub fn names_mask(names: &[u8], joined: &[u8]) -> Listed
+pub fn names_mask(names: &[u8], joined: &[u8]) -> Option<u32>
     ensures { listed_numbers result ≡ listed_numbers (names_mask names.now (cut_at plus joined.now)) }
 {
-    let n = joined.len();
-    let mut from: usize = 0;
     let mut mask: u32 = 0;
-    loop {
-        let to = cut_end(joined, b'+', from);
-        match languages::find_language(names, &joined[from..to]) {
-            Listed::Bit(b) => {
-                mask = mask | b;
-                if n <= to {
-                    return Listed::Bit(mask);
-                }
-                from = to + 1;
-            }
-            Listed::Unlisted => {
-                return Listed::Unlisted;
-            }
+    for name in joined.split(|&b| b == b'+') {
+        mask |= languages::find_language(names, name)?;
+    }
+    Some(mask)
+}
+
+// An alternative of an expression, and where its first `[` stands, at its end where it has none.
+#[derive(Clone, Copy)]
+struct ExpressionPiece<'a> {
+    bytes: &'a [u8],
+    bracket: usize,
+    ghost at_first: { bracket ≡ place_of opening bytes.now },
+}
+
+impl<'a> ExpressionPiece<'a> {
+    fn of(bytes: &'a [u8]) -> ExpressionPiece<'a>
+        ensures { result.bytes.now ≡ bytes.now }
+    {
+        let bracket = texts::find_byte(bytes, b'[');
+        ExpressionPiece { bytes, bracket }
+    }
+
+    // Whether its first `[`, if it has one, is closed at its very end.
+    #[tactic(auto, using(crate::proofs::ExprLaws::piece_laws))]
+    fn is_formed(&self) -> bool
+        ensures { result ≡ formed_piece self.now.bytes.now }
+    {
+        self.bytes.len() <= self.bracket || texts::last_is(self.bytes, b']')
+    }
+
+    // What is between its first `[` and its last byte.
+    #[tactic(auto, using(crate::proofs::ExprLaws::piece_laws))]
+    fn joined_names(&self) -> &'a [u8]
+        requires { self.now.bracket < length self.now.bytes.now }
+        ensures { result.now ≡ box_of self.now.bytes.now }
+    {
+        let n = self.bytes.len();
+        if n <= self.bracket + 1 {
+            &self.bytes[..0]
+        } else {
+            &self.bytes[self.bracket + 1..n - 1]
         }
     }
-}
 
-// The bits of the names of an alternative, whose first `[` is at p; none where it has none.
-#[tactic(auto, using(languages::proofs::NumberLaws::listed_one, crate::proofs::ExprLaws::piece_laws))]
-fn piece_mask(names: &[u8], a: &[u8], p: usize) -> Listed
-    requires { p ≡ place_of opening a.now }
-    ensures { result ≡ piece_mask names.now a.now }
-{
-    if p < a.len() {
-        names_mask(names, names_part(a, p))
-    } else {
-        Listed::Bit(0)
-    }
-}
-
-// Whether the names of an alternative, whose first `[` is at p, are all listed.
-#[tactic(auto, using(crate::proofs::ExprLaws::piece_laws))]
-fn piece_listed(names: &[u8], a: &[u8], p: usize) -> bool
-    requires { p ≡ place_of opening a.now }
-    ensures { result ≡ listed_piece names.now a.now }
-{
-    match piece_mask(names, a, p) {
-        Listed::Bit(_) => true,
-        Listed::Unlisted => false,
-    }
-}
-
-// The set of an alternative, whose first `[` is at p.
-#[tactic(auto, using(crate::proofs::ExprLaws::piece_laws))]
-fn piece_set(names: &[u8], a: &[u8], p: usize) -> LanguageSet
-    requires { p ≡ place_of opening a.now }
-    ensures { result ≡ set_of names.now a.now }
-{
-    if p < a.len() {
-        match piece_mask(names, a, p) {
-            Listed::Bit(m) => LanguageSet::SomeLanguages(m),
-            Listed::Unlisted => LanguageSet::SomeLanguages(0),
+    // The bits of its names, none where it has none.
+    #[tactic(auto, using(languages::proofs::NumberLaws::listed_one, crate::proofs::ExprLaws::piece_laws))]
+    fn mask(&self, names: &[u8]) -> Option<u32>
+        ensures { result ≡ piece_mask names.now self.now.bytes.now }
+    {
+        if self.bracket < self.bytes.len() {
+            names_mask(names, self.joined_names())
+        } else {
+            Some(0)
         }
-    } else {
-        LanguageSet::Any
+    }
+
+    // Whether its names are all listed.
+    #[tactic(auto, using(crate::proofs::ExprLaws::piece_laws))]
+    fn is_listed(&self, names: &[u8]) -> bool
+        ensures { result ≡ listed_piece names.now self.now.bytes.now }
+    {
+        self.mask(names).is_some()
+    }
+
+    // Its set.
+    #[tactic(auto, using(crate::proofs::ExprLaws::piece_laws))]
+    fn set(&self, names: &[u8]) -> LanguageSet
+        ensures { result ≡ set_of names.now self.now.bytes.now }
+    {
+        if self.bracket < self.bytes.len() {
+            LanguageSet::SomeLanguages(self.mask(names).unwrap_or(0))
+        } else {
+            LanguageSet::Any
+        }
     }
 }
 
 // Whether one more empty alternative is added at the end.
-#[tactic(auto, using(base::proofs::PickLaws::cases), unfolding(crate::specs::InnerContracts::has_extra))]
+#[tactic(auto, unfolding(crate::specs::InnerContracts::has_extra, base::specs::Pick::pick))]
 fn has_extra(t: &[u8]) -> bool
     ensures { result ≡ has_extra t.now }
 {
-    if texts::first_is(t, b'|') {
-        true
-    } else {
-        texts::last_is(t, b'|')
-    }
+    texts::first_is(t, b'|') || texts::last_is(t, b'|')
 }
 
 #[tactic(auto, using(base::proofs::PickLaws::cases), unfolding(crate::specs::InnerContracts::expression_told))]
@@ -144,47 +130,32 @@ fn told_of(count: usize, known: bool) -> Expression
     }
 }
 
-#[tactic(auto, using(base::proofs::PickLaws::cases))]
-fn both(a: bool, b: bool) -> bool
-    ensures { result ≡ and a b }
-{
-    if a { b } else { false }
-}
-
 // The parts of t between the bars, with `more` alternatives behind them.
 #[tactic(auto, using(crate::proofs::CutLaws::judging_laws))]
 fn judge(names: &[u8], t: &[u8], more: usize) -> Expression
     requires { more ≤ 1 }
     ensures { result ≡ judged_pieces names.now more true (cut_at bar t.now) }
 {
-    let n = t.len();
-    let mut from: usize = 0;
     let mut count = more;
     let mut known = true;
-    loop {
-        let to = cut_end(t, b'|', from);
-        let piece = &t[from..to];
-        let p = texts::find_byte(piece, b'[');
-        if piece_formed(piece, p) {
-            known = both(known, piece_listed(names, piece, p));
-            count += 1;
-            if n <= to {
-                return told_of(count, known);
-            }
-            from = to + 1;
-        } else {
+    for part in t.split(|&b| b == b'|') {
+        let piece = ExpressionPiece::of(part);
+        if !piece.is_formed() {
             return Expression::Malformed;
         }
+        known &= piece.is_listed(names);
+        count += 1;
     }
+    told_of(count, known)
 }
 
 #[tactic(auto, using(crate::proofs::ExprLaws::check_laws))]
 fn check_single(names: &[u8], e: &[u8]) -> Expression
     ensures { result ≡ judged_pieces names.now 0 true (e.now ∷ []) }
 {
-    let p = texts::find_byte(e, b'[');
-    if piece_formed(e, p) {
-        told_of(1, piece_listed(names, e, p))
+    let piece = ExpressionPiece::of(e);
+    if piece.is_formed() {
+        told_of(1, piece.is_listed(names))
     } else {
         Expression::Malformed
     }
@@ -217,11 +188,11 @@ fn piece_from(names: &[u8], a: &[u8], start: usize, next: usize) -> Alternative
     requires { start + length a.now < 2 ^ 64 }
     ensures { result ≡ piece_from names.now a.now start next }
 {
-    let p = texts::find_byte(a, b'[');
+    let piece = ExpressionPiece::of(a);
     Alternative::At {
         start,
-        end: start + p,
-        set: piece_set(names, a, p),
+        end: start + piece.bracket,
+        set: piece.set(names),
         next,
     }
 }
@@ -236,10 +207,8 @@ fn part_from(names: &[u8], t: &[u8], from: usize) -> Alternative
         let to = cut_end(t, b'|', from);
         return piece_from(names, &t[from..to], from + 1, to + 1);
     }
-    if from == n + 1 {
-        if has_extra(t) {
-            return piece_from(names, &t[0..0], from + 1, from + 1);
-        }
+    if from == n + 1 && has_extra(t) {
+        return piece_from(names, &t[..0], from + 1, from + 1);
     }
     Alternative::Nothing
 }

@@ -1,24 +1,21 @@
 -- Laws of the faults of a rule, as `search` applies them. Assumes nothing.
 use mathlib.Core.Path.{◌≡◌, refl, sym, ap, ◌∙◌}
 use mathlib.Core.Bool.{Bool, true, false, not}
-use mathlib.Core.List.{List, [], ◌∷◌}
+use mathlib.Core.List.{List}
 use Prim.Native.Nat.{ℕ, zero, suc, ◌≤◌, ◌<◌}
 use native.Mathlib.Omega.{arith}
 use lib.Dec.{eqb, ltb}
 use lib.ListN.{length}
 use mathlib.Core.Logic.{⊎_elim}
-use borrow.Author.Tests.{eq-eqb, ne_eqb, lt-ltb, le-ltb, ltb-false}
-use types.Run.{OneOf, miss}
-use denote.Enum.Declared.{tag_of}
-use Rattle.regex_optim.specs.contracts.OptimizedRegex.{the_type}
+use borrow.Author.Tests.{eq-eqb, ltb-false}
 use Rattle.base.specs.Pick.{pick, and}
-use Rattle.base.proofs.PickLaws.{pick_true, pick_false, pick_all, and_yes, and_first, and_second, and_inv, and_assoc, pick_inv}
+use Rattle.base.proofs.PickLaws.{pick_true, pick_false, pick_all, and_yes, and_second, and_inv, and_assoc, pick_inv}
 use Rattle.refusals.specs.declared.Refusal.{Refusal}
-use Rattle.refusals.specs.declared.Refusal.TheVariants.{PatternEmpty, ExpressionWrong, OutsideForms, NameUnlisted, TooMuch, BoxEmpty}
+use Rattle.refusals.specs.declared.Refusal.TheVariants.{PatternEmpty, TooMuch, BoxEmpty}
 use Rattle.regex_optim.specs.Contexts.{Form, left_form, right_form, kind_of, empty_box}
 use Rattle.regex_optim.specs.InnerContracts.{literal_kind}
 use Rattle.regex_optim.specs.declared.OptimizedRegex.{OptimizedRegex}
-use Rattle.regex_optim.specs.declared.OptimizedRegex.TheVariants.{AllStringsMatcher, IsEmpty, Equals, StartsWith, EndsWith, EqualsChar, StartsWithChar, EndsWithChar, Outside}
+use Rattle.regex_optim.specs.declared.OptimizedRegex.TheVariants.{AllStringsMatcher, IsEmpty, Equals, StartsWith, EndsWith}
 use Rattle.regex_optim.proofs.Laws.{kind_by_literal, literal_not_empty, left_is, right_is}
 use Rattle.regex_optim.proofs.NumberLaws.{form_one}
 use Rattle.base.proofs.Arms.{clash}
@@ -31,82 +28,11 @@ use Rattle.phonemes.specs.declared.answers.Expression.{Expression}
 use Rattle.phonemes.specs.declared.answers.Expression.TheVariants.{Good, Malformed, UnlistedName}
 use Rattle.phonemes.proofs.Visible.{clear_good, clear_malformed}
 use Rattle.phonemes.proofs.NumberLaws.{expression_one}
-use Rattle.rule_lines.specs.Rules.{Rule, rule, length_fault, context_fault, box_fault, contexts_fault, expression_fault, fault_else, rule_fault, rule_texts, faultless, rule_good}
+use Rattle.rule_lines.specs.Rules.{Rule, length_fault, context_fault, box_fault, contexts_fault, expression_fault, fault_else, rule_fault, rule_texts, faultless, rule_good}
 use Rattle.rule_lines.specs.InnerContracts.{form_good, left_good, right_good, expression_good, strings_good}
 use Rattle.rule_lines.specs.declared.Fault.{Fault}
 use Rattle.rule_lines.specs.declared.Fault.TheVariants.{Is, Without}
 use borrow.Author.Rules.{rules}
-
--- ---- one fault
-
-pub fault_outside : (f : OptimizedRegex) → f ≡ Outside → Is OutsideForms ≡ context_fault f
-unfolding context_fault
-fault_outside f h = rw h refl
-
--- the numbers of the eight forms among the variants
-abbrev eight : List ℕ
-eight = 0 ∷ 1 ∷ 2 ∷ 3 ∷ 4 ∷ 5 ∷ 6 ∷ 7 ∷ []
-
-pub fault_inside : (f : OptimizedRegex) → OneOf eight (tag_of the_type f) → Without ≡ context_fault f
-unfolding context_fault
-fault_inside AllStringsMatcher h = refl
-fault_inside IsEmpty h = refl
-fault_inside Equals h = refl
-fault_inside StartsWith h = refl
-fault_inside EndsWith h = refl
-fault_inside EqualsChar h = refl
-fault_inside StartsWithChar h = refl
-fault_inside EndsWithChar h = refl
-fault_inside Outside h = absurd (miss eight 8 tt h)
-
--- an empty box, left, right or neither
-module _ (f g : Form) (t : Bool) (e : t ≡ empty_box f) where
-  pub box_left : t ≡ true → Is BoxEmpty ≡ box_fault f g
-  unfolding box_fault
-  box_left q = sym (pick_true _ _ _ (sym e ∙ q))
-
-  module _ (u : Bool) (d : u ≡ empty_box g) (q : t ≡ false) where
-    pub box_right : u ≡ true → Is BoxEmpty ≡ box_fault f g
-    unfolding box_fault
-    box_right v = sym (pick_false _ _ _ (sym e ∙ q) ∙ pick_true _ _ _ (sym d ∙ v))
-
-    pub box_neither : u ≡ false → Without ≡ box_fault f g
-    unfolding box_fault
-    box_neither v = sym (pick_false _ _ _ (sym e ∙ q) ∙ pick_false _ _ _ (sym d ∙ v))
-
-module _ (e : Expression) where
-  pub fault_good : (n : ℕ) → e ≡ Good n → Without ≡ expression_fault e
-  unfolding expression_fault
-  fault_good n h = rw h refl
-
-  pub fault_malformed : e ≡ Malformed → Is ExpressionWrong ≡ expression_fault e
-  unfolding expression_fault
-  fault_malformed h = rw h refl
-
-  pub fault_unlisted : e ≡ UnlistedName → Is NameUnlisted ≡ expression_fault e
-  unfolding expression_fault
-  fault_unlisted h = rw h refl
-
--- the last two ways out of length_fault, deeper than `search` goes
-module _ (p l r e : ℕ) (h : (p ≡ 0 → ⊥)) (i : p ≤ 255) (j : l ≤ 255) (k : r ≤ 255) where
-  rest : length_fault p l r e ≡ pick (ltb 255 e) (Is TooMuch) Without
-  unfolding length_fault
-  rest = pick_false _ _ _ (ne_eqb p 0 h) ∙ pick_false _ _ _ (le-ltb 255 p i) ∙ pick_false _ _ _ (le-ltb 255 l j) ∙ pick_false _ _ _ (le-ltb 255 r k)
-
-  pub fault_long : 255 < e → Is TooMuch ≡ length_fault p l r e
-  fault_long m = sym (rest ∙ pick_true _ _ _ (lt-ltb 255 e m))
-
-  pub fault_none : e ≤ 255 → Without ≡ length_fault p l r e
-  fault_none m = sym (rest ∙ pick_false _ _ _ (le-ltb 255 e m))
-
-module _ (f : Fault) where
-  pub fault_is : (w : Refusal) → f ≡ Is w → false ≡ faultless f
-  unfolding faultless
-  fault_is w h = rw h refl
-
-  pub fault_without : f ≡ Without → true ≡ faultless f
-  unfolding faultless
-  fault_without h = rw h refl
 
 -- ---- each fault by what was answered for it
 
@@ -124,7 +50,7 @@ context_by x f g e h = e ∙ ap context_fault h
 pub expression_by : (x : Fault) (f g : Expression) → x ≡ expression_fault f → f ≡ g → x ≡ expression_fault g
 expression_by x f g e h = e ∙ ap expression_fault h
 
-pub ruleset fault_laws = (fault_outside, fault_inside, box_left, box_right, box_neither, fault_good, fault_malformed, fault_unlisted, fault_is, fault_without, form_one, expression_one, fault_long, fault_none, or_first, or_next, context_by, expression_by, rules)
+pub ruleset fault_laws = (form_one, expression_one, or_first, or_next, context_by, expression_by, rules)
 
 -- ---- a visible literal: without `[` a context is a literal, which is always in the forms
 
@@ -182,59 +108,22 @@ module _ (c : List ℕ) (t : Bool) (p : t ≡ visible_literal c) (q : t ≡ true
 
 -- ---- any other
 
-module _ (c : List ℕ) (t : Bool) (p : t ≡ rule_text c) where
-  pub left_strange : t ≡ false → false ≡ left_good c
-  unfolding left_good
-  left_strange q = sym (and_first _ _ (sym p ∙ q))
+module _ (c : List ℕ) (t : Bool) (p : t ≡ rule_text c) (q : t ≡ true) (b : Bool) (k : OptimizedRegex) (u : Bool) (f : u ≡ and (not b) (faultless (context_fault k))) where
+  pub left_judged : b ≡ empty_box (left_form c) → k ≡ kind_of (left_form c) → u ≡ left_good c
+  unfolding left_good form_good and
+  left_judged d e = f ∙ rw (d, e, sym p ∙ q) refl
 
-  pub right_strange : t ≡ false → false ≡ right_good c
-  unfolding right_good
-  right_strange q = sym (and_first _ _ (sym p ∙ q))
+  pub right_judged : b ≡ empty_box (right_form c) → k ≡ kind_of (right_form c) → u ≡ right_good c
+  unfolding right_good form_good and
+  right_judged d e = f ∙ rw (d, e, sym p ∙ q) refl
 
-  pub expression_strange : (names : List ℕ) → t ≡ false → false ≡ expression_good names c
-  unfolding expression_good
-  expression_strange names q = sym (and_first _ _ (sym p ∙ q))
+pub ruleset context_laws = (left_literal, right_literal, left_judged, right_judged, form_one, rules)
 
-  module _ (q : t ≡ true) (b : Bool) where
-    pub left_box : b ≡ empty_box (left_form c) → b ≡ true → false ≡ left_good c
-    unfolding left_good form_good
-    left_box d v = sym (and_second _ _ (sym p ∙ q) (and_first _ _ (ap not (sym d ∙ v))))
+pub expression_judged : (c : List ℕ) (t : Bool) → t ≡ rule_text c → t ≡ true → (f : Fault) (u : Bool) → u ≡ faultless f → (names : List ℕ) (k : Expression) → f ≡ expression_fault k → k ≡ checked_of names c → u ≡ expression_good names c
+unfolding expression_good and
+expression_judged c t p q f u is names k g e = is ∙ ap faultless (g ∙ ap expression_fault e) ∙ sym (rw (sym p ∙ q) refl)
 
-    pub right_box : b ≡ empty_box (right_form c) → b ≡ true → false ≡ right_good c
-    unfolding right_good form_good
-    right_box d v = sym (and_second _ _ (sym p ∙ q) (and_first _ _ (ap not (sym d ∙ v))))
-
-  module _ (q : t ≡ true) (f : Fault) (u : Bool) (is : u ≡ faultless f) where
-    module _ (b : Bool) (v : b ≡ false) (k : OptimizedRegex) (g : f ≡ context_fault k) where
-      pub left_judged : b ≡ empty_box (left_form c) → k ≡ kind_of (left_form c) → u ≡ left_good c
-      unfolding left_good form_good and
-      left_judged d e = is ∙ ap faultless (g ∙ ap context_fault e) ∙ sym (rw (sym p ∙ q, sym d ∙ v) refl)
-
-      pub right_judged : b ≡ empty_box (right_form c) → k ≡ kind_of (right_form c) → u ≡ right_good c
-      unfolding right_good form_good and
-      right_judged d e = is ∙ ap faultless (g ∙ ap context_fault e) ∙ sym (rw (sym p ∙ q, sym d ∙ v) refl)
-
-    pub expression_judged : (names : List ℕ) (k : Expression) → f ≡ expression_fault k → k ≡ checked_of names c → u ≡ expression_good names c
-    unfolding expression_good and
-    expression_judged names k g e = is ∙ ap faultless (g ∙ ap expression_fault e) ∙ sym (rw (sym p ∙ q) refl)
-
-pub ruleset string_laws = (
-  form_one,
-  expression_one,
-  left_literal,
-  right_literal,
-  literal_round,
-  literal_plain,
-  left_strange,
-  right_strange,
-  expression_strange,
-  left_box,
-  right_box,
-  left_judged,
-  right_judged,
-  expression_judged,
-  rules,
-)
+pub ruleset string_laws = (form_one, expression_one, left_literal, right_literal, literal_round, literal_plain, expression_judged, rules)
 
 -- ---- the whole rule: without a fault where no part has one
 
@@ -285,38 +174,9 @@ unfolding rule_fault
 faultless_is names r =
     faultless_else _ _ ∙ ap (and _) (faultless_else _ _ ∙ ap (λ (b : Bool). and b (faultless (expression_fault (checked_of names r.expression)))) (contexts_good _ _) ∙ and_assoc _ _ _)
 
-good_is : (names : List ℕ) (r : Rule) → rule_good names r ≡ and (faultless (lengths_fault r)) (strings_good names r)
+pub good_is : (names : List ℕ) (r : Rule) → rule_good names r ≡ and (faultless (lengths_fault r)) (strings_good names r)
 unfolding rule_good rule_texts strings_good left_good right_good expression_good
 good_is names r = ap (and _) (faultless_is names r) ∙ by_string _ _ _ _ _ _ _ _
-
-module _ (names p l r e : List ℕ) (t : Bool) (g : t ≡ rule_text p) where
-  pub rule_pattern : t ≡ false → false ≡ strings_good names (rule p l r e)
-  unfolding strings_good
-  rule_pattern q = sym (and_first _ _ (sym g ∙ q))
-
-  module _ (u : Bool) (k : u ≡ left_good l) (q : t ≡ true) where
-    pub rule_left : u ≡ false → false ≡ strings_good names (rule p l r e)
-    unfolding strings_good
-    rule_left o = sym (and_second _ _ (sym g ∙ q) (and_first _ _ (sym k ∙ o)))
-
-    module _ (v : Bool) (m : v ≡ right_good r) (o : u ≡ true) where
-      pub rule_right : v ≡ false → false ≡ strings_good names (rule p l r e)
-      unfolding strings_good
-      rule_right w = sym (and_second _ _ (sym g ∙ q) (and_second _ _ (sym k ∙ o) (and_first _ _ (sym m ∙ w))))
-
-      pub rule_all : (x : Bool) → v ≡ true → x ≡ expression_good names e → x ≡ strings_good names (rule p l r e)
-      unfolding strings_good and
-      rule_all x w y = y ∙ sym (rw (sym g ∙ q, sym k ∙ o, sym m ∙ w) refl)
-
-module _ (names p l r e : List ℕ) (f : Fault) (t : Bool) (g : f ≡ length_fault (length p) (length l) (length r) (length e)) (h : t ≡ faultless f) where
-  pub rule_short : (u : Bool) → t ≡ true → u ≡ strings_good names (rule p l r e) → u ≡ rule_good names (rule p l r e)
-  unfolding and
-  rule_short u q k = k ∙ sym (good_is names (rule p l r e) ∙ rw (sym (h ∙ ap faultless g) ∙ q) refl)
-
-  pub rule_long : t ≡ false → false ≡ rule_good names (rule p l r e)
-  rule_long q = sym (good_is names (rule p l r e) ∙ and_first _ _ (sym (h ∙ ap faultless g) ∙ q))
-
-pub ruleset rule_laws = (rule_pattern, rule_left, rule_right, rule_all, rule_short, rule_long, rules)
 
 -- ---- what a good rule keeps to, and a rule that does
 

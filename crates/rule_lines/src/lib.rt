@@ -1,7 +1,8 @@
 // One judgment of a rule: its first fault, and whether it may stand in a pack.
 #![tactic(auto)]
 
-ghost use Rattle.std.specs.Prelude.{◌≡◌};
+ghost use Rattle.std.specs.Prelude.{◌≡◌, not};
+ghost use Rattle.base.specs.Pick.{and};
 ghost use Rattle.regex_optim.specs.Contexts.{left_form, right_form};
 ghost use Rattle.rule_lines.specs.Rules.{rule, length_fault, context_fault, box_fault, contexts_fault, expression_fault, rule_fault, faultless, rule_good};
 ghost use Rattle.rule_lines.specs.InnerContracts.{left_good, right_good, expression_good, strings_good};
@@ -21,7 +22,7 @@ pub enum Fault {
 }
 
 // An empty pattern, or a string that is too long.
-#[tactic(auto, using(base::proofs::PickLaws::cases, crate::proofs::Laws::fault_laws), unfolding(crate::specs::Rules::length_fault))]
+#[tactic(auto, unfolding(crate::specs::Rules::length_fault, base::specs::Pick::pick))]
 fn length_fault(pattern: usize, left: usize, right: usize, expression: usize) -> Fault
     ensures { result ≡ length_fault pattern left right expression }
 {
@@ -29,19 +30,7 @@ fn length_fault(pattern: usize, left: usize, right: usize, expression: usize) ->
         Fault::Is {
             why: Refusal::PatternEmpty,
         }
-    } else if LONGEST < pattern {
-        Fault::Is {
-            why: Refusal::TooMuch,
-        }
-    } else if LONGEST < left {
-        Fault::Is {
-            why: Refusal::TooMuch,
-        }
-    } else if LONGEST < right {
-        Fault::Is {
-            why: Refusal::TooMuch,
-        }
-    } else if LONGEST < expression {
+    } else if LONGEST < pattern || LONGEST < left || LONGEST < right || LONGEST < expression {
         Fault::Is {
             why: Refusal::TooMuch,
         }
@@ -51,7 +40,7 @@ fn length_fault(pattern: usize, left: usize, right: usize, expression: usize) ->
 }
 
 // A context outside the forms.
-#[tactic(auto, using(crate::proofs::Laws::fault_laws))]
+#[tactic(auto, unfolding(crate::specs::Rules::context_fault))]
 fn context_fault(form: OptimizedRegex) -> Fault
     ensures { result ≡ context_fault form }
 {
@@ -64,15 +53,11 @@ fn context_fault(form: OptimizedRegex) -> Fault
 }
 
 // A context that is a box of no characters, not negated: nothing fits it.
-#[tactic(auto, using(crate::proofs::Laws::fault_laws))]
+#[tactic(auto, unfolding(crate::specs::Rules::box_fault, base::specs::Pick::pick))]
 fn box_fault(left: &[u8], right: &[u8]) -> Fault
     ensures { result ≡ box_fault (left_form left.now) (right_form right.now) }
 {
-    if regex_optim::left_is_empty_box(left) {
-        Fault::Is {
-            why: Refusal::BoxEmpty,
-        }
-    } else if regex_optim::right_is_empty_box(right) {
+    if regex_optim::left_is_empty_box(left) || regex_optim::right_is_empty_box(right) {
         Fault::Is {
             why: Refusal::BoxEmpty,
         }
@@ -82,7 +67,7 @@ fn box_fault(left: &[u8], right: &[u8]) -> Fault
 }
 
 // The first fault of the contexts: 15 (left, then right), 20.
-#[tactic(auto, using(crate::proofs::Laws::fault_laws), unfolding(crate::specs::Rules::contexts_fault))]
+#[tactic(auto, using(crate::proofs::Laws::fault_laws), unfolding(crate::specs::Rules::contexts_fault, crate::specs::Rules::fault_else))]
 fn contexts_fault(left: &[u8], right: &[u8]) -> Fault
     ensures { result ≡ contexts_fault (left_form left.now) (right_form right.now) }
 {
@@ -96,7 +81,7 @@ fn contexts_fault(left: &[u8], right: &[u8]) -> Fault
 }
 
 // An expression that is not well formed, or a name that is not listed.
-#[tactic(auto, using(crate::proofs::Laws::fault_laws))]
+#[tactic(auto, unfolding(crate::specs::Rules::expression_fault))]
 fn expression_fault(checked: Expression) -> Fault
     ensures { result ≡ expression_fault checked }
 {
@@ -112,7 +97,7 @@ fn expression_fault(checked: Expression) -> Fault
 }
 
 // The first fault of a rule whose strings are texts, in the order 13, 18, 15 (left, then right), 20, 14, 16.
-#[tactic(auto, using(crate::proofs::Laws::fault_laws), unfolding(crate::specs::Rules::rule_fault))]
+#[tactic(auto, using(crate::proofs::Laws::fault_laws), unfolding(crate::specs::Rules::rule_fault, crate::specs::Rules::fault_else))]
 pub fn rule_fault(
     names: &[u8],
     pattern: &[u8],
@@ -131,98 +116,76 @@ pub fn rule_fault(
     }
 }
 
-#[tactic(auto, using(crate::proofs::Laws::fault_laws))]
+#[tactic(auto, unfolding(crate::specs::Rules::faultless))]
 fn is_faultless(fault: Fault) -> bool
     ensures { result ≡ faultless fault }
 {
-    match fault {
-        Fault::Is { why: _ } => false,
-        Fault::Without => true,
-    }
+    matches!(fault, Fault::Without)
+}
+
+// Whether a context may stand in a pack, by whether it is an empty box and by its form.
+#[tactic(auto, unfolding(base::specs::Pick::and))]
+fn context_good(empty_box: bool, form: OptimizedRegex) -> bool
+    ensures { result ≡ and (not empty_box) (faultless (context_fault form)) }
+{
+    !empty_box && is_faultless(context_fault(form))
 }
 
 // Whether a left context is a text in one of the forms, and no empty box; a visible literal is.
-#[tactic(auto, using(crate::proofs::Laws::string_laws))]
+#[tactic(auto, using(crate::proofs::Laws::context_laws), unfolding(crate::specs::InnerContracts::left_good, base::specs::Pick::and))]
 fn left_good(left: &[u8]) -> bool
     ensures { result ≡ left_good left.now }
 {
-    if rule::is_visible_literal(left) {
-        true
-    } else if rule::is_rule_text(left) {
-        if regex_optim::left_is_empty_box(left) {
-            false
-        } else {
-            is_faultless(context_fault(regex_optim::left_form(left)))
-        }
-    } else {
-        false
-    }
+    rule::is_visible_literal(left)
+        || rule::is_rule_text(left)
+            && context_good(
+                regex_optim::left_is_empty_box(left),
+                regex_optim::left_form(left),
+            )
 }
 
 // Whether a right context is.
-#[tactic(auto, using(crate::proofs::Laws::string_laws))]
+#[tactic(auto, using(crate::proofs::Laws::context_laws), unfolding(crate::specs::InnerContracts::right_good, base::specs::Pick::and))]
 fn right_good(right: &[u8]) -> bool
     ensures { result ≡ right_good right.now }
 {
-    if rule::is_visible_literal(right) {
-        true
-    } else if rule::is_rule_text(right) {
-        if regex_optim::right_is_empty_box(right) {
-            false
-        } else {
-            is_faultless(context_fault(regex_optim::right_form(right)))
-        }
-    } else {
-        false
-    }
+    rule::is_visible_literal(right)
+        || rule::is_rule_text(right)
+            && context_good(
+                regex_optim::right_is_empty_box(right),
+                regex_optim::right_form(right),
+            )
 }
 
 // Whether an expression is a text without a fault; of a visible literal only the round brackets matter.
-#[tactic(auto, using(crate::proofs::Laws::string_laws))]
+#[tactic(auto, using(crate::proofs::Laws::string_laws), unfolding(crate::specs::InnerContracts::expression_good, base::specs::Pick::and))]
 fn expression_good(names: &[u8], expression: &[u8]) -> bool
     ensures { result ≡ expression_good names.now expression.now }
 {
     if rule::is_visible_literal(expression) {
-        if texts::first_is(expression, b'(') {
-            texts::last_is(expression, b')')
-        } else {
-            true
-        }
-    } else if rule::is_rule_text(expression) {
-        is_faultless(expression_fault(phonemes::check_expression(expression, names)))
+        !texts::first_is(expression, b'(') || texts::last_is(expression, b')')
     } else {
-        false
+        rule::is_rule_text(expression)
+            && is_faultless(expression_fault(phonemes::check_expression(expression, names)))
     }
 }
 
 // Whether the strings of a rule are texts, and none of them but for its length is at fault.
-#[tactic(auto, using(crate::proofs::Laws::rule_laws))]
+#[tactic(auto, unfolding(crate::specs::InnerContracts::strings_good, base::specs::Pick::and))]
 fn strings_good(names: &[u8], pattern: &[u8], left: &[u8], right: &[u8], expression: &[u8]) -> bool
     ensures { result ≡ strings_good names.now (rule pattern.now left.now right.now expression.now) }
 {
-    if rule::is_rule_text(pattern) {
-        if left_good(left) {
-            if right_good(right) {
-                expression_good(names, expression)
-            } else {
-                false
-            }
-        } else {
-            false
-        }
-    } else {
-        false
-    }
+    rule::is_rule_text(pattern)
+        && left_good(left)
+        && right_good(right)
+        && expression_good(names, expression)
 }
 
 // Whether a rule may stand in a pack: each string is a text, and it has no fault. Most strings are known by their bytes.
-#[tactic(auto, using(crate::proofs::Laws::rule_laws))]
+#[tactic(auto, using(crate::proofs::Laws::good_is), unfolding(base::specs::Pick::and))]
 pub fn rule_good(names: &[u8], pattern: &[u8], left: &[u8], right: &[u8], expression: &[u8]) -> bool
     ensures { result ≡ rule_good names.now (rule pattern.now left.now right.now expression.now) }
 {
-    if is_faultless(length_fault(pattern.len(), left.len(), right.len(), expression.len())) {
-        strings_good(names, pattern, left, right, expression)
-    } else {
-        false
-    }
+    is_faultless(length_fault(pattern.len(), left.len(), right.len(), expression.len()))
+        && strings_good(names, pattern, left, right, expression)
 }

@@ -9,17 +9,15 @@ use lib.ListN.{length, get_or, take, drop, length-drop, get_or-eq_default}
 use borrow.Author.Tests.{ltb-true, ltb-false, leb-false, eqb-true}
 use Rattle.base.specs.Pick.{pick}
 use Rattle.rules_parser.specs as specs
-use specs.Fields.{span_end, pair_at}
+use specs.Fields.{span_end, pair_at, Kind, Blank, NotLf}
 use specs.Lines.{line_at}
 use specs.Files.{counted_of, close_in, close_at, text_end, next_line, on_close, comment_at, on_line, item_at}
 use Rattle.rules_parser.proofs.FileLaws.{run_high, counted_high}
-use specs.declared.fields.Kind.{Kind}
-use specs.declared.fields.Kind.TheVariants.{Blank, NotLf}
 use specs.declared.lines.FileKind.{FileKind}
 use specs.declared.lines.Line.{Line}
 use specs.declared.lines.Line.TheVariants as line
 use specs.declared.files.Close.{Close}
-use specs.declared.files.Close.TheVariants.{At, Open}
+use Rattle.std.specs.Prelude.{Option, Some, None}
 use specs.declared.files.Item.{Item}
 use specs.declared.files.Item.TheVariants.{Passed, Tells, Wrong}
 
@@ -56,14 +54,14 @@ pair_in s p e =
     omega arith
 
 -- where a comment ends, i and n being place and line ends passed
-unfoldable Closing : List ℕ → ℕ → ℕ → Close → Type 0
-Closing s i n (At r m) = (i + 2 ≤ r) × (r ≤ length s) × (1 ≤ m) × (m + i + 1 ≤ n + r)
-Closing s i n Open = Unit {0}
+unfoldable Closing : List ℕ → ℕ → ℕ → Option Close → Type 0
+Closing s i n (Some c) = (i + 2 ≤ c.next) × (c.next ≤ length s) × (1 ≤ c.lines) × (c.lines + i + 1 ≤ n + c.next)
+Closing s i n None = Unit {0}
 
-closing_on : (s : List ℕ) (i n m : ℕ) (c : Close) → m ≤ n + 1 → Closing s (i + 1) m c → Closing s i n c
+closing_on : (s : List ℕ) (i n m : ℕ) (c : Option Close) → m ≤ n + 1 → Closing s (i + 1) m c → Closing s i n c
 unfolding Closing
-closing_on s i n m (At r l) h w = omega (arith, w.0, w.1, w.2, w.3)
-closing_on s i n m Open h w = tt
+closing_on s i n m (Some c) h w = omega (arith, w.0, w.1, w.2, w.3)
+closing_on s i n m None h w = tt
 
 close_in_lem : (s t : List ℕ) (i n : ℕ) → Closing s i n (close_in s t i n)
 unfolding close_in Closing
@@ -84,20 +82,20 @@ unfolding comment_at close_at Ahead Closing on_close
 comment_ahead s p h =
     pick_where (Ahead s p) _ _ _ (λ e. tt) (λ e. on (close_at s (span_end Blank s p + 2)) (close_in_lem s (drop (span_end Blank s p + 2) s) (span_end Blank s p + 2) 0))
   where
-    on : (c : Close) → Closing s (span_end Blank s p + 2) 0 c → Ahead s p (on_close c s)
-    on (At r m) w =
-        let v = next_in s r w.1 in
+    on : (c : Option Close) → Closing s (span_end Blank s p + 2) 0 c → Ahead s p (on_close c s)
+    on (Some c) w =
+        let v = next_in s c.next w.1 in
         let u = span_in Blank s p (omega arith) in
         pick_where (Ahead s p) _ _ _ (λ b. (omega (arith, w.0, v.0, u.0), v.1, w.2, omega (arith, w.3, v.0, u.0))) (λ b. tt)
-    on Open w = tt
+    on None w = tt
 
 pub item_ahead : (k : FileKind) (s : List ℕ) (p : ℕ) → Ahead s p (item_at k s p)
 unfolding item_at on_line Ahead
 item_ahead k s p = pick_where (Ahead s p) _ _ _ (λ e. tt) (λ e. go (leb-false _ _ e) (line_at k (take (text_end s p) s) p))
   where
-    go : p < length s → (l : Line) → Ahead s p (on_line l s p)
-    go h line.Blank = let w = next_in s p (omega arith) in let n = w.2 h in omega (arith, w.1)
-    go h line.Comment = let w = next_in s p (omega arith) in let n = w.2 h in omega (arith, w.1)
-    go h line.Opens = comment_ahead s p h
-    go h (line.Tells t) = let w = next_in s p (omega arith) in (w.2 h, w.1)
-    go h line.Bad = tt
+    go : p < length s → (l : Option Line) → Ahead s p (on_line l s p)
+    go h (Some line.Blank) = let w = next_in s p (omega arith) in let n = w.2 h in omega (arith, w.1)
+    go h (Some line.Comment) = let w = next_in s p (omega arith) in let n = w.2 h in omega (arith, w.1)
+    go h (Some line.Opens) = comment_ahead s p h
+    go h (Some (line.Tells t)) = let w = next_in s p (omega arith) in (w.2 h, w.1)
+    go h None = tt

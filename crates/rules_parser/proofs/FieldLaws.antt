@@ -1,7 +1,9 @@
 -- Laws of `Fields`, in the form in which `search` applies them to what the code has tested. Assumes nothing.
 use mathlib.Core.Path.{◌≡◌, refl, sym, ◌∙◌}
-use mathlib.Core.Bool.{Bool, true, false, not}
+use mathlib.Core.Bool.{Bool, true, false}
 use mathlib.Core.List.{List, []}
+use Rattle.std.specs.Prelude.{max, Option, Some, None}
+use native.Mathlib.Decide.{dec_lt}
 use Prim.Native.Nat.{ℕ, suc, ◌+◌, ◌-◌, ◌≤◌, ◌<◌}
 use native.Mathlib.Numerals.{add-one}
 use native.Mathlib.Nat.{add-sub_cancel_left}
@@ -12,36 +14,12 @@ use lib.Seq.{drop-cons, take_all, take-nil}
 use borrow.Author.Tests.{lt-ltb, le-ltb, eq-eqb, ne_eqb}
 use Rattle.base.specs.Pick.{pick}
 use Rattle.rules_parser.specs as specs
-use specs.Fields.{part_of, passes_of, span_of, span_end, pair_at, text, quoted_at, bare_at, field_at, parted_at, ends_at, tail_ok}
-use specs.declared.fields.Kind.{Kind}
-use specs.declared.fields.Kind.TheVariants.{Blank, NotBlank, NotQuote, NotLf}
-use specs.declared.fields.FieldKind.{FieldKind}
-use specs.declared.fields.FieldKind.TheVariants.{Quoted, Plain}
+use specs.Fields.{part_of, passes_of, span_of, span_end, pair_at, text, field, quoted_at, bare_at, field_at, parted_at, ends_at, tail_ok, Kind, Blank, NotBlank, NotQuote, FieldKind, Quoted, Plain}
+use specs.InnerContracts.{gap_at}
 use specs.declared.fields.Text.{Text}
 use specs.declared.fields.Field.{Field}
-use specs.declared.fields.Field.TheVariants.{Is, No}
 use Rattle.base.proofs.PickLaws.{pick_true, pick_false}
 use borrow.Author.Rules.{rules}
-
--- ---- kinds of bytes
-module _ (k : Kind) (b : ℕ) (x : Bool) where
-  pub is_blank : k ≡ Blank → x ≡ pick (eqb b 32) true (eqb b 9) → x ≡ passes_of k b
-  unfolding passes_of
-  is_blank e p = p ∙ rw e refl
-
-  pub is_not_blank : k ≡ NotBlank → x ≡ pick (eqb b 32) false (not (eqb b 9)) → x ≡ passes_of k b
-  unfolding passes_of
-  is_not_blank e p = p ∙ rw e refl
-
-  pub is_not_quote : k ≡ NotQuote → x ≡ not (eqb b 34) → x ≡ passes_of k b
-  unfolding passes_of
-  is_not_quote e p = p ∙ rw e refl
-
-  pub is_not_lf : k ≡ NotLf → x ≡ not (eqb b 10) → x ≡ passes_of k b
-  unfolding passes_of
-  is_not_lf e p = p ∙ rw e refl
-
-pub ruleset kinds = (is_blank, is_not_blank, is_not_quote, is_not_lf)
 
 -- a test of what a call returned
 pub eqb_by : (x y b : ℕ) → x ≡ y → eqb x b ≡ eqb y b
@@ -68,50 +46,57 @@ module _ (k : Kind) (s : List ℕ) (x i : ℕ) where
   unfolding span_end
   span_low q = omega arith
 
-pub ruleset spans = (span_more, span_stop, span_done, rules)
+-- where a search that began at p ends with nothing found
+pub span_past : (k : Kind) (s : List ℕ) (p i m : ℕ) → length s ≤ i → (p ≤ length s → i ≤ length s) → span_end k s p ≡ span_end k s i → m ≡ max (length s) p → m ≡ span_end k s p
+span_past k s p i m h g e w = elim (dec_lt p (length s)) [
+  | yes l ↦ omega (arith, g (omega arith), span_done k s _ i h refl)
+  | no l ↦ omega (arith, span_done k s _ p (omega arith) refl)
+]
 
 -- ---- a field, e or q being the end of a run
+some_inv : (t : Bool) (q x : ℕ) → Some q ≡ pick t (Some x) None → (t ≡ true) × (q ≡ x)
+unfolding pick
+some_inv true q x e = (refl, cc)
+some_inv false q x e = cc
+
+none_inv : (t : Bool) (x : ℕ) → None ≡ pick t (Some x) None → t ≡ false
+unfolding pick
+none_inv true x e = cc
+none_inv false x e = refl
+
 module _ (s : List ℕ) (p : ℕ) where
   pub quoted_is : (e : ℕ) → p < length s → get_or s p 0 ≡ 34 → e ≡ span_end NotQuote s (p + 1) → e < length s
-      → Is (text (p + 1) (e - (p + 1))) (e + 1) ≡ quoted_at s p
-  unfolding quoted_at
+      → Some (field (text (p + 1) (e - (p + 1))) (e + 1)) ≡ field_at Quoted s p
+  unfolding quoted_at field_at
   quoted_is e h b q l = sym (pick_true _ _ _ (lt-ltb _ _ h) ∙ pick_true _ _ _ (eq-eqb _ _ b) ∙ rw (← q) (pick_true _ _ _ (lt-ltb _ _ l)))
 
-  pub quoted_open : (e : ℕ) → p < length s → get_or s p 0 ≡ 34 → e ≡ span_end NotQuote s (p + 1) → length s ≤ e → No ≡ quoted_at s p
-  unfolding quoted_at
+  pub quoted_open : (e : ℕ) → p < length s → get_or s p 0 ≡ 34 → e ≡ span_end NotQuote s (p + 1) → length s ≤ e → None ≡ field_at Quoted s p
+  unfolding quoted_at field_at
   quoted_open e h b q l = sym (pick_true _ _ _ (lt-ltb _ _ h) ∙ pick_true _ _ _ (eq-eqb _ _ b) ∙ rw (← q) (pick_false _ _ _ (le-ltb _ _ l)))
 
-  pub quoted_other : p < length s → (get_or s p 0 ≡ 34 → ⊥) → No ≡ quoted_at s p
-  unfolding quoted_at
+  pub quoted_other : p < length s → (get_or s p 0 ≡ 34 → ⊥) → None ≡ field_at Quoted s p
+  unfolding quoted_at field_at
   quoted_other h b = sym (pick_true _ _ _ (lt-ltb _ _ h) ∙ pick_false _ _ _ (ne_eqb _ _ b))
 
-  pub quoted_past : length s ≤ p → No ≡ quoted_at s p
-  unfolding quoted_at
+  pub quoted_past : length s ≤ p → None ≡ field_at Quoted s p
+  unfolding quoted_at field_at
   quoted_past h = sym (pick_false _ _ _ (le-ltb _ _ h))
 
-  pub word_is : (e : ℕ) → e ≡ span_end NotBlank s p → p < e → Is (text p (e - p)) e ≡ bare_at s p
-  unfolding bare_at
+  pub word_is : (e : ℕ) → e ≡ span_end NotBlank s p → p < e → Some (field (text p (e - p)) e) ≡ field_at Plain s p
+  unfolding bare_at field_at
   word_is e q h = rw (← q) (sym (pick_true _ _ _ (lt-ltb p e h)))
 
-  pub word_none : (e : ℕ) → e ≡ span_end NotBlank s p → e ≤ p → No ≡ bare_at s p
-  unfolding bare_at
+  pub word_none : (e : ℕ) → e ≡ span_end NotBlank s p → e ≤ p → None ≡ field_at Plain s p
+  unfolding bare_at field_at
   word_none e q h = rw (← q) (sym (pick_false _ _ _ (le-ltb p e h)))
 
-  pub field_quoted : (k : FieldKind) (r : Field) → k ≡ Quoted → r ≡ quoted_at s p → r ≡ field_at k s p
-  unfolding field_at
-  field_quoted k r e f = f ∙ rw e refl
+  pub parted_is : (k : FieldKind) (q : ℕ) (r : Option Field) → Some q ≡ gap_at s p → r ≡ field_at k s q → r ≡ parted_at k s p
+  unfolding gap_at parted_at
+  parted_is k q r e f = let w = some_inv _ _ _ e in f ∙ rw w.1 (sym (pick_true _ _ _ w.0))
 
-  pub field_plain : (k : FieldKind) (r : Field) → k ≡ Plain → r ≡ bare_at s p → r ≡ field_at k s p
-  unfolding field_at
-  field_plain k r e f = f ∙ rw e refl
-
-  pub parted_is : (k : FieldKind) (q : ℕ) (r : Field) → q ≡ span_end Blank s p → p < q → r ≡ field_at k s q → r ≡ parted_at k s p
-  unfolding parted_at
-  parted_is k q r e h f = f ∙ rw (← e) (sym (pick_true _ _ _ (lt-ltb p q h)))
-
-  pub parted_none : (k : FieldKind) (q : ℕ) → q ≡ span_end Blank s p → q ≤ p → No ≡ parted_at k s p
-  unfolding parted_at
-  parted_none k q e h = rw (← e) (sym (pick_false _ _ _ (le-ltb p q h)))
+  pub parted_none : (k : FieldKind) → None ≡ gap_at s p → None ≡ parted_at k s p
+  unfolding gap_at parted_at
+  parted_none k e = sym (pick_false _ _ _ (none_inv _ _ e))
 
   pub ends_is : (q : ℕ) → q ≡ span_end Blank s p → leb (length s) q ≡ ends_at s p
   unfolding ends_at
@@ -132,8 +117,6 @@ pub ruleset fields = (
   quoted_past,
   word_is,
   word_none,
-  field_quoted,
-  field_plain,
   parted_is,
   parted_none,
   ends_is,

@@ -11,16 +11,15 @@ use borrow.Author.Tests.{eqb-true, eqb-false, not-false, leb-true, le-leb}
 use Rattle.base.specs.Pick.{pick}
 use Rattle.texts.specs.Parts.{last_is}
 use Rattle.rules_parser.specs as specs
-use specs.Fields.{passes_of, span_end, pair_at}
-use specs.Files.{counted_of, close_in, text_end, next_line, rest_blank}
+use specs.Fields.{passes_of, span_end, pair_at, Blank, NotLf}
+use specs.Files.{close, counted_of, close_in, text_end, next_line, rest_blank}
 use specs.Grammar.{Every, Other, Blanks, FirstLine, at_end, at_lf, at_cr_lf, Unclosed, line_ends}
 use Rattle.rules_parser.proofs as own
 use own.FileLaws.{close_step, next_more, next_none, text_cr, text_lf, text_empty, text_last}
 use own.Ahead.{pick_where}
 use own.GrammarFields.{Of, Stops, split, spanned, span_is, span_least, place_in_lem, place_more, byte_is, next_is, pair_is, pair_told}
-use specs.declared.fields.Kind.TheVariants.{Blank, NotLf}
 use specs.declared.files.Close.{Close}
-use specs.declared.files.Close.TheVariants.{At, Open}
+use Rattle.std.specs.Prelude.{Option, Some, None}
 use Rattle.base.proofs.PickLaws.{pick_true, pick_false}
 
 -- ---- lists
@@ -188,7 +187,7 @@ module _ (s : List ℕ) (i b : ℕ) (body rest : List ℕ) (e : drop i s ≡ b �
   unclosed_more f u (c ∷ x) y g = u x y (tail-eq_of_cons-eq g)
 
 pub close_complete : (s : List ℕ) (i n : ℕ) (body rest : List ℕ) (q m : ℕ) → drop i s ≡ body ++ 42 ∷ 47 ∷ rest → Unclosed body
-    → q ≡ i + length body + 2 → m ≡ n + line_ends body + 1 → close_in s (drop i s) i n ≡ At q m
+    → q ≡ i + length body + 2 → m ≡ n + line_ends body + 1 → close_in s (drop i s) i n ≡ Some (close q m)
 unfolding line_ends
 close_complete s i n [] rest q m e u f g =
     let a : i + 2 ≡ q = omega arith in
@@ -208,9 +207,9 @@ pub record Closed (s t : List ℕ) (i n q m : ℕ) : Type 0 where
   pub next : drop q s ≡ rest
   pub lines : m ≡ n + line_ends body + 1
 
-unfoldable pub Closes : List ℕ → List ℕ → ℕ → ℕ → Close → Type 0
-Closes s t i n (At q m) = Closed s t i n q m
-Closes s t i n Open = Unit {0}
+unfoldable pub Closes : List ℕ → List ℕ → ℕ → ℕ → Option Close → Type 0
+Closes s t i n (Some c) = Closed s t i n c.next c.lines
+Closes s t i n None = Unit {0}
 
 pub close_sound : (s t : List ℕ) (i n : ℕ) → drop i s ≡ t → Closes s t i n (close_in s t i n)
 unfolding close_in Closes line_ends
@@ -220,8 +219,8 @@ close_sound s (b ∷ t) i n e =
     (λ h. record { body = []; rest = drop (i + 2) s; whole = sym e ∙ pair_told s i 42 47 (omega arith) h; unclosed = unclosed_none; next = refl; lines = omega arith })
     (λ h. more h (close_in s t (i + 1) (counted_of n b)) (close_sound s t (i + 1) (counted_of n b) (next_is s i b t e)))
   where
-    more : pair_at s i 42 47 ≡ false → (c : Close) → Closes s t (i + 1) (counted_of n b) c → Closes s (b ∷ t) i n c
-    more h (At q m) w =
+    more : pair_at s i 42 47 ≡ false → (c : Option Close) → Closes s t (i + 1) (counted_of n b) c → Closes s (b ∷ t) i n c
+    more h (Some c) w =
         let g : drop i s ≡ b ∷ (w.body ++ 42 ∷ 47 ∷ w.rest) = e ∙ ap (λ (l : List ℕ). b ∷ l) w.whole in
         record {
           body = b ∷ w.body;
@@ -231,4 +230,4 @@ close_sound s (b ∷ t) i n e =
           next = w.next;
           lines = omega (arith, w.lines, counted_ends n b w.body);
         }
-    more h Open w = tt
+    more h None w = tt

@@ -13,16 +13,12 @@ use lib.Seq.{drop-cons, drop-drop, drop-append_seam, drop-append-le, take-append
 use borrow.Author.Tests.{lt-ltb, le-ltb, le-leb, ltb-true, ltb-false, eq-eqb, ne_eqb, eqb-true, eqb-false, not-true, not-false}
 use Rattle.base.specs.Pick.{pick}
 use Rattle.rules_parser.specs as specs
-use specs.Fields.{part_of, passes_of, span_of, span_end, pair_at, text, quoted_at, bare_at, field_at, parted_at, ends_at, tail_ok}
+use specs.Fields.{part_of, passes_of, span_of, span_end, pair_at, text, field, quoted_at, bare_at, field_at, parted_at, ends_at, tail_ok, Kind, Blank, NotBlank, NotQuote, NotLf, FieldKind, Quoted, Plain}
 use specs.Grammar.{Shape, Every, BlankByte, NoBlank, Other, Blanks, Gap, Word, InQuotes, CommentLine, Just, Anything, ◌⨾◌}
 use Rattle.rules_parser.proofs.Ahead.{pick_where}
-use specs.declared.fields.Kind.{Kind}
-use specs.declared.fields.Kind.TheVariants.{Blank, NotBlank, NotQuote, NotLf}
-use specs.declared.fields.FieldKind.{FieldKind}
-use specs.declared.fields.FieldKind.TheVariants.{Quoted, Plain}
 use specs.declared.fields.Text.{Text}
 use specs.declared.fields.Field.{Field}
-use specs.declared.fields.Field.TheVariants.{Is, No}
+use Rattle.std.specs.Prelude.{Option, Some, None}
 use Rattle.base.proofs.PickLaws.{pick_true, pick_false, pick_inv}
 
 -- ---- kinds of bytes
@@ -206,9 +202,9 @@ pub record Met (k : FieldKind) (s : List ℕ) (p : ℕ) (t : Text) (q : ℕ) : T
   pub same : (z : List ℕ) → part_of (s ++ z) t ≡ part_of s t
 
 -- a P, where there is a field
-unfoldable pub Where : (Text → ℕ → Type 0) → Field → Type 0
-Where P (Is t q) = P t q
-Where P No = Unit {0}
+unfoldable pub Where : (Text → ℕ → Type 0) → Option Field → Type 0
+Where P (Some f) = P f.text f.next
+Where P None = Unit {0}
 
 -- the text of w bytes from p on
 met : (k : FieldKind) (s : List ℕ) (p q n : ℕ) (w x r : List ℕ) → drop p s ≡ x ++ drop q s → (a : ℕ) → a ≤ length s → drop a s ≡ w ++ r → n ≡ length w
@@ -272,19 +268,19 @@ unfolding parted_at Where Of
 parted_met k s p =
     pick_where (Where (Parted k s p)) _ _ _ (λ h. on (ltb-true _ _ h) (field_at k s (span_end Blank s p)) (field_met k s (span_end Blank s p))) (λ h. tt)
   where
-    on : p < span_end Blank s p → (x : Field) → Where (Met k s (span_end Blank s p)) x → Where (Parted k s p) x
-    on h (Is t q) m =
+    on : p < span_end Blank s p → (x : Option Field) → Where (Met k s (span_end Blank s p)) x → Where (Parted k s p) x
+    on h (Some f) m =
         let w = spanned Blank s p in
         record { from = span_end Blank s p; gap = w.front; place = w.place; blanks = (w.every, λ z. omega (arith, w.end, ap length z)); field = m }
-    on h No m = tt
+    on h None m = tt
 
 -- ---- a field that stands there is told
 
 -- x is what the reader gave for a field whose text is w, with r behind it
-pub record Given (s : List ℕ) (x : Field) (w r : List ℕ) : Type 0 where
+pub record Given (s : List ℕ) (x : Option Field) (w r : List ℕ) : Type 0 where
   pub part : Text
   pub next : ℕ
-  pub is : x ≡ Is part next
+  pub is : x ≡ Some (field part next)
   pub here : part_of s part ≡ w
   pub there : (z : List ℕ) → part_of (s ++ z) part ≡ w
   pub place : drop next s ≡ r

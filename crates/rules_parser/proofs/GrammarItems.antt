@@ -7,21 +7,20 @@ use native.Mathlib.Omega.{arith}
 use lib.ListN.{length, take, drop, take-append-drop}
 use borrow.Author.Tests.{lt-leb}
 use Rattle.rules_parser.specs as specs
-use specs.Fields.{span_end}
+use specs.Fields.{span_end, Blank as blanks}
 use specs.Lines.{line_at}
-use specs.Files.{close_at, next_line, on_close, comment_at, on_line, item_at}
+use specs.Files.{close, close_at, next_line, on_close, comment_at, on_line, item_at}
 use specs.Grammar.{Every, Other, BlankByte, Blanks, OpeningLine, CommentLine, FirstLine, at_end, at_lf, at_cr_lf, Said, said_of, FoundItem, passed, said, found_of, Block, Begins, blank, comment, block, says}
 use Rattle.rules_parser.proofs as own
 use own.Ahead.{pick_where}
 use own.GrammarFields.{Of, Stops, span_is, place_in_lem, place_more, text_ends, plain}
 use own.GrammarLaws.{Means, line_sound, Tells-as, blank_complete, comment_complete, opening_complete, says_complete}
 use own.GrammarEnds.{every_both, cut, lined, line_text, rest_complete, rest_sound, Closes, close_complete, close_sound}
-use specs.declared.fields.Kind.TheVariants.{Blank as blanks}
 use specs.declared.lines.FileKind.{FileKind}
 use specs.declared.lines.Line.{Line}
 use specs.declared.lines.Line.TheVariants as line
 use specs.declared.files.Close.{Close}
-use specs.declared.files.Close.TheVariants.{At, Open}
+use Rattle.std.specs.Prelude.{Option, Some, None}
 use specs.declared.files.Item.{Item}
 use specs.declared.files.Item.TheVariants.{Passed, Tells, Wrong}
 use Rattle.base.proofs.PickLaws.{pick_true, pick_false}
@@ -127,7 +126,7 @@ module _ (k : FileKind) (s : List ℕ) (p : ℕ) (o : p < length s) (n : ℕ) (l
       let d : drop a s ≡ 47 ∷ 42 ∷ r = place_more s p b.lead (47 ∷ 42 ∷ r) b.whole in
       let e : drop (a + 2) s ≡ r = place_more s a (47 ∷ 42 ∷ []) r d in
       let m : ℕ = a + 2 + length b.body + 2 in
-      let g : close_at s (a + 2) ≡ At m n = close_complete s (a + 2) 0 b.body b.behind m n e b.closes refl (omega (arith, b.counts)) in
+      let g : close_at s (a + 2) ≡ Some (close m n) = close_complete s (a + 2) 0 b.body b.behind m n e b.closes refl (omega (arith, b.counts)) in
       let i : drop m s ≡ b.behind = place_more s (a + 2 + length b.body) (42 ∷ 47 ∷ []) b.behind (place_more s (a + 2) b.body (42 ∷ 47 ∷ b.behind) e) in
       let j : FirstLine (drop m s) b.trail left = rw i b.ends in
       rw (opening_item k s p o h.text h.left h.line (opens h.text h.left h.line), q, pick_false _ _ _ (lt-leb _ _ (place_in_lem s a 47 (42 ∷ r) d)), g, pick_true _ _ _ (rest_complete s m b.trail left j b.trails))
@@ -163,8 +162,9 @@ module _ (k : FileKind) (s : List ℕ) (p : ℕ) (l rest : List ℕ) (e : drop p
       m : drop (span_end blanks s p + 2) s ≡ v ++ rest
       m = rw q (place_more s (p + length x) (47 ∷ 42 ∷ []) (v ++ rest) (place_more s p x (47 ∷ 42 ∷ (v ++ rest)) w))
 
-      on : (c : Close) → Closes s (drop (span_end blanks s p + 2) s) (span_end blanks s p + 2) 0 c → Begun k s p (on_close c s)
-      on (At r n) c =
+      on : (c : Option Close) → Closes s (drop (span_end blanks s p + 2) s) (span_end blanks s p + 2) 0 c → Begun k s p (on_close c s)
+      on (Some e) c =
+          let r : ℕ = e.next in
           let j = lined (drop r s) in
           pick_where (Begun k s p) _ _ _
           (λ a. block (record {
@@ -180,7 +180,7 @@ module _ (k : FileKind) (s : List ℕ) (p : ℕ) (l rest : List ℕ) (e : drop p
             trails = rest_sound s r j.text j.left j.line a;
           }))
           (λ a. tt)
-      on Open c = tt
+      on None c = tt
 
 pub item_sound : (k : FileKind) (s : List ℕ) (p : ℕ) → p < length s → Begun k s p (item_at k s p)
 unfolding on_line Begun Means
@@ -201,9 +201,9 @@ item_sound k s p o = rw (item_line k s p o l left f) (go (line_at k (take (p + l
     m : Means k s l (line_at k (take (p + length l) s) p)
     m = rw (here k s p o l left f, joined k s p o l left f) at (line_sound k (take (p + length l) s) (drop (p + length l) s) p)
 
-    go : (v : Line) → Means k s l v → Begun k s p (on_line v s p)
-    go line.Blank h = blank f' h
-    go line.Comment h = comment f' h
-    go line.Opens h = comment_sound k s p l (cut s p l left f).rest (cut s p l left f).whole h
-    go (line.Tells t) h = says f' h
-    go line.Bad h = tt
+    go : (v : Option Line) → Means k s l v → Begun k s p (on_line v s p)
+    go (Some line.Blank) h = blank f' h
+    go (Some line.Comment) h = comment f' h
+    go (Some line.Opens) h = comment_sound k s p l (cut s p l left f).rest (cut s p l left f).whole h
+    go (Some (line.Tells t)) h = says f' h
+    go None h = tt

@@ -14,36 +14,33 @@ use Rattle.texts.specs.Parts.{prefix_of}
 use Rattle.texts.proofs.Laws.{prefix_split}
 use Rattle.languages.specs.Names.{language_name, all_letters, is_letter, common}
 use Rattle.rules_parser.specs as specs
-use specs.Fields.{part_of, span_end, pair_at, ends_at}
+use specs.Fields.{part_of, span_end, pair_at, ends_at, Blank as blanks, FieldKind, Quoted, Plain}
 use specs.Lines.{on_field, text_at, rule_told, last_two, four_at, include_word, include_at, rule_at, guess_told, accept_told, guess_end, guess_at, name_told, name_at, told_at, line_at}
 use specs.Grammar.{Shape, ◌⨾◌, Just, Anything, Every, NoBlank, Blanks, Gap, Word, CommentLine, OpeningLine, Said, rule, include, guess, name, said_of, Printable, TextString, TextWord, RuleLine, IncludeLine, verdict, GuessLine, NameLine, LineSays, is_rule, is_include, is_guess, is_name}
 use Rattle.rules_parser.proofs as own
 use own.Ahead.{pick_where}
 use own.GrammarFields.{Of, Stops, spanned, span_is, place_in_lem, place_more, text_ends, plain, pair_not, pair_told, Written, Where, Met, field_met, Parted, parted_met, Given, Follows, field_given, parted_given, blanks_follow, gap_follows, ends_in, ends_is, ends_told, pair_behind, tail_is, lead, tail_told}
-use specs.declared.fields.Kind.TheVariants.{Blank as blanks}
-use specs.declared.fields.FieldKind.{FieldKind}
-use specs.declared.fields.FieldKind.TheVariants.{Quoted, Plain}
 use specs.declared.fields.Text.{Text}
 use specs.declared.fields.Field.{Field}
-use specs.declared.fields.Field.TheVariants.{Is, No}
+use Rattle.std.specs.Prelude.{Option, Some, None, option_map}
 use specs.declared.lines.FileKind.{FileKind}
 use specs.declared.lines.FileKind.TheVariants.{Languages, Guesses, Rules}
 use specs.declared.lines.Clause.{Clause}
 use specs.declared.lines.Clause.TheVariants.{Rule, Include, Guess, Name}
 use specs.declared.lines.Line.{Line}
-use specs.declared.lines.Line.TheVariants.{Blank, Comment, Opens, Tells, Bad}
+use specs.declared.lines.Line.TheVariants.{Blank, Comment, Opens, Tells}
 use Rattle.base.proofs.PickLaws.{pick_true, pick_false, and_yes, and_inv}
 use Rattle.letters.proofs.OrderLaws.{same_is}
 
 -- ---- sound: s is the file f up to the end of the line l
 
 -- what a told line is, l being its bytes and f the file
-unfoldable pub Means : FileKind → List ℕ → List ℕ → Line → Type 0
-Means k f l Blank = Blanks l
-Means k f l Comment = CommentLine l
-Means k f l Opens = OpeningLine l
-Means k f l (Tells t) = LineSays k l (said_of f t)
-Means k f l Bad = Unit {0}
+unfoldable pub Means : FileKind → List ℕ → List ℕ → Option Line → Type 0
+Means k f l (Some Blank) = Blanks l
+Means k f l (Some Comment) = CommentLine l
+Means k f l (Some Opens) = OpeningLine l
+Means k f l (Some (Tells t)) = LineSays k l (said_of f t)
+Means k f l None = Unit {0}
 
 -- a field, or blanks and a field, in front of what follows
 met_then : {k : FieldKind} {s : List ℕ} {p : ℕ} {t : Text} {q : ℕ} {A B : Shape} → (m : Met k s p t q) → A m.written → B (drop q s)
@@ -56,14 +53,14 @@ parted_then {s} m a b = (m.gap, drop m.from s, m.place, m.blanks, met_then m.fie
 
 -- the line from p on, whose first text stands at q
 module _ (s z : List ℕ) (p q : ℕ) (x : List ℕ) (e : drop p s ≡ x ++ drop q s) (b : Blanks x) where
-  abbrev M : FileKind → Line → Type 0
-  M k = Means k (s ++ z) (drop p s)
+  abbrev M : FileKind → Option Clause → Type 0
+  M k c = Means k (s ++ z) (drop p s) (option_map Tells c)
 
-  on_field_lem : (k : FileKind) (P : Text → ℕ → Type 0) (y : Field) (c : Text → ℕ → Line) → Where P y → ((t : Text) (r : ℕ) → P t r → M k (c t r))
+  on_field_lem : (k : FileKind) (P : Text → ℕ → Type 0) (y : Option Field) (c : Text → ℕ → Option Clause) → Where P y → ((t : Text) (r : ℕ) → P t r → M k (c t r))
       → M k (on_field y c)
   unfolding on_field Where Means
-  on_field_lem k P (Is t r) c m h = h t r m
-  on_field_lem k P No c m h = tt
+  on_field_lem k P (Some f) c m h = h f.text f.next m
+  on_field_lem k P None c m h = tt
 
   four_sound : M Rules (four_at s q)
   unfolding four_at last_two rule_told text_at Means said_of Written
@@ -154,7 +151,7 @@ no_pair s p a b n f (x, y, e, h, (u, v, d, g, o)) =
     false≢true (sym f ∙ (pair_behind s p a b x v (e ∙ rw (d, g) refl) h n).1)
 
 told_sound : (k : FileKind) (s z : List ℕ) (p : ℕ) → pair_at s (span_end blanks s p) 47 47 ≡ false → pair_at s (span_end blanks s p) 47 42 ≡ false
-    → Means k (s ++ z) (drop p s) (told_at k s (span_end blanks s p))
+    → Means k (s ++ z) (drop p s) (option_map Tells (told_at k s (span_end blanks s p)))
 unfolding told_at Of
 told_sound Languages s z p c o = let w = spanned blanks s p in name_sound s z p (span_end blanks s p) w.front w.place w.every
 told_sound Guesses s z p c o =
@@ -172,11 +169,11 @@ line_sound k s z p =
 
 -- ---- complete
 
-pub blank_complete : (k : FileKind) (s : List ℕ) (p : ℕ) → Blanks (drop p s) → line_at k s p ≡ Blank
+pub blank_complete : (k : FileKind) (s : List ℕ) (p : ℕ) → Blanks (drop p s) → line_at k s p ≡ Some Blank
 unfolding line_at
 blank_complete k s p h = pick_true _ _ _ (le-leb _ _ (ends_in s p h))
 
-pub comment_complete : (k : FileKind) (s : List ℕ) (p : ℕ) → CommentLine (drop p s) → line_at k s p ≡ Comment
+pub comment_complete : (k : FileKind) (s : List ℕ) (p : ℕ) → CommentLine (drop p s) → line_at k s p ≡ Some Comment
 unfolding line_at
 comment_complete k s p (x, y, e, h, (u, v, d, g, o)) =
     let w = pair_behind s p 47 47 x v (e ∙ rw (d, g) refl) h (plain 47 (omega arith)) in
@@ -190,28 +187,34 @@ not_both s q true e f =
     let no_way : ◌≡◌ {A = ℕ} 47 42 = cc in
     absurd (omega arith)
 
-pub opening_complete : (k : FileKind) (s : List ℕ) (p : ℕ) → OpeningLine (drop p s) → line_at k s p ≡ Opens
+pub opening_complete : (k : FileKind) (s : List ℕ) (p : ℕ) → OpeningLine (drop p s) → line_at k s p ≡ Some Opens
 unfolding line_at
 opening_complete k s p (x, y, e, h, (u, v, d, g, o)) =
     let w = pair_behind s p 47 42 x v (e ∙ rw (d, g) refl) h (plain 47 (omega arith)) in
     pick_false _ _ _ (lt-leb _ _ w.0) ∙ pick_false _ _ _ (not_both s _ _ refl w.1) ∙ pick_true _ _ _ w.1
 
 -- the line is told, and says x in the file f
-pub record Tells-as (f : List ℕ) (l : Line) (x : Said) : Type 0 where
+pub record Tells-as (f : List ℕ) (l : Option Line) (x : Said) : Type 0 where
   pub told : Clause
-  pub is : l ≡ Tells told
+  pub is : l ≡ Some (Tells told)
   pub same : said_of f told ≡ x
 
+-- the same of what its first text begins
+record Told-as (f : List ℕ) (c : Option Clause) (x : Said) : Type 0 where
+  told : Clause
+  is : c ≡ Some told
+  same : said_of f told ≡ x
+
 -- a field that stands there, and what is told behind it
-on_given : {f s w r : List ℕ} {x : Field} {y : Said} {c : Text → ℕ → Line} → Given s x w r
-    → ((t : Text) (q : ℕ) → part_of s t ≡ w → ((z : List ℕ) → part_of (s ++ z) t ≡ w) → drop q s ≡ r → Tells-as f (c t q) y)
-    → Tells-as f (on_field x c) y
+on_given : {f s w r : List ℕ} {x : Option Field} {y : Said} {c : Text → ℕ → Option Clause} → Given s x w r
+    → ((t : Text) (q : ℕ) → part_of s t ≡ w → ((z : List ℕ) → part_of (s ++ z) t ≡ w) → drop q s ≡ r → Told-as f (c t q) y)
+    → Told-as f (on_field x c) y
 unfolding on_field
 on_given {c} g h =
     let m = h g.part g.next g.here g.there g.place in
     record { told = m.told; is = rw g.is m.is; same = m.same }
 
-on_true : {f : List ℕ} {y : Said} {t : Bool} {a : Line} (b : Line) → t ≡ true → Tells-as f a y → Tells-as f (pick t a b) y
+on_true : {f : List ℕ} {y : Said} {t : Bool} {a : Option Clause} (b : Option Clause) → t ≡ true → Told-as f a y → Told-as f (pick t a b) y
 on_true b e m = record { told = m.told; is = pick_true _ _ _ e ∙ m.is; same = m.same }
 
 text_good : (s : List ℕ) (t : Text) (w : List ℕ) → part_of s t ≡ w → Printable w → text_at s t ≡ true
@@ -220,7 +223,7 @@ text_good s t w e h = rw e h
 
 module _ (s z : List ℕ) (q : ℕ) (y : List ℕ) (d : drop q s ≡ y) where
   four_complete : (p l r e : List ℕ) → (TextString p ⨾ Gap ⨾ TextString l ⨾ Gap ⨾ TextString r ⨾ Gap ⨾ TextString e ⨾ λ t. Blanks t ⊎ CommentLine t) y
-      → Tells-as (s ++ z) (four_at s q) (rule p l r e)
+      → Told-as (s ++ z) (four_at s q) (rule p l r e)
   unfolding four_at last_two rule_told said_of Written Follows
   four_complete p l r e (x₁, y₁, d₁, (h₁, t₁), (g₂, w₂, f₂, k₂, (x₂, y₂, d₂, (h₂, t₂), (g₃, w₃, f₃, k₃, (x₃, y₃, d₃, (h₃, t₃), (g₄, w₄, f₄, k₄, (x₄, y₄, d₄, (h₄, t₄), o))))))) =
       on_given (field_given Quoted s q p x₁ y₁ (d ∙ d₁) h₁ tt) λ a₁ q₁ i₁ j₁ n₁.
@@ -231,27 +234,27 @@ module _ (s z : List ℕ) (q : ℕ) (y : List ℕ) (d : drop q s ≡ y) where
       (on_true _ (and_yes _ _ (text_good s a₁ _ i₁ t₁) (and_yes _ _ (text_good s a₂ _ i₂ t₂) (and_yes _ _ (text_good s a₃ _ i₃ t₃) (text_good s a₄ _ i₄ t₄))))
       (record { told = Rule a₁ a₂ a₃ a₄; is = refl; same = rw (j₁ z, j₂ z, j₃ z, j₄ z) refl }))
 
-  include_complete : (n : List ℕ) → (Just include_word ⨾ Gap ⨾ Word n ⨾ Blanks) y → Tells-as (s ++ z) (include_at s (q + 8)) (include n)
+  include_complete : (n : List ℕ) → (Just include_word ⨾ Gap ⨾ Word n ⨾ Blanks) y → Told-as (s ++ z) (include_at s (q + 8)) (include n)
   unfolding include_at said_of Written
   include_complete n (x₁, y₁, d₁, h₁, (g₂, w₂, f₂, k₂, (x₂, y₂, d₂, h₂, o))) =
       let m : drop (q + 8) s ≡ y₁ = place_more s q include_word y₁ (d ∙ d₁ ∙ ap (λ (l : List ℕ). l ++ y₁) h₁) in
       on_given (parted_given Plain s (q + 8) g₂ w₂ n x₂ y₂ (m ∙ f₂) k₂ d₂ h₂ (blanks_follow y₂ o)) λ a₁ q₁ i₁ j₁ n₁.
       on_true _ (ends_is s q₁ (rw n₁ o)) (record { told = Include a₁; is = refl; same = rw (j₁ z) refl })
 
-  name_complete : (n : List ℕ) → language_name n ≡ true → (Word n ⨾ Blanks) y → Tells-as (s ++ z) (name_at s q) (name n)
+  name_complete : (n : List ℕ) → language_name n ≡ true → (Word n ⨾ Blanks) y → Told-as (s ++ z) (name_at s q) (name n)
   unfolding name_at name_told said_of Written
   name_complete n h (x₁, y₁, d₁, h₁, o) =
       on_given (field_given Plain s q n x₁ y₁ (d ∙ d₁) h₁ (blanks_follow y₁ o)) λ a₁ q₁ i₁ j₁ n₁.
       on_true _ (ends_is s q₁ (rw n₁ o)) (on_true _ (rw i₁ h) (record { told = Name a₁; is = refl; same = rw (j₁ z) refl }))
 
-  accepted : (v : Bool) (f : List ℕ) (a b c : Text) (m : Said) → part_of s c ≡ verdict v → Tells-as f (guess_told s a b v) m
-      → Tells-as f (accept_told s a b c) m
+  accepted : (v : Bool) (f : List ℕ) (a b c : Text) (m : Said) → part_of s c ≡ verdict v → Told-as f (guess_told s a b v) m
+      → Told-as f (accept_told s a b c) m
   unfolding accept_told same_text pick and
   accepted true f a b c m e w = rw e w
   accepted false f a b c m e w = rw e w
 
   guess_complete : (p n : List ℕ) (v : Bool) → (TextWord p ⨾ Gap ⨾ TextWord n ⨾ Gap ⨾ Word (verdict v) ⨾ Blanks) y
-      → Tells-as (s ++ z) (guess_at s q) (guess p n v)
+      → Told-as (s ++ z) (guess_at s q) (guess p n v)
   unfolding guess_at guess_end guess_told said_of Written
   guess_complete p n v (x₁, y₁, d₁, (h₁, t₁), (g₂, w₂, f₂, k₂, (x₂, y₂, d₂, (h₂, t₂), (g₃, w₃, f₃, k₃, (x₃, y₃, d₃, h₃, o))))) =
       on_given (field_given Plain s q p x₁ y₁ (d ∙ d₁) h₁ (gap_follows g₂ w₂ y₁ f₂ k₂)) λ a₁ q₁ i₁ j₁ n₁.
@@ -262,20 +265,20 @@ module _ (s z : List ℕ) (q : ℕ) (y : List ℕ) (d : drop q s ≡ y) where
 
 -- the first text stands behind x, and is no comment
 told_at_lem : (k : FileKind) (s : List ℕ) (p : ℕ) (x : List ℕ) (c : ℕ) (y : List ℕ) → drop p s ≡ x ++ c ∷ y → Blanks x → NoBlank c
-    → pair_at s (p + length x) 47 47 ≡ false → pair_at s (p + length x) 47 42 ≡ false → line_at k s p ≡ told_at k s (p + length x)
+    → pair_at s (p + length x) 47 47 ≡ false → pair_at s (p + length x) 47 42 ≡ false → line_at k s p ≡ option_map Tells (told_at k s (p + length x))
 unfolding line_at Of Stops
 told_at_lem k s p x c y e h n f g =
     let q : span_end blanks s p ≡ p + length x = span_is s p blanks x (c ∷ y) e h (text_ends c n) in
     rw q (pick_false _ _ _ (lt-leb _ _ (place_in_lem s (p + length x) c y (place_more s p x (c ∷ y) e))) ∙ pick_false _ _ _ f ∙ pick_false _ _ _ g)
 
 told_other : (k : FileKind) (s : List ℕ) (p : ℕ) (x : List ℕ) (c : ℕ) (y : List ℕ) → drop p s ≡ x ++ c ∷ y → Blanks x → NoBlank c → (c ≡ 47 → ⊥)
-    → line_at k s p ≡ told_at k s (p + length x)
+    → line_at k s p ≡ option_map Tells (told_at k s (p + length x))
 told_other k s p x c y e h n o =
     let d = place_more s p x (c ∷ y) e in
     told_at_lem k s p x c y e h n (pair_not s (p + length x) 47 47 c y d o) (pair_not s (p + length x) 47 42 c y d o)
 
-told_by : {f : List ℕ} {l m : Line} {x : Said} → l ≡ m → Tells-as f m x → Tells-as f l x
-told_by e w = record { told = w.told; is = e ∙ w.is; same = w.same }
+told_by : {f : List ℕ} {l : Option Line} {m : Option Clause} {x : Said} → l ≡ option_map Tells m → Told-as f m x → Tells-as f l x
+told_by e w = record { told = w.told; is = e ∙ ap (option_map Tells) w.is; same = w.same }
 
 -- a name begins with a letter
 slash_name : (w : List ℕ) → pick (same_text (47 ∷ w) common) false (all_letters (47 ∷ w)) ≡ false
@@ -296,7 +299,7 @@ module _ (s z : List ℕ) (p : ℕ) where
       let m : y ≡ 34 ∷ v = d₁ ∙ ap (λ (v : List ℕ). v ++ y₁) h₁.0 in
       let j : drop (p + length x) s ≡ y = place_more s p x y d in
       let f : prefix_of include_word (drop (p + length x) s) ≡ false = rw (j ∙ m) refl in
-      told_by (told_other Rules s p x 34 v (d ∙ ap (λ (v : List ℕ). x ++ v) m) h (plain 34 (omega arith)) (λ n. omega arith) ∙ pick_false _ _ _ (lt-leb _ _ (place_in_lem s _ 34 v (j ∙ m))) ∙ pick_false _ _ _ f)
+      told_by (told_other Rules s p x 34 v (d ∙ ap (λ (v : List ℕ). x ++ v) m) h (plain 34 (omega arith)) (λ n. omega arith) ∙ ap (option_map Tells) (pick_false _ _ _ (lt-leb _ _ (place_in_lem s _ 34 v (j ∙ m))) ∙ pick_false _ _ _ f))
       (four_complete s z (p + length x) y j a l r e (x₁, y₁, d₁, (h₁, t₁), o))
 
   include_said : (n : List ℕ) → IncludeLine n (drop p s) → Tells-as (s ++ z) (line_at Rules s p) (include n)
@@ -306,7 +309,7 @@ module _ (s z : List ℕ) (p : ℕ) where
       let v : List ℕ = drop 1 include_word ++ y₁ in
       let j : drop (p + length x) s ≡ y = place_more s p x y d in
       let f : prefix_of include_word (drop (p + length x) s) ≡ true = rw (j ∙ m) refl in
-      told_by (told_other Rules s p x 35 v (d ∙ ap (λ (v : List ℕ). x ++ v) m) h (plain 35 (omega arith)) (λ n. omega arith) ∙ pick_false _ _ _ (lt-leb _ _ (place_in_lem s _ 35 v (j ∙ m))) ∙ pick_true _ _ _ f)
+      told_by (told_other Rules s p x 35 v (d ∙ ap (λ (v : List ℕ). x ++ v) m) h (plain 35 (omega arith)) (λ n. omega arith) ∙ ap (option_map Tells) (pick_false _ _ _ (lt-leb _ _ (place_in_lem s _ 35 v (j ∙ m))) ∙ pick_true _ _ _ f))
       (include_complete s z (p + length x) y j n (x₁, y₁, d₁, h₁, o))
 
   name_said : (n : List ℕ) → NameLine n (drop p s) → language_name n ≡ true → Tells-as (s ++ z) (line_at Languages s p) (name n)
@@ -347,6 +350,6 @@ pub one_saying : (k : FileKind) (l : List ℕ) (x y : Said) → LineSays k l x �
 one_saying k l x y v w =
     let a : Tells-as (l ++ []) (line_at k l 0) x = says_complete l [] 0 l refl v in
     let b : Tells-as (l ++ []) (line_at k l 0) y = says_complete l [] 0 l refl w in
-    let e : Tells a.told ≡ Tells b.told = sym a.is ∙ b.is in
+    let e : Some (Tells a.told) ≡ Some (Tells b.told) = sym a.is ∙ b.is in
     let f : a.told ≡ b.told = cc in
     sym a.same ∙ ap (said_of (l ++ [])) f ∙ b.same

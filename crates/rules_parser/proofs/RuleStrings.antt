@@ -11,23 +11,20 @@ use borrow.Author.Tests.{lt-ltb, le-ltb, ltb-true, eqb-true}
 use Rattle.base.specs.Pick.{pick}
 use Rattle.base.proofs.PickLaws.{pick_true, pick_false, pick_all}
 use Rattle.rules_parser.specs as specs
-use specs.Fields.{span_end, text, quoted_at, field_at, parted_at, passes_of}
+use specs.Fields.{span_end, text, quoted_at, field_at, parted_at, passes_of, Kind, Blank, NotQuote, Quoted}
 use specs.Lines.{on_field, rule_told, last_two, four_at, include_at, rule_at, told_at, line_at}
 use specs.Files.{text_end, close_at, on_close, comment_at, on_line, item_at}
 use specs.Grammar.{Every}
 use specs.InnerContracts.{behind, string_from, string_after, strings_from}
-use specs.declared.fields.Kind.{Kind}
-use specs.declared.fields.Kind.TheVariants.{Blank, NotQuote}
-use specs.declared.fields.FieldKind.TheVariants.{Quoted}
 use specs.declared.fields.Text.{Text}
 use specs.declared.fields.Field.{Field}
-use specs.declared.fields.Field.TheVariants.{Is, No}
+use Rattle.std.specs.Prelude.{Option, Some, None, option_map}
 use specs.declared.lines.FileKind.TheVariants.{Rules}
+use specs.declared.lines.Clause.{Clause}
 use specs.declared.lines.Clause.TheVariants.{Rule, Include, Guess, Name}
 use specs.declared.lines.Line.{Line}
 use specs.declared.lines.Line.TheVariants as line
 use specs.declared.files.Close.{Close}
-use specs.declared.files.Close.TheVariants.{At, Open}
 use specs.declared.files.Item.{Item}
 use specs.declared.files.Item.TheVariants as item
 use Rattle.rules_parser.proofs as own
@@ -106,27 +103,32 @@ module _ (l z : List ℕ) where
   parted_next p = pick_where (Where (Next (l ++ z) p)) _ _ _ (λ h. field_next p) (λ h. tt)
 
 -- s has the strings of the line from p on, where that is a rule
-unfoldable Lined : List ℕ → ℕ → Line → Type 0
-Lined s p (line.Tells (Rule a b c d)) = record { pattern = a; left = b; right = c; expression = d } ≡ strings_from s p
-Lined s p (line.Tells (Include t)) = Unit {0}
-Lined s p (line.Tells (Guess a b v)) = Unit {0}
-Lined s p (line.Tells (Name t)) = Unit {0}
-Lined s p line.Blank = Unit {0}
-Lined s p line.Comment = Unit {0}
-Lined s p line.Opens = Unit {0}
-Lined s p line.Bad = Unit {0}
+unfoldable Lined : List ℕ → ℕ → Option Clause → Type 0
+Lined s p (Some (Rule a b c d)) = record { pattern = a; left = b; right = c; expression = d } ≡ strings_from s p
+Lined s p (Some (Include t)) = Unit {0}
+Lined s p (Some (Guess a b v)) = Unit {0}
+Lined s p (Some (Name t)) = Unit {0}
+Lined s p None = Unit {0}
+
+-- the same of any line
+unfoldable LineHas : List ℕ → ℕ → Option Line → Type 0
+LineHas s p (Some (line.Tells t)) = Lined s p (Some t)
+LineHas s p (Some line.Blank) = Unit {0}
+LineHas s p (Some line.Comment) = Unit {0}
+LineHas s p (Some line.Opens) = Unit {0}
+LineHas s p None = Unit {0}
 
 module _ (s : List ℕ) (p : ℕ) where
   -- one string after the other
-  on_next_lem : (q : ℕ) (x : Field) (f : Text → ℕ → Line) → Where (Next s q) x → ((t : Text) (e : ℕ) → Next s q t e → Lined s p (f t e)) → Lined s p (on_field x f)
+  on_next_lem : (q : ℕ) (x : Option Field) (f : Text → ℕ → Option Clause) → Where (Next s q) x → ((t : Text) (e : ℕ) → Next s q t e → Lined s p (f t e)) → Lined s p (on_field x f)
   unfolding on_field Where Lined
-  on_next_lem q (Is t e) f w g = g t e w
-  on_next_lem q No f w g = tt
+  on_next_lem q (Some x) f w g = g x.text x.next w
+  on_next_lem q None f w g = tt
 
-  on_include : (x : Field) (t : Text → ℕ → Bool) → Lined s p (on_field x λ n e. pick (t n e) (line.Tells (Include n)) line.Bad)
+  on_include : (x : Option Field) (t : Text → ℕ → Bool) → Lined s p (on_field x λ n e. pick (t n e) (Some (Include n)) None)
   unfolding on_field Lined
-  on_include (Is n e) t = pick_all (Lined s p) _ _ _ tt tt
-  on_include No t = tt
+  on_include (Some x) t = pick_all (Lined s p) _ _ _ tt tt
+  on_include None t = tt
 
 module _ (l z : List ℕ) (p : ℕ) where
   four_lined : Lined (l ++ z) p (four_at l (span_end Blank l p))
@@ -137,39 +139,49 @@ module _ (l z : List ℕ) (p : ℕ) where
       pick_all (Lined (l ++ z) p) _ _ _
       (pick_all (Lined (l ++ z) p) _ _ _ (strings_are (l ++ z) p a b c d u.0 (rw u.1 at v.0) (rw v.1 at w.0) (rw w.1 at x.0)) tt) tt))))
 
-  line_lined : Lined (l ++ z) p (line_at Rules l p)
-  unfolding line_at told_at rule_at include_at Lined
+  told_lined : Lined (l ++ z) p (told_at Rules l (span_end Blank l p))
+  unfolding told_at rule_at include_at Lined
+  told_lined =
+      let P : Option Clause → Type 0 = Lined (l ++ z) p in
+      pick_all P _ _ _ tt (pick_all P _ _ _ (on_include (l ++ z) p _ _) four_lined)
+
+  line_lined : LineHas (l ++ z) p (line_at Rules l p)
+  unfolding line_at Lined LineHas
   line_lined =
-      let P : Line → Type 0 = Lined (l ++ z) p in
-      pick_all P _ _ _ tt (pick_all P _ _ _ tt (pick_all P _ _ _ tt (pick_all P _ _ _ tt (pick_all P _ _ _ (on_include (l ++ z) p _ _) four_lined))))
+      let P : Option Line → Type 0 = LineHas (l ++ z) p in
+      pick_all P _ _ _ tt (pick_all P _ _ _ tt (pick_all P _ _ _ tt (on (told_at Rules l (span_end Blank l p)) told_lined)))
+    where
+      on : (c : Option Clause) → Lined (l ++ z) p c → LineHas (l ++ z) p (option_map line.Tells c)
+      on (Some c) w = w
+      on None w = tt
 
 -- ---- and so of an item
 unfoldable Itemed : List ℕ → ℕ → Item → Type 0
 Itemed s p (item.Passed k n) = Unit {0}
-Itemed s p (item.Tells t n) = Lined s p (line.Tells t)
+Itemed s p (item.Tells t n) = Lined s p (Some t)
 Itemed s p item.Wrong = Unit {0}
 
 comment_itemed : (s : List ℕ) (p : ℕ) → Itemed s p (comment_at s p)
 unfolding comment_at on_close Itemed
 comment_itemed s p = pick_all (Itemed s p) _ _ _ tt (on (close_at s (span_end Blank s p + 2)))
   where
-    on : (c : Close) → Itemed s p (on_close c s)
-    on (At q n) = pick_all (Itemed s p) _ _ _ tt tt
-    on Open = tt
+    on : (c : Option Close) → Itemed s p (on_close c s)
+    on (Some c) = pick_all (Itemed s p) _ _ _ tt tt
+    on None = tt
 
-line_itemed : (s : List ℕ) (p : ℕ) (l : Line) → Lined s p l → Itemed s p (on_line l s p)
-unfolding on_line Itemed
-line_itemed s p (line.Tells t) w = w
-line_itemed s p line.Opens w = comment_itemed s p
-line_itemed s p line.Blank w = tt
-line_itemed s p line.Comment w = tt
-line_itemed s p line.Bad w = tt
+line_itemed : (s : List ℕ) (p : ℕ) (l : Option Line) → LineHas s p l → Itemed s p (on_line l s p)
+unfolding on_line Itemed LineHas
+line_itemed s p (Some (line.Tells t)) w = w
+line_itemed s p (Some line.Opens) w = comment_itemed s p
+line_itemed s p (Some line.Blank) w = tt
+line_itemed s p (Some line.Comment) w = tt
+line_itemed s p None w = tt
 
 item_itemed : (s : List ℕ) (p : ℕ) → Itemed s p (item_at Rules s p)
 unfolding item_at Itemed
 item_itemed s p =
     let n : ℕ = text_end s p in
-    let w : Lined s p (line_at Rules (take n s) p) = rw (take-append-drop n s) at (line_lined (take n s) (drop n s) p) in
+    let w : LineHas s p (line_at Rules (take n s) p) = rw (take-append-drop n s) at (line_lined (take n s) (drop n s) p) in
     pick_all (Itemed s p) _ _ _ tt (line_itemed s p _ w)
 
 pub rule_strings : (s : List ℕ) (p : ℕ) (a b c d : Text) (n : ℕ) → item_at Rules s p ≡ item.Tells (Rule a b c d) n

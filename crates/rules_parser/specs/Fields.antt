@@ -1,13 +1,20 @@
 -- The fields of a line, by their places in it (01, Rule files and includes).
-use Rattle.std.specs.Prelude.{ℕ, suc, ◌+◌, ◌-◌, Bool, true, false, not, List, [], ◌∷◌, ltb, leb, eqb, length, get_or, take, drop}
+use Rattle.std.specs.Prelude.{ℕ, suc, ◌+◌, ◌-◌, Bool, true, false, not, List, [], ◌∷◌, ltb, leb, eqb, length, get_or, take, drop, Option, Some, None}
 use Rattle.base.specs.Pick.{pick}
-use Rattle.rules_parser.specs.declared.fields.Kind.{Kind}
-use Rattle.rules_parser.specs.declared.fields.Kind.TheVariants.{Blank, NotBlank, NotQuote, NotLf}
-use Rattle.rules_parser.specs.declared.fields.FieldKind.{FieldKind}
-use Rattle.rules_parser.specs.declared.fields.FieldKind.TheVariants.{Quoted, Plain}
 use Rattle.rules_parser.specs.declared.fields.Text.{Text}
 use Rattle.rules_parser.specs.declared.fields.Field.{Field}
-use Rattle.rules_parser.specs.declared.fields.Field.TheVariants.{Is, No}
+
+-- what a run of bytes consists of
+pub data Kind : Type 0 where
+  Blank : Kind
+  NotBlank : Kind
+  NotQuote : Kind
+  NotLf : Kind
+
+-- how a field is written
+pub data FieldKind : Type 0 where
+  Quoted : FieldKind
+  Plain : FieldKind
 
 -- the part of s that a text is, as far as s goes
 unfoldable pub part_of : List ℕ → Text → List ℕ
@@ -39,24 +46,28 @@ pair_at s p a b = pick (ltb p (length s)) (pick (eqb (get_or s p 0) a) (eqb (get
 abbrev pub text : ℕ → ℕ → Text
 text a n = record { start = a; len = n }
 
+-- a text and the place behind it
+abbrev pub field : Text → ℕ → Field
+field t q = record { text = t; next = q }
+
 -- a quote at p, and all up to the next one
-unfoldable pub quoted_at : List ℕ → ℕ → Field
-quoted_at s p = pick (ltb p (length s)) (pick (eqb (get_or s p 0) 34) (closed (span_end NotQuote s (p + 1))) No) No
+unfoldable pub quoted_at : List ℕ → ℕ → Option Field
+quoted_at s p = pick (ltb p (length s)) (pick (eqb (get_or s p 0) 34) (closed (span_end NotQuote s (p + 1))) None) None
   where
-    closed : ℕ → Field
-    closed e = pick (ltb e (length s)) (Is (text (p + 1) (e - (p + 1))) (e + 1)) No
+    closed : ℕ → Option Field
+    closed e = pick (ltb e (length s)) (Some (field (text (p + 1) (e - (p + 1))) (e + 1))) None
 
 -- one byte or more up to the next blank
-unfoldable pub bare_at : List ℕ → ℕ → Field
-bare_at s p = pick (ltb p (span_end NotBlank s p)) (Is (text p (span_end NotBlank s p - p)) (span_end NotBlank s p)) No
+unfoldable pub bare_at : List ℕ → ℕ → Option Field
+bare_at s p = pick (ltb p (span_end NotBlank s p)) (Some (field (text p (span_end NotBlank s p - p)) (span_end NotBlank s p))) None
 
-unfoldable pub field_at : FieldKind → List ℕ → ℕ → Field
+unfoldable pub field_at : FieldKind → List ℕ → ℕ → Option Field
 field_at Quoted s p = quoted_at s p
 field_at Plain s p = bare_at s p
 
 -- a field behind one blank or more
-unfoldable pub parted_at : FieldKind → List ℕ → ℕ → Field
-parted_at k s p = pick (ltb p (skip s p)) (field_at k s (skip s p)) No
+unfoldable pub parted_at : FieldKind → List ℕ → ℕ → Option Field
+parted_at k s p = pick (ltb p (skip s p)) (field_at k s (skip s p)) None
 
 -- "blanks may lead or end a line"
 unfoldable pub ends_at : List ℕ → ℕ → Bool

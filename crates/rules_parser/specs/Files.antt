@@ -1,26 +1,28 @@
 -- The lines of a file, and comments that run over them (01, Rule files and includes).
-use Rattle.std.specs.Prelude.{ℕ, zero, suc, ◌+◌, ◌-◌, Bool, List, [], ◌∷◌, ltb, leb, eqb, length, get_or, take, drop}
+use Rattle.std.specs.Prelude.{ℕ, zero, suc, ◌+◌, ◌-◌, Bool, List, [], ◌∷◌, ltb, leb, eqb, length, get_or, take, drop, Option, Some, None}
 use Rattle.base.specs.Pick.{pick}
-use Rattle.rules_parser.specs.Fields.{span_end, skip, pair_at}
+use Rattle.rules_parser.specs.Fields.{span_end, skip, pair_at, NotLf}
 use Rattle.rules_parser.specs.Lines.{line_at}
-use Rattle.rules_parser.specs.declared.fields.Kind.TheVariants.{NotLf}
 use Rattle.rules_parser.specs.declared.lines.FileKind.{FileKind}
 use Rattle.rules_parser.specs.declared.lines.Line.{Line}
 use Rattle.rules_parser.specs.declared.lines.Line.TheVariants as line
 use Rattle.rules_parser.specs.declared.files.Close.{Close}
-use Rattle.rules_parser.specs.declared.files.Close.TheVariants.{At, Open}
 use Rattle.rules_parser.specs.declared.files.Item.{Item}
 use Rattle.rules_parser.specs.declared.files.Item.TheVariants.{Passed, Tells, Wrong}
+
+-- the place behind a comment's end, and the lines that it takes
+abbrev pub close : ℕ → ℕ → Close
+close q n = record { next = q; lines = n }
 
 unfoldable pub counted_of : ℕ → ℕ → ℕ
 counted_of n b = pick (eqb b 10) (n + 1) n
 
 -- behind the first */ of s from place i on, t being what is left there, and the lines up to it, n line ends having been passed
-unfoldable pub close_in : List ℕ → List ℕ → ℕ → ℕ → Close
-close_in s [] i n = Open
-close_in s (b ∷ t) i n = pick (pair_at s i 42 47) (At (i + 2) (n + 1)) (close_in s t (i + 1) (counted_of n b))
+unfoldable pub close_in : List ℕ → List ℕ → ℕ → ℕ → Option Close
+close_in s [] i n = None
+close_in s (b ∷ t) i n = pick (pair_at s i 42 47) (Some (close (i + 2) (n + 1))) (close_in s t (i + 1) (counted_of n b))
 
-unfoldable pub close_at : List ℕ → ℕ → Close
+unfoldable pub close_at : List ℕ → ℕ → Option Close
 close_at s p = close_in s (drop p s) p 0
 
 -- "Lines end at LF or the file's end"
@@ -42,20 +44,20 @@ unfoldable pub rest_blank : List ℕ → ℕ → Bool
 rest_blank s p = leb (text_end s p) (skip s p)
 
 -- "closed by `*/` .. as last text of that or a later line"; the first `*/` closes
-unfoldable pub on_close : Close → List ℕ → Item
-on_close (At q n) s = pick (rest_blank s q) (Passed n (next_line s q)) Wrong
-on_close Open s = Wrong
+unfoldable pub on_close : Option Close → List ℕ → Item
+on_close (Some c) s = pick (rest_blank s c.next) (Passed c.lines (next_line s c.next)) Wrong
+on_close None s = Wrong
 
 -- the comment that the first text from p on opens; its two bytes are passed: "not sharing its star"
 unfoldable pub comment_at : List ℕ → ℕ → Item
 comment_at s p = pick (leb (length s) (skip s p)) Wrong (on_close (close_at s (skip s p + 2)) s)
 
-unfoldable pub on_line : Line → List ℕ → ℕ → Item
-on_line line.Blank s p = Passed 1 (next_line s p)
-on_line line.Comment s p = Passed 1 (next_line s p)
-on_line line.Opens s p = comment_at s p
-on_line (line.Tells t) s p = Tells t (next_line s p)
-on_line line.Bad s p = Wrong
+unfoldable pub on_line : Option Line → List ℕ → ℕ → Item
+on_line (Some line.Blank) s p = Passed 1 (next_line s p)
+on_line (Some line.Comment) s p = Passed 1 (next_line s p)
+on_line (Some line.Opens) s p = comment_at s p
+on_line (Some (line.Tells t)) s p = Tells t (next_line s p)
+on_line None s p = Wrong
 
 -- what begins at p, the beginning of a line; there is none at the end
 unfoldable pub item_at : FileKind → List ℕ → ℕ → Item

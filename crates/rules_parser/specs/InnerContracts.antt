@@ -1,17 +1,24 @@
 -- What only contracts and proofs of this crate's functions use.
 use Rattle.rules_parser.specs.declared.lines.FileKind.{FileKind}
-use Rattle.std.specs.Prelude.{List, ℕ, zero, suc, ◌+◌, ◌-◌, ltb, length}
+use Rattle.std.specs.Prelude.{List, ℕ, zero, suc, ◌+◌, ◌-◌, ◌<◌, ◌≡◌, Bool, ltb, length, Option, Some, None}
 use Rattle.base.specs.Pick.{pick}
 use Rattle.rules_parser.specs.declared.files.Item.{Item}
 use Rattle.rules_parser.specs.Files.{items_from}
-use Rattle.rules_parser.specs.Fields.{span_end, text}
-use Rattle.rules_parser.specs.declared.fields.Kind.TheVariants.{NotQuote}
+use Rattle.rules_parser.specs.Fields.{Kind, NotQuote, passes_of, span_end, skip, text}
 use Rattle.rules_parser.specs.declared.fields.Text.{Text}
 use Rattle.rules_parser.specs.declared.known.Strings.{Strings}
 
 -- the same with just that fuel
 abbrev pub items_at : FileKind → List ℕ → ℕ → List Item
 items_at kind s p = items_from (length s - p) kind s p
+
+-- where a closure answers, its answer is whether the byte is of the kind
+abbrev pub PassesKind : (ℕ → Bool → Type 0) → Kind → Type 0
+PassesKind answers k = (b : ℕ) (r : Bool) → b < 256 → answers b r → r ≡ passes_of k b
+
+-- behind one blank or more
+unfoldable pub gap_at : List ℕ → ℕ → Option ℕ
+gap_at s p = pick (ltb p (skip s p)) (Some (skip s p)) None
 
 -- behind the LF at e; the end where there is none
 unfoldable pub behind_line : List ℕ → ℕ → ℕ

@@ -1,22 +1,7 @@
 // The fields of a line. A slice ends where the line's text ends, and places count from the slice's start.
 ghost use Rattle.std.specs.Prelude.{◌≡◌};
-ghost use Rattle.rules_parser.specs.Fields.{passes_of, span_end, pair_at, quoted_at, bare_at, field_at, parted_at, part_of, ends_at, tail_ok};
-
-// What a run of bytes consists of.
-#[derive(Clone, Copy)]
-pub(crate) enum Kind {
-    Blank,
-    NotBlank,
-    NotQuote,
-    NotLf,
-}
-
-// How a field is written.
-#[derive(Clone, Copy)]
-pub(crate) enum FieldKind {
-    Quoted,
-    Plain,
-}
+ghost use Rattle.rules_parser.specs.Fields.{Kind, Blank, NotBlank, NotQuote, Quoted, Plain, span_end, pair_at, field_at, parted_at, part_of, ends_at, tail_ok};
+ghost use Rattle.rules_parser.specs.InnerContracts.{PassesKind, gap_at};
 
 // A part of the slice.
 #[derive(Clone, Copy)]
@@ -27,9 +12,9 @@ pub struct Text {
 
 // A field and the place behind it.
 #[derive(Clone, Copy)]
-pub(crate) enum Field {
-    Is { text: Text, next: usize },
-    No,
+pub(crate) struct Field {
+    pub(crate) text: Text,
+    pub(crate) next: usize,
 }
 
 // The part of s that a text is, as far as s goes.
@@ -49,32 +34,38 @@ pub fn part(s: &[u8], text: Text) -> &[u8]
     }
 }
 
-#[tactic(auto, using(crate::proofs::FieldLaws::kinds, base::proofs::PickLaws::cases))]
-fn passes(k: Kind, b: u8) -> bool
-    ensures { result ≡ passes_of k b }
+// The first place from p on whose byte does not pass.
+pub(crate) fn span<F: Fn(u8) -> bool>(s: &[u8], p: usize, passes: F) -> usize
+    requires { F.IsAlwaysCallable passes }
+    ensures { (k : Kind) → PassesKind (F.post passes) k → result ≡ span_end k s.now p }
 {
-    match k {
-        Kind::Blank => { if b == 32 { true } else { b == 9 } }
-        Kind::NotBlank => { if b == 32 { false } else { b != 9 } }
-        Kind::NotQuote => { b != 34 }
-        Kind::NotLf => { b != 10 }
-    }
-}
-
-// The first place from p on whose byte is not of the kind.
-#[tactic(auto, using(crate::proofs::FieldLaws::spans))]
-pub(crate) fn span(s: &[u8], p: usize, k: Kind) -> usize
-    ensures { result ≡ span_end k s.now p }
-{
-    let mut i = p;
-    while i < s.len() {
-        if passes(k, s[i]) {
-            i += 1;
-        } else {
+    for i in p..s.len() {
+        if !passes(s[i]) {
             return i;
         }
     }
-    i
+    s.len().max(p)
+}
+
+// The first place from p on that is no blank.
+pub(crate) fn skip_blanks(s: &[u8], p: usize) -> usize
+    ensures { result ≡ span_end Blank s.now p }
+{
+    span(s, p, |b| b == b' ' || b == b'\t')
+}
+
+// The next blank from p on.
+pub(crate) fn find_blank(s: &[u8], p: usize) -> usize
+    ensures { result ≡ span_end NotBlank s.now p }
+{
+    span(s, p, |b| b != b' ' && b != b'\t')
+}
+
+// The next quote from p on.
+pub(crate) fn find_quote(s: &[u8], p: usize) -> usize
+    ensures { result ≡ span_end NotQuote s.now p }
+{
+    span(s, p, |b| b != b'"')
 }
 
 // a and b at p.
@@ -82,76 +73,71 @@ pub(crate) fn span(s: &[u8], p: usize, k: Kind) -> usize
 pub(crate) fn pair(s: &[u8], p: usize, a: u8, b: u8) -> bool
     ensures { result ≡ pair_at s.now p a b }
 {
-    if p < s.len() {
-        if s[p] == a {
-            strings::byte_at(s, p + 1) == b as u32
-        } else {
-            false
-        }
-    } else {
-        false
-    }
+    p < s.len() && s[p] == a && strings::byte_at(s, p + 1) == u32::from(b)
 }
 
 // The quoted string that begins at p.
 #[tactic(auto, using(crate::proofs::FieldLaws::span_low, crate::proofs::FieldLaws::fields))]
-fn quoted_at(s: &[u8], p: usize) -> Field
-    ensures { result ≡ quoted_at s.now p }
+pub(crate) fn quoted_at(s: &[u8], p: usize) -> Option<Field>
+    ensures { result ≡ field_at Quoted s.now p }
 {
-    if p < s.len() {
-        if s[p] == 34 {
-            let e = span(s, p + 1, Kind::NotQuote);
-            if e < s.len() {
-                return Field::Is {
-                    text: Text {
-                        start: p + 1,
-                        len: e - (p + 1),
-                    },
-                    next: e + 1,
-                };
-            }
+    if p < s.len() && s[p] == b'"' {
+        let e = find_quote(s, p + 1);
+        if e < s.len() {
+            return Some(Field {
+                text: Text {
+                    start: p + 1,
+                    len: e - (p + 1),
+                },
+                next: e + 1,
+            });
         }
     }
-    Field::No
+    None
 }
 
 // The bytes up to the next blank, where there is one or more.
 #[tactic(auto, using(crate::proofs::FieldLaws::fields))]
-fn word_at(s: &[u8], p: usize) -> Field
-    ensures { result ≡ bare_at s.now p }
+pub(crate) fn word_at(s: &[u8], p: usize) -> Option<Field>
+    ensures { result ≡ field_at Plain s.now p }
 {
-    let e = span(s, p, Kind::NotBlank);
+    let e = find_blank(s, p);
     if p < e {
-        Field::Is {
+        Some(Field {
             text: Text {
                 start: p,
                 len: e - p,
             },
             next: e,
-        }
+        })
     } else {
-        Field::No
+        None
     }
 }
 
-// The field that begins at p.
-#[tactic(auto, using(crate::proofs::FieldLaws::fields))]
-pub(crate) fn field_at(s: &[u8], p: usize, k: FieldKind) -> Field
-    ensures { result ≡ field_at k s.now p }
+// The place behind one blank or more.
+#[tactic(auto, using(base::proofs::PickLaws::cases), unfolding(crate::specs::InnerContracts::gap_at))]
+fn gap(s: &[u8], p: usize) -> Option<usize>
+    ensures { result ≡ gap_at s.now p }
 {
-    match k {
-        FieldKind::Quoted => quoted_at(s, p),
-        FieldKind::Plain => word_at(s, p),
-    }
+    let q = skip_blanks(s, p);
+    if p < q { Some(q) } else { None }
 }
 
-// The field behind one blank or more.
+// The quoted string behind one blank or more.
 #[tactic(auto, using(crate::proofs::FieldLaws::fields))]
-pub(crate) fn parted(s: &[u8], p: usize, k: FieldKind) -> Field
-    ensures { result ≡ parted_at k s.now p }
+pub(crate) fn next_quoted(s: &[u8], p: usize) -> Option<Field>
+    ensures { result ≡ parted_at Quoted s.now p }
 {
-    let q = span(s, p, Kind::Blank);
-    if p < q { field_at(s, q, k) } else { Field::No }
+    quoted_at(s, gap(s, p)?)
+}
+
+// The word behind one blank or more.
+#[tactic(auto, using(crate::proofs::FieldLaws::fields))]
+pub(crate) fn next_word(s: &[u8], p: usize) -> Option<Field>
+    ensures { result ≡ parted_at Plain s.now p }
+{
+    word_at(s, gap(s, p)?)
 }
 
 // Nothing but blanks.
@@ -159,7 +145,7 @@ pub(crate) fn parted(s: &[u8], p: usize, k: FieldKind) -> Field
 pub(crate) fn ends(s: &[u8], p: usize) -> bool
     ensures { result ≡ ends_at s.now p }
 {
-    s.len() <= span(s, p, Kind::Blank)
+    s.len() <= skip_blanks(s, p)
 }
 
 // Nothing but blanks, and perhaps a comment.
@@ -167,10 +153,6 @@ pub(crate) fn ends(s: &[u8], p: usize) -> bool
 pub(crate) fn tail(s: &[u8], p: usize) -> bool
     ensures { result ≡ tail_ok s.now p }
 {
-    let q = span(s, p, Kind::Blank);
-    if q < s.len() {
-        pair(s, q, b'/', b'/')
-    } else {
-        true
-    }
+    let q = skip_blanks(s, p);
+    s.len() <= q || pair(s, q, b'/', b'/')
 }

@@ -1,17 +1,17 @@
 // The lines of a file one after the other, and comments that run over lines.
-ghost use Rattle.std.specs.Prelude.{◌≡◌, ◌^◌, ◌<◌};
-ghost use Rattle.rules_parser.specs.Files.{counted_of, close_at, line_end, text_end, rest_blank, comment_at, item_at};
+ghost use Rattle.std.specs.Prelude.{◌≡◌};
+ghost use Rattle.rules_parser.specs.Fields.{NotLf};
+ghost use Rattle.rules_parser.specs.Files.{close_at, line_end, text_end, rest_blank, comment_at, item_at};
 ghost use Rattle.rules_parser.specs.InnerContracts.{behind_line};
 ghost use Rattle.rules_parser.specs.Numbers.{item_numbers};
 
-use crate::fields::Kind;
 use crate::lines::{Clause, FileKind, Line};
 
 // The place behind the end of a comment, and how many lines it takes.
 #[derive(Clone, Copy)]
-pub(crate) enum Close {
-    At { next: usize, lines: usize },
-    Open,
+pub(crate) struct Close {
+    pub(crate) next: usize,
+    pub(crate) lines: usize,
 }
 
 // What stands at the beginning of a line: nothing to keep for some lines, what the line says, or no line at all (12).
@@ -22,39 +22,31 @@ pub enum Item {
     Wrong,
 }
 
-#[tactic(auto, using(base::proofs::PickLaws::cases), unfolding(crate::specs::Files::counted_of))]
-fn counted(n: usize, b: u8) -> usize
-    requires { n < 2 ^ 63 }
-    ensures { result ≡ counted_of n b }
-{
-    if b == 10 { n + 1 } else { n }
-}
-
 // The first */ from p on.
 #[tactic(auto, using(crate::proofs::FileLaws::closes))]
-fn close_at(s: &[u8], p: usize) -> Close
+fn close_at(s: &[u8], p: usize) -> Option<Close>
     ensures { result ≡ close_at s.now p }
 {
-    let mut i = p;
     let mut n: usize = 0;
-    while i < s.len() {
+    for i in p..s.len() {
         if crate::fields::pair(s, i, b'*', b'/') {
-            return Close::At {
+            return Some(Close {
                 next: i + 2,
                 lines: n + 1,
-            };
+            });
         }
-        n = counted(n, s[i]);
-        i += 1;
+        if s[i] == b'\n' {
+            n += 1;
+        }
     }
-    Close::Open
+    None
 }
 
 // Where the line that holds p ends: at its LF, or at the end.
 fn line_end(s: &[u8], p: usize) -> usize
     ensures { result ≡ line_end s.now p }
 {
-    crate::fields::span(s, p, Kind::NotLf)
+    crate::fields::span(s, p, |b| b != b'\n')
 }
 
 // Where the text of the line from p up to e ends: before the LF, and before a CR that stands right before it.
@@ -63,12 +55,8 @@ fn text_end(s: &[u8], p: usize, e: usize) -> usize
     requires { e ≡ line_end s.now p }
     ensures { result ≡ text_end s.now p }
 {
-    if e < s.len() {
-        if p < e {
-            if s[e - 1] == 13 { e - 1 } else { e }
-        } else {
-            e
-        }
+    if e < s.len() && p < e && s[e - 1] == b'\r' {
+        e - 1
     } else {
         e
     }
@@ -88,7 +76,7 @@ fn rest_blank(s: &[u8], p: usize, e: usize) -> bool
     requires { e ≡ line_end s.now p }
     ensures { result ≡ rest_blank s.now p }
 {
-    text_end(s, p, e) <= crate::fields::span(s, p, Kind::Blank)
+    text_end(s, p, e) <= crate::fields::skip_blanks(s, p)
 }
 
 // The comment that the first text from p on opens.
@@ -96,23 +84,23 @@ fn rest_blank(s: &[u8], p: usize, e: usize) -> bool
 fn comment(s: &[u8], p: usize) -> Item
     ensures { result ≡ comment_at s.now p }
 {
-    let q = crate::fields::span(s, p, Kind::Blank);
+    let q = crate::fields::skip_blanks(s, p);
     if s.len() <= q {
         return Item::Wrong;
     }
     match close_at(s, q + 2) {
-        Close::At { next, lines } => {
-            let e = line_end(s, next);
-            if rest_blank(s, next, e) {
+        Some(close) => {
+            let e = line_end(s, close.next);
+            if rest_blank(s, close.next, e) {
                 Item::Passed {
-                    lines,
+                    lines: close.lines,
                     next: behind_line(s, e),
                 }
             } else {
                 Item::Wrong
             }
         }
-        Close::Open => Item::Wrong,
+        None => Item::Wrong,
     }
 }
 
@@ -127,19 +115,15 @@ pub fn read_item(kind: FileKind, s: &[u8], p: usize) -> Item
     let e = line_end(s, p);
     let end = text_end(s, p, e);
     match crate::lines::read_line(kind, &s[0..end], p) {
-        Line::Blank => Item::Passed {
+        Some(Line::Blank | Line::Comment) => Item::Passed {
             lines: 1,
             next: behind_line(s, e),
         },
-        Line::Comment => Item::Passed {
-            lines: 1,
-            next: behind_line(s, e),
-        },
-        Line::Opens => comment(s, p),
-        Line::Tells { told } => Item::Tells {
+        Some(Line::Opens) => comment(s, p),
+        Some(Line::Tells(told)) => Item::Tells {
             told,
             next: behind_line(s, e),
         },
-        Line::Bad => Item::Wrong,
+        None => Item::Wrong,
     }
 }

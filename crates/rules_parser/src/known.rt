@@ -2,7 +2,7 @@
 ghost use Rattle.std.specs.Prelude.{◌≡◌, ◌+◌, ◌≤◌, length};
 ghost use Rattle.rules_parser.specs.InnerContracts.{string_from, strings_from};
 
-use crate::fields::{Kind, Text};
+use crate::fields::Text;
 
 // The four strings of a rule.
 #[derive(Clone, Copy)]
@@ -19,9 +19,9 @@ fn string_from(s: &[u8], p: usize) -> Text
     ensures value { result ≡ string_from s.now p }
     ensures len_in_bounds { result.start + result.len ≤ length s.now }
 {
-    let q = crate::fields::span(s, p, Kind::NotQuote);
+    let q = crate::fields::find_quote(s, p);
     if q < s.len() {
-        let e = crate::fields::span(s, q + 1, Kind::NotQuote);
+        let e = crate::fields::find_quote(s, q + 1);
         Text {
             start: q + 1,
             len: e - (q + 1),
