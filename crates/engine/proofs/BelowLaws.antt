@@ -1,10 +1,9 @@
 -- No refusal of a call but that for room is 9. Assumes nothing.
+use Rattle.std.specs.Prelude.{Option, Some, None}
 use mathlib.Core.Bool.{Bool}
 use mathlib.Core.List.{List, [], ◌∷◌}
 use Prim.Native.Nat.{ℕ, zero, suc, ◌<◌}
 use native.Mathlib.Omega.{arith}
-use Rattle.letters.specs.declared.utf8.Found.{Found}
-use Rattle.letters.specs.declared.utf8.Found.TheVariants.{At, Nothing}
 use Rattle.languages.specs.declared.sets.LanguageSet.{LanguageSet}
 use Rattle.prefixes.specs.declared.prefixes.Prefix.{Prefix}
 use Rattle.prefixes.specs.declared.prefixes.Prefix.TheVariants.{Leads, Whole}
@@ -117,10 +116,10 @@ unfolding NameBelow Below outcome_of
 outcome_below (unspelt k) h = h
 outcome_below (spelt_as t f) h = h
 
-unless_below : (why : Refusal) (at : Found) (rest : CallOutcome) → number_of why < 9 → Below rest → Below (unless why at rest)
+unless_below : (why : Refusal) (at : Option ℕ) (rest : CallOutcome) → number_of why < 9 → Below rest → Below (unless why at rest)
 unfolding Below unless
-unless_below why (At place) rest h k = h
-unless_below why Nothing rest h k = k
+unless_below why (Some place) rest h k = h
+unless_below why None rest h k = k
 
 pack_below : (c : Settings) (start : Start) (s name : List ℕ) (v : Verdict) → Below (on_pack c start s name v)
 unfolding Below number_of on_pack spelled_by spelled_name steps_of steps_by word_by_lists word_of final_pass

@@ -10,17 +10,13 @@ use lib.Count.{count_trailing_zeros, trailing_le}
 use lib.Pow.{pow-lt, pow_mono, shl_exact}
 use lib.Dec.{eqb, ltb}
 use lib.ListN.{length, take, drop}
-use borrow.Author.Tests.{lt-ltb, le-ltb, leb-true, ltb-true, ltb-false}
+use borrow.Author.Tests.{le-leb, lt-leb, lt-ltb, le-ltb, leb-true, ltb-true, ltb-false}
 use Rattle.base.specs.Pick.{pick}
 use Rattle.base.proofs.Bits.{single_is, ones_pow}
 use Rattle.letters.specs.Order.{same_text}
 use Rattle.letters.specs.Reading.{first_ill, first_outside}
-use Rattle.letters.specs.declared.utf8.Found.{Found}
-use Rattle.letters.specs.declared.utf8.Found.TheVariants.{At, Nothing}
 use Rattle.languages.specs.Names.{name_place, bit_at, language_bit}
 use Rattle.strings.specs.Reading.{strings_of}
-use Rattle.languages.specs.declared.names.Listed.{Listed}
-use Rattle.languages.specs.declared.names.Listed.TheVariants.{Bit, Unlisted}
 use Rattle.languages.specs.Numbers.{set_numbers}
 use Rattle.languages.specs.declared.sets.LanguageSet.{LanguageSet}
 use Rattle.languages.specs.declared.sets.LanguageSet.TheVariants.{Any, NoLanguages, SomeLanguages}
@@ -39,16 +35,17 @@ use Rattle.prefixes.specs.declared.prefixes.NameType.{NameType}
 use Rattle.choices.specs.Texts.{Text}
 use Rattle.base.proofs.Arms.{clash}
 use Rattle.refusals.specs.declared.Refusal.{Refusal}
-use Rattle.refusals.specs.declared.Refusal.TheVariants.{NotUtf8, OutsideRange, NameTooLong, SettingUnknown}
+use Rattle.refusals.specs.declared.Refusal.TheVariants.{NotUtf8, OutsideRange, NameTooLong, SettingUnknown, NoRoom}
 use Rattle.engine.specs.Calls.{kind_known, settings_known, have_languages, type_of, start_set, CallOutcome, refused_by, key, unless, on_pack, letters_then, checked_then, call_of}
-use Rattle.engine.specs.InnerContracts.{OpenedIs, CallReady, is_guessed, call_for, found_by, FoundIs}
+use Rattle.engine.specs.InnerContracts.{OpenedIs, CallReady, is_guessed, call_for, found_by, FoundIs, answered_by}
 use Rattle.engine.specs.declared.call.Call.{Call}
+use Rattle.engine.specs.declared.encode.AnswerEnd.{AnswerEnd}
 use Rattle.engine.specs.declared.call.Settings.{Settings}
 use Rattle.engine.specs.declared.call.Start.{Start}
 use Rattle.engine.specs.declared.call.Start.TheVariants.{Guessed, Given}
-use Rattle.engine.specs.declared.call.Opened.TheVariants.{Usable, Broken}
-use Rattle.engine.specs.declared.spelling.NameCheck.{NameCheck}
-use Rattle.engine.specs.declared.spelling.NameCheck.TheVariants.{Fine, Wrong}
+use Rattle.engine.specs.declared.call.PackNumbers.{PackNumbers}
+use Rattle.engine.specs.declared.spelling.NameRefused.{NameRefused}
+use Rattle.std.specs.Prelude.{Result, Ok, Err, Option, Some, None}
 use Rattle.engine.specs.declared.spelling.Spelled.TheVariants as spelled
 use Rattle.base.proofs.PickLaws.{pick_true, pick_false, and_inv, cases}
 use Rattle.languages.specs.InnerContracts.{BitsBelow}
@@ -65,18 +62,18 @@ trailing_pow k h =
     le_antisymm (pow_back _ k (omega (arith, is))) (pow_back k _ (omega (arith, is)))
 
 -- r is the answer of a search for a name that is one of the first 32
-module _ (s name : List ℕ) (r : Listed) (h : name_place name (strings_of s) < min 32 (length (strings_of s))) (p : r ≡ language_bit s name) where
-  bit_is : r ≡ Bit (2 ^ name_place name (strings_of s))
+module _ (s name : List ℕ) (r : Option ℕ) (h : name_place name (strings_of s) < min 32 (length (strings_of s))) (p : r ≡ language_bit s name) where
+  bit_is : r ≡ Some (2 ^ name_place name (strings_of s))
   unfolding language_bit bit_at
   bit_is = p ∙ pick_true _ _ _ (lt-ltb _ _ h)
 
-  pub bit_place : (b : ℕ) → r ≡ Bit b → count_trailing_zeros 32 b ≡ name_place name (strings_of s)
+  pub bit_place : (b : ℕ) → r ≡ Some b → count_trailing_zeros 32 b ≡ name_place name (strings_of s)
   bit_place b e =
       let is = bit_is in
       let power : b ≡ 2 ^ name_place name (strings_of s) = cc in
       ap (count_trailing_zeros 32) power ∙ trailing_pow _ (omega arith)
 
-  pub bit_there : r ≡ Unlisted → 0 ≡ name_place name (strings_of s)
+  pub bit_there : r ≡ None → 0 ≡ name_place name (strings_of s)
   bit_there e = let is = bit_is in clash (cc)
 
 pub place_fits : (b : ℕ) → count_trailing_zeros 32 b < 2 ^ 64
@@ -118,11 +115,20 @@ pub ruleset start_laws = (have_guessed, have_given, set_guessed, set_given, case
 
 -- ---- a room that is too small
 
-pub place_kept : (why : Refusal) (n m : ℕ) → n < m → spelled.Refused why n ≡ spelled.Refused why (min n m)
-place_kept why n m h = ap (spelled.Refused why) (omega arith)
+module _ (r : Result AnswerEnd Refusal) (room : ℕ) where
+  pub answer_fits : (a : AnswerEnd) → r ≡ Ok a → a.at ≤ room → spelled.Done a.at a.flag ≡ answered_by r room
+  unfolding answered_by
+  answer_fits a e h = rw e (sym (pick_true _ _ _ (le-leb _ _ h)))
 
-pub place_cut : (why : Refusal) (n m : ℕ) → m ≤ n → spelled.Refused why m ≡ spelled.Refused why (min n m)
-place_cut why n m h = ap (spelled.Refused why) (omega arith)
+  pub answer_long : (a : AnswerEnd) (place : ℕ) → r ≡ Ok a → room < a.at → place ≡ min a.at 4294967295 → spelled.Refused NoRoom place ≡ answered_by r room
+  unfolding answered_by
+  answer_long a place e h p = rw e (ap (spelled.Refused NoRoom) p ∙ sym (pick_false _ _ _ (lt-leb _ _ h)))
+
+  pub answer_none : (why : Refusal) → r ≡ Err why → spelled.Refused why 0 ≡ answered_by r room
+  unfolding answered_by
+  answer_none why e = rw e refl
+
+pub ruleset answer_laws = (answer_fits, answer_long, answer_none, rules)
 
 -- ---- a pack that is opened
 
@@ -144,13 +150,13 @@ any_held s p e =
     held_place any p.names (ap (holds any) (sym w.names) ∙ good)
 
 broken_by : (s : List ℕ) (t : List (List ℕ)) (place : ℕ) (v : Verdict) → pack_of s ≡ v → surveyed_of v ≡ surveyed.Refused place
-    → OpenedIs s t (Broken place)
+    → OpenedIs s t (Err place)
 unfolding surveyed_of OpenedIs
 broken_by s t place (accepted p) e q = clash (cc)
 broken_by s t place (refused k) e q = let is : k ≡ place = cc in e ∙ ap refused is
 
 module _ (s : List ℕ) (t : List (List ℕ)) (r : Surveyed) (w : IndexIs s r t) where
-  pub open_broken : (place : ℕ) → r ≡ surveyed.Refused place → OpenedIs s t (Broken place)
+  pub open_broken : (place : ℕ) → r ≡ surveyed.Refused place → OpenedIs s t (Err place)
   open_broken place q = broken_by s t place _ refl (sym (surveyed_one _ _ w.result) ∙ q)
 
   module _ (n g : ℕ) (q : r ≡ surveyed.Accepted n g) where
@@ -183,7 +189,7 @@ module _ (s : List ℕ) (t : List (List ℕ)) (r : Surveyed) (w : IndexIs s r t)
     unfolding guesser_by
     guessed_by = subst (λ (x : Surveyed). guesser_by (guesser s t) x ≡ guesser_by (guessed_at s) x) q w.guessed
 
-    pub open_usable : (other : ℕ) → other ≡ name_place any (strings_of (take (g - 1) (drop 1 s))) → OpenedIs s t (Usable n g other)
+    pub open_usable : (other : ℕ) → other ≡ name_place any (strings_of (take (g - 1) (drop 1 s))) → OpenedIs s t (Ok (record { languages = n; guesses = g; any = other }))
     unfolding OpenedIs
     open_usable other o =
         let is_any : other ≡ name_place any found.pack.names = o ∙ ap (name_place any) strings in
@@ -207,54 +213,54 @@ start_guessed w name x e = set_one _ _ e ∙ ap (λ (f : Text → LanguageSet). 
 
 -- ---- a call of known settings
 
-pub call_made : (c : Settings) (start : Start) (languages guesses other : ℕ) (kind : NameType) (fresh : Bool) (set : LanguageSet)
+pub call_made : (c : Settings) (start : Start) (n : PackNumbers) (kind : NameType) (fresh : Bool) (set : LanguageSet)
     → kind ≡ type_of c.name_type → fresh ≡ is_guessed start → set ≡ start_set start Any
     → record {
       kind = kind;
       rules = c.rule_type;
       concat = eqb c.concat 1;
       limit = c.limit;
-      languages = languages;
-      guesses = guesses;
-      any = other;
+      languages = n.languages;
+      guesses = n.guesses;
+      any = n.any;
       fresh = fresh;
       set = set;
-    } ≡ call_for c start languages guesses other
+    } ≡ call_for c start n
 unfolding call_for
-call_made c start languages guesses other kind fresh set ek ef es = rw (ek, ef, es) refl
+call_made c start n kind fresh set ek ef es = rw (ek, ef, es) refl
 
 -- ---- the refusals before the pack
 
 module _ (name : Text) where
-  pub found_long : 96 < length name → FoundIs (letters_then name) (Wrong NameTooLong 0)
+  pub found_long : 96 < length name → FoundIs (letters_then name) (Err (record { why = NameTooLong; place = 0 }))
   unfolding letters_then found_by
   found_long h = record { is = λ rest. sym (pick_true _ _ _ (lt-ltb _ _ h)) }
 
-  letters_by : (x y : Found) → length name ≤ 96 → first_ill name ≡ x → first_outside name ≡ y → (rest : CallOutcome)
+  letters_by : (x y : Option ℕ) → length name ≤ 96 → first_ill name ≡ x → first_outside name ≡ y → (rest : CallOutcome)
       → unless NotUtf8 x (unless OutsideRange y rest) ≡ letters_then name rest
   unfolding letters_then
-  letters_by x y h p q rest = sym (pick_false _ _ _ (le-ltb _ _ h) ∙ ap₂ (λ (f g : Found). unless NotUtf8 f (unless OutsideRange g rest)) p q)
+  letters_by x y h p q rest = sym (pick_false _ _ _ (le-ltb _ _ h) ∙ ap₂ (λ (f g : Option ℕ). unless NotUtf8 f (unless OutsideRange g rest)) p q)
 
-  module _ (x : Found) (h : length name ≤ 96) (e : x ≡ first_ill name) where
-    pub found_ill : (place : ℕ) → x ≡ At place → FoundIs (letters_then name) (Wrong NotUtf8 place)
+  module _ (x : Option ℕ) (h : length name ≤ 96) (e : x ≡ first_ill name) where
+    pub found_ill : (place : ℕ) → x ≡ Some place → FoundIs (letters_then name) (Err (record { why = NotUtf8; place = place }))
     unfolding found_by unless
-    found_ill place p = record { is = letters_by (At place) _ h (sym e ∙ p) refl }
+    found_ill place p = record { is = letters_by (Some place) _ h (sym e ∙ p) refl }
 
-    module _ (y : Found) (p : x ≡ Nothing) (e' : y ≡ first_outside name) where
-      pub found_outside : (place : ℕ) → y ≡ At place → FoundIs (letters_then name) (Wrong OutsideRange place)
+    module _ (y : Option ℕ) (p : x ≡ None) (e' : y ≡ first_outside name) where
+      pub found_outside : (place : ℕ) → y ≡ Some place → FoundIs (letters_then name) (Err (record { why = OutsideRange; place = place }))
       unfolding found_by unless
-      found_outside place q = record { is = letters_by Nothing (At place) h (sym e ∙ p) (sym e' ∙ q) }
+      found_outside place q = record { is = letters_by None (Some place) h (sym e ∙ p) (sym e' ∙ q) }
 
-      pub found_none : y ≡ Nothing → FoundIs (letters_then name) Fine
+      pub found_none : y ≡ None → FoundIs (letters_then name) (Ok tt)
       unfolding found_by unless
-      found_none q = record { is = letters_by Nothing Nothing h (sym e ∙ p) (sym e' ∙ q) }
+      found_none q = record { is = letters_by None None h (sym e ∙ p) (sym e' ∙ q) }
 
 module _ (c : Settings) (start : Start) (name : Text) (t : Bool) (k : t ≡ settings_known c start) where
-  pub found_known : (r : NameCheck) → t ≡ true → FoundIs (letters_then name) r → FoundIs (checked_then c start name) r
+  pub found_known : (r : Result (Unit {0}) NameRefused) → t ≡ true → FoundIs (letters_then name) r → FoundIs (checked_then c start name) r
   unfolding checked_then
   found_known r e w = record { is = λ rest. w.is rest ∙ sym (pick_true _ _ _ (sym k ∙ e)) }
 
-  pub found_unknown : t ≡ false → FoundIs (checked_then c start name) (Wrong SettingUnknown 0)
+  pub found_unknown : t ≡ false → FoundIs (checked_then c start name) (Err (record { why = SettingUnknown; place = 0 }))
   unfolding checked_then found_by
   found_unknown e = record { is = λ rest. sym (pick_false _ _ _ (sym k ∙ e)) }
 
@@ -269,18 +275,18 @@ fine_by false u x e = clash (cc)
 fine_by true true x e = clash (cc)
 fine_by true false x e = (refl, refl)
 
-module _ (c : Settings) (start : Start) (name : Text) (r : NameCheck) (w : FoundIs (checked_then c start name) r) where
+module _ (c : Settings) (start : Start) (name : Text) (r : Result (Unit {0}) NameRefused) (w : FoundIs (checked_then c start name) r) where
   -- a name that is fine has known settings, and is short
-  pub fine_name : r ≡ Fine → (settings_known c start ≡ true) × (length name ≤ 96)
+  pub fine_name : r ≡ Ok tt → (settings_known c start ≡ true) × (length name ≤ 96)
   unfolding checked_then letters_then found_by
   fine_name e =
-      let all = fine_by _ _ _ (sym (ap (λ (x : NameCheck). found_by x (key [] false)) e) ∙ w.is (key [] false)) in
+      let all = fine_by _ _ _ (sym (ap (λ (x : Result (Unit {0}) NameRefused). found_by x (key [] false)) e) ∙ w.is (key [] false)) in
       (all.0, ltb-false _ _ all.1)
 
   -- a call is refused as its name is, else the pack is looked at
-  pub call_by : (s : List ℕ) (x : NameCheck) → r ≡ x → call_of c start s name ≡ found_by x (on_pack c start s name (pack_of s))
+  pub call_by : (s : List ℕ) (x : Result (Unit {0}) NameRefused) → r ≡ x → call_of c start s name ≡ found_by x (on_pack c start s name (pack_of s))
   unfolding call_of
-  call_by s x e = sym (w.is _) ∙ ap (λ (y : NameCheck). found_by y (on_pack c start s name (pack_of s))) e
+  call_by s x e = sym (w.is _) ∙ ap (λ (y : Result (Unit {0}) NameRefused). found_by y (on_pack c start s name (pack_of s))) e
 
 pub known_limits : (c : Settings) (start : Start) → settings_known c start ≡ true → (c.limit ≤ 256) × (c.rule_type < 2) × (kind_known start ≡ true)
 unfolding settings_known

@@ -10,8 +10,6 @@ use borrow.Author.Tests.{le-leb}
 use Rattle.base.specs.Pick.{pick}
 use Rattle.languages.specs.Sets.{single_of}
 use Rattle.languages.specs.declared.sets.LanguageSet.{LanguageSet}
-use Rattle.languages.specs.declared.sets.Single.{Single}
-use Rattle.languages.specs.declared.sets.Single.TheVariants.{Language, NotSingle}
 use Rattle.languages.proofs.Laws.{single_below}
 use Rattle.writing.specs.InnerContracts.{cap, Put}
 use Rattle.name_parts.specs.Words.{word_at}
@@ -40,8 +38,8 @@ use Rattle.phoneme_builder.specs.declared.words.Worded.{Worded}
 use Rattle.phoneme_builder.specs.declared.words.Worded.TheVariants.{Done, TooLong, TooMany}
 use Rattle.engine.specs.Spelling.{unspelt, spelt_as, or, one_part, parted_as, spelled_name, afresh_by}
 use Rattle.engine.specs.Calls.{language_by, language_of, list_numbered, spelt_by, word_by_lists, steps_by}
-use Rattle.engine.specs.InnerContracts.{CallReady, with_start, started_by, steps_at, start_at, spelt_word, spelt_part, spelt_name, spelt_afresh, list_numbers, is_spelt, IntoBy, SpeltInto, whole_by, SpeltWhole, EndedIs, both_of, HyphenAt}
-use Rattle.engine.proofs.IntoLaws.{bad_told}
+use Rattle.engine.specs.InnerContracts.{CallReady, with_start, started_by, steps_at, start_at, spelt_word, spelt_part, spelt_name, spelt_afresh, list_numbers, end_of, WroteIs, SpeltInto, whole_by, SpeltWhole, ended_at, both_of, HyphenAt}
+use Rattle.std.specs.Prelude.{Result, Ok, Err, Option, Some, None}
 use Rattle.engine.specs.declared.call.Call.{Call}
 use Rattle.engine.specs.declared.encode.AnswerEnd.{AnswerEnd}
 use Rattle.engine.specs.declared.encode.Lists.{Lists}
@@ -52,37 +50,33 @@ use borrow.Author.Rules.{rules}
 
 -- ---- what a word's answer tells
 
-module _ {o o' : List ℕ} {at : ℕ} {r : AnswerEnd} (room : length o < cap) where
-  whole_good : (t : Text) (f : Bool) → r.at ≡ min (at + length t) cap → r.flag ≡ f → r.fine ≡ true → o' ≡ placed o at t
-      → SpeltWhole (spelt_as t f) o o' at r
-  unfolding is_spelt IntoBy whole_by placed
-  whole_good t f ea ef ec eo = record {
+module _ {o o' : List ℕ} {at : ℕ} {r : Result AnswerEnd Refusal} (room : length o < cap) where
+  whole_good : (t : Text) (f : Bool) → r ≡ Ok (record { at = min (at + length t) cap; flag = f }) → o' ≡ placed o at t → SpeltWhole (spelt_as t f) o o' at r
+  unfolding end_of WroteIs whole_by placed
+  whole_good t f e eo = record {
     told = record {
-      fine = ec;
-      is = (
-        record {
-          ends = ea;
-          wrote = λ h. eo ∙ pick_true _ _ _ (le-leb _ _ h);
-          same = ap length eo ∙ pick_all (λ (l : List ℕ). length l ≡ length o) _ _ _ (length-sets o at t) refl;
-          room = room;
-        },
-        ef,
-      );
+      told = e;
+      is = record {
+        ends = refl;
+        wrote = λ h. eo ∙ pick_true _ _ _ (le-leb _ _ h);
+        same = ap length eo ∙ pick_all (λ (l : List ℕ). length l ≡ length o) _ _ _ (length-sets o at t) refl;
+        room = room;
+      };
     };
     whole = eo;
   }
 
-  whole_bad : (a why : Refusal) → number_of a ≡ number_of why → (r.fine ≡ false) × (r.why ≡ a) → o' ≡ o → SpeltWhole (unspelt why) o o' at r
-  unfolding whole_by
-  whole_bad a why e w eo = record { told = bad_told w.0 (w.1 ∙ number_one a why e); whole = eo }
+  whole_bad : (a why : Refusal) → number_of a ≡ number_of why → r ≡ Err a → o' ≡ o → SpeltWhole (unspelt why) o o' at r
+  unfolding end_of WroteIs whole_by
+  whole_bad a why e w eo = record { told = record { told = w ∙ ap Err (number_one a why e); is = tt }; whole = eo }
 
-  word_told : (x : Spelling) (answer : Worded) → answer_of answer ≡ answered x → o' ≡ placed_as x o at → EndedIs answer at r
+  word_told : (x : Spelling) (answer : Worded) → answer_of answer ≡ answered x → o' ≡ placed_as x o at → r ≡ ended_at answer at
       → SpeltWhole (spelt_by x) o o' at r
-  unfolding answer_of answered placed_as EndedIs spelt_by
+  unfolding answer_of answered placed_as ended_at spelt_by
   word_told (texts l flag) (Done n f) e b w =
       let en : n ≡ length (joined (spellings_in l)) = cc in
       let ef : f ≡ flag = cc in
-      whole_good (joined (spellings_in l)) flag (rw en at w.0) (w.1 ∙ ef) w.2 b
+      whole_good (joined (spellings_in l)) flag (w ∙ (λ i. Ok (record { at = min (at + en i) cap; flag = ef i }))) b
   word_told (texts l flag) TooLong e b w = clash (cc)
   word_told (texts l flag) TooMany e b w = clash (cc)
   word_told (refusal k) (Done n f) e b w = clash (cc)
@@ -91,10 +85,10 @@ module _ {o o' : List ℕ} {at : ℕ} {r : AnswerEnd} (room : length o < cap) wh
 
 -- ---- a call that is ready
 
-language_by_lem : (n : ℕ) (g : LanguageSet) (x : Single) (other : ℕ) → x ≡ single_of g → n ≤ 32 → BitsBelow n g → other < n → language_by x other < n
+language_by_lem : (n : ℕ) (g : LanguageSet) (x : Option ℕ) (other : ℕ) → x ≡ single_of g → n ≤ 32 → BitsBelow n g → other < n → language_by x other < n
 unfolding language_by
-language_by_lem n g (Language l) other e h k o = single_below n g l _ h k e refl
-language_by_lem n g NotSingle other e h k o = o
+language_by_lem n g (Some l) other e h k o = single_below n g l _ h k e refl
+language_by_lem n g None other e h k o = o
 
 module _ {s : List ℕ} {table : List (List ℕ)} {call : Call} (w : CallReady s table call) where
   pub few : call.languages ≤ 32
@@ -127,7 +121,7 @@ module _ {s : List ℕ} {table : List (List ℕ)} {call : Call} (w : CallReady s
             w.pack.languages_are,
           )
 
-      pub word_spelt : {o o' : List ℕ} {at : ℕ} {r : AnswerEnd} {answer : Worded} {lists : Lists} → lists ≡ list_numbers call l → length o * 1 < cap
+      pub word_spelt : {o o' : List ℕ} {at : ℕ} {r : Result AnswerEnd Refusal} {answer : Worded} {lists : Lists} → lists ≡ list_numbers call l → length o * 1 < cap
           → WordIs (built.word_by s table (record {
             main = lists.main;
             common = lists.common;
@@ -136,7 +130,7 @@ module _ {s : List ℕ} {table : List (List ℕ)} {call : Call} (w : CallReady s
             guesses = call.guesses;
             set = call.set;
           }) word) o o' at answer
-          → EndedIs answer at r → SpeltWhole (spelt_word s call word) o o' at r
+          → r ≡ ended_at answer at → SpeltWhole (spelt_word s call word) o o' at r
       unfolding names_in
       word_spelt {o = o} e room q ended =
           let capped : min call.limit 256 ≡ call.limit = omega (arith, w.few) in
@@ -168,7 +162,7 @@ module _ {s : List ℕ} {table : List (List ℕ)} {call : Call} (w : CallReady s
     unfolding spelt_name steps_at start_at started_by with_start pick
     name_started x = rw (e, guess_is)
 
-    module _ (x : Text) {o o' : List ℕ} {at : ℕ} {r : AnswerEnd} where
+    module _ (x : Text) {o o' : List ℕ} {at : ℕ} {r : Result AnswerEnd Refusal} where
       part_by : (u : Text) → u ≡ x → pick call.concat (joined_words call.kind t) (word_at t 0) ≡ u → SpeltWhole (spelt_word s by x) o o' at r
           → SpeltWhole (spelt_part s call t) o o' at r
       unfolding spelt_part one_part steps_at steps_by
@@ -192,7 +186,7 @@ module _ (s : List ℕ) (call : Call) {again : Call} (e : again ≡ with_start c
   unfolding with_start
   ready_afresh w = rw e (record { pack = w.pack; few = w.few; known = w.known; below = w.below })
 
-  pub afresh_told : (t : Text) {o o' : List ℕ} {at : ℕ} {r : AnswerEnd} → SpeltInto (spelt_name s again t) o o' at r
+  pub afresh_told : (t : Text) {o o' : List ℕ} {at : ℕ} {r : Result AnswerEnd Refusal} → SpeltInto (spelt_name s again t) o o' at r
       → SpeltInto (spelt_afresh s call t) o o' at r
   unfolding spelt_name spelt_afresh with_start steps_at start_at afresh_by pick
   afresh_told t q = rw e at q
@@ -209,29 +203,21 @@ unfolding or
 or_rest true b e = clash (cc)
 or_rest false b e = refl
 
-module _ (first second : AnswerEnd) (at : ℕ) where
-  pub both_joined : (flag : Bool) → first.fine ≡ true → flag ≡ or first.flag second.flag
-      → record { at = at; flag = flag; fine = second.fine; why = second.why } ≡ both_of first second at
-  unfolding both_of
-  both_joined flag h e = ap (λ (f : Bool). record { at = at; flag = f; fine = second.fine; why = second.why }) e ∙ sym (pick_true _ _ _ h)
-
-  pub both_kept : first.fine ≡ false → first ≡ both_of first second at
-  unfolding both_of
-  both_kept h = sym (pick_false _ _ _ h)
+pub both_flag : (first second : AnswerEnd) (at : ℕ) (flag : Bool) → flag ≡ or first.flag second.flag → record { at = at; flag = flag } ≡ both_of first second at
+both_flag first second at flag e = ap (λ (f : Bool). record { at = at; flag = f }) e
 
 module _ (a : Worded) (at : ℕ) where
-  pub ended_done : (n p : ℕ) (f : Bool) (why : Refusal) → a ≡ Done n f → p ≡ min (at + n) cap → EndedIs a at
-      (record { at = p; flag = f; fine = true; why = why })
-  unfolding EndedIs
-  ended_done n p f why e h = rw e (h, refl, refl)
+  pub ended_done : (n p : ℕ) (f : Bool) → a ≡ Done n f → p ≡ min (at + n) cap → Ok (record { at = p; flag = f }) ≡ ended_at a at
+  unfolding ended_at
+  ended_done n p f e h = rw (e, h) refl
 
-  pub ended_long : a ≡ TooLong → EndedIs a at (record { at = at; flag = false; fine = false; why = TextTooLong })
-  unfolding EndedIs
-  ended_long e = rw e (refl, refl)
+  pub ended_long : a ≡ TooLong → Err TextTooLong ≡ ended_at a at
+  unfolding ended_at
+  ended_long e = rw e refl
 
-  pub ended_many : a ≡ TooMany → EndedIs a at (record { at = at; flag = false; fine = false; why = TooManyTexts })
-  unfolding EndedIs
-  ended_many e = rw e (refl, refl)
+  pub ended_many : a ≡ TooMany → Err TooManyTexts ≡ ended_at a at
+  unfolding ended_at
+  ended_many e = rw e refl
 
 pub hyphen_none : (o : List ℕ) (at p : ℕ) → p ≡ 0 → HyphenAt o o at p at
 hyphen_none o at p e = record { first = λ h. (refl, refl); later = λ h. absurd (h e) }
@@ -239,12 +225,12 @@ hyphen_none o at p e = record { first = λ h. (refl, refl); later = λ h. absurd
 pub hyphen_put : (o o' : List ℕ) (at p r : ℕ) → (p ≡ 0 → ⊥) → Put o o' at r (45 ∷ []) → HyphenAt o o' at p r
 hyphen_put o o' at p r h x = record { first = λ e. absurd (h e); later = λ k. x }
 
-module _ (g : LanguageSet) (other : ℕ) (x : Single) (e : x ≡ single_of g) where
-  pub language_one : (l : ℕ) → x ≡ Language l → l ≡ language_by (single_of g) other
+module _ (g : LanguageSet) (other : ℕ) (x : Option ℕ) (e : x ≡ single_of g) where
+  pub language_one : (l : ℕ) → x ≡ Some l → l ≡ language_by (single_of g) other
   unfolding language_by
   language_one l q = rw (← e, q)
 
-  pub language_any : x ≡ NotSingle → other ≡ language_by (single_of g) other
+  pub language_any : x ≡ None → other ≡ language_by (single_of g) other
   unfolding language_by
   language_any q = rw (← e, q)
 
@@ -264,8 +250,7 @@ module _ (kind : NameType) (name : Text) where
 pub ruleset encode_laws = (
   or_yes,
   or_rest,
-  both_joined,
-  both_kept,
+  both_flag,
   ended_done,
   ended_long,
   ended_many,

@@ -1,8 +1,8 @@
 -- Answers in a buffer, one after the other: what the functions of a name tell. Assumes nothing.
-use mathlib.Core.Path.{◌≡◌, refl, sym, ap, ap₂, ◌∙◌}
-use mathlib.Core.Bool.{Bool, true, false}
+use mathlib.Core.Path.{◌≡◌, refl, sym, ap, ap₂, subst, ◌∙◌}
+use mathlib.Core.Bool.{Bool, false}
 use mathlib.Core.List.{List, [], ◌∷◌, ◌++◌, append_assoc}
-use Prim.Native.Nat.{ℕ, ◌+◌, ◌-◌, ◌*◌, ◌≤◌, ◌<◌, zero-le}
+use Prim.Native.Nat.{ℕ, min, ◌+◌, ◌-◌, ◌*◌, ◌≤◌, ◌<◌, zero-le}
 use native.Mathlib.Omega.{arith}
 use lib.ListN.{length, drop, length-append}
 use lib.Seq.{sets}
@@ -14,9 +14,10 @@ use Rattle.name_parts.proofs.Laws.{words_none, words_next, word_later, past_with
 use Rattle.writing.proofs.Laws.{put_long, put_place, slice_room}
 use Rattle.refusals.specs.declared.Refusal.{Refusal}
 use Rattle.engine.specs.Spelling.{Spelt, unspelt, spelt_as, or, both, hyphened, and_words, each_word}
-use Rattle.engine.specs.InnerContracts.{Wrote, is_spelt, IntoBy, SpeltInto, both_of, HyphenAt, bracketed}
+use Rattle.engine.specs.InnerContracts.{Wrote, end_of, WroteIs, SpeltInto, both_of, HyphenAt, bracketed}
 use Rattle.engine.specs.declared.encode.AnswerEnd.{AnswerEnd}
-use Rattle.base.proofs.PickLaws.{pick_true, pick_false}
+use Rattle.base.proofs.Arms.{clash}
+use Rattle.std.specs.Prelude.{Result, Ok, Err}
 
 -- ---- texts one after the other
 
@@ -34,123 +35,107 @@ wrote_then {t} {u} {o} {o₁} {o₂} {at} {p} {q} x y = record {
   room = x.room;
 }
 
--- ---- two answers as one
+-- ---- what an answer tells
 
-module _ (first second r : AnswerEnd) (at : ℕ) (e : r ≡ both_of first second at) where
-  module _ (fine : first.fine ≡ true) where
-    joined_ends : r ≡ record { at = at; flag = or first.flag second.flag; fine = second.fine; why = second.why }
-    unfolding both_of
-    joined_ends = e ∙ pick_true _ _ _ fine
+pub bad_told : {x : Spelt} {o o' : List ℕ} {at : ℕ} {why : Refusal} → x ≡ unspelt why → SpeltInto x o o' at (Err why)
+unfolding end_of WroteIs
+bad_told e = rw e (record { told = refl; is = tt })
 
-    both_at : r.at ≡ at
-    both_at = ap (λ (x : AnswerEnd). x.at) joined_ends
+good_told : {x : Spelt} {t : Text} {f : Bool} {o o' : List ℕ} {at : ℕ} {a : AnswerEnd} → x ≡ spelt_as t f → Wrote t o o' at a.at → a.flag ≡ f → SpeltInto x o o' at (Ok a)
+unfolding end_of WroteIs
+good_told {t = t} {o = o} {o' = o'} {at = at} e w h = rw e (record { told = λ i. Ok (record { at = w.ends i; flag = h i }); is = subst (Wrote t o o' at) w.ends w })
 
-    both_flag : r.flag ≡ or first.flag second.flag
-    both_flag = ap (λ (x : AnswerEnd). x.flag) joined_ends
+-- what is refused
+refused_is : (x : Spelt) {o o' : List ℕ} {at : ℕ} {r : Result AnswerEnd Refusal} {why : Refusal} → SpeltInto x o o' at r → r ≡ Err why → x ≡ unspelt why
+unfolding end_of
+refused_is (unspelt k) {why = why} told e = let same = sym told.told ∙ e in let is : k ≡ why = cc in ap unspelt is
+refused_is (spelt_as t f) told e = let same = sym told.told ∙ e in clash (cc)
 
-    both_fine : r.fine ≡ second.fine
-    both_fine = ap (λ (x : AnswerEnd). x.fine) joined_ends
+-- what is written
+record Written (x : Spelt) (o o' : List ℕ) (at : ℕ) (a : AnswerEnd) : Type 0 where
+  text : Text
+  is : x ≡ spelt_as text a.flag
+  wrote : Wrote text o o' at a.at
 
-    both_why : r.why ≡ second.why
-    both_why = ap (λ (x : AnswerEnd). x.why) joined_ends
-
-  both_first : first.fine ≡ false → r ≡ first
-  unfolding both_of
-  both_first q = e ∙ pick_false _ _ _ q
-
-pub bad_told : {o o' : List ℕ} {at : ℕ} {why : Refusal} {r : AnswerEnd} → r.fine ≡ false → r.why ≡ why → SpeltInto (unspelt why) o o' at r
-unfolding is_spelt IntoBy
-bad_told e h = record { fine = e; is = h }
-
-good_told : {t : Text} {f : Bool} {o o' : List ℕ} {at : ℕ} {r : AnswerEnd} → r.fine ≡ true → Wrote t o o' at r.at → r.flag ≡ f
-    → SpeltInto (spelt_as t f) o o' at r
-unfolding is_spelt IntoBy
-good_told e w h = record { fine = e; is = (w, h) }
-
--- what an answer tells of its case
-module _ {o o' : List ℕ} {at : ℕ} {r : AnswerEnd} where
-  module _ {why : Refusal} (x : SpeltInto (unspelt why) o o' at r) where
-    not_fine : r.fine ≡ false
-    unfolding is_spelt
-    not_fine = x.fine
-
-    bad_why : r.why ≡ why
-    unfolding IntoBy
-    bad_why = x.is
-
-  module _ {t : Text} {f : Bool} (x : SpeltInto (spelt_as t f) o o' at r) where
-    is_fine : r.fine ≡ true
-    unfolding is_spelt
-    is_fine = x.fine
-
-    good_wrote : Wrote t o o' at r.at
-    unfolding IntoBy
-    good_wrote = x.is.0
-
-    good_flag : r.flag ≡ f
-    unfolding IntoBy
-    good_flag = x.is.1
-
--- the answer of two of which one is refused
-module _ {x : Refusal} {o o' p p' : List ℕ} {at q : ℕ} {a r : AnswerEnd} (told : SpeltInto (unspelt x) o o' at a) where
-  bad_first : r ≡ a → SpeltInto (unspelt x) p p' q r
-  bad_first e = bad_told (ap (λ (z : AnswerEnd). z.fine) e ∙ not_fine told) (ap (λ (z : AnswerEnd). z.why) e ∙ bad_why told)
-
-  bad_second : (b : AnswerEnd) (n : ℕ) → b.fine ≡ true → r ≡ both_of b a n → SpeltInto (unspelt x) p p' q r
-  bad_second b n h e = bad_told (both_fine _ _ _ _ e h ∙ not_fine told) (both_why _ _ _ _ e h ∙ bad_why told)
+written : (x : Spelt) {o o' : List ℕ} {at : ℕ} {r : Result AnswerEnd Refusal} {a : AnswerEnd} → SpeltInto x o o' at r → r ≡ Ok a → Written x o o' at a
+unfolding end_of WroteIs
+written (unspelt k) told e = let same = sym told.told ∙ e in clash (cc)
+written (spelt_as t f) {o} {o'} {at} {r} {a} told e =
+    let same = sym told.told ∙ e in
+    let ends : min (at + length t) cap ≡ a.at = cc in
+    let flag : f ≡ a.flag = cc in
+    record { text = t; is = ap (spelt_as t) flag; wrote = subst (Wrote t o o' at) ends told.is }
 
 -- ---- between brackets
 
-pub bracketed_told : (x : Spelt) {o o₁ o₂ o₃ : List ℕ} {at p end : ℕ} {a : AnswerEnd}
-    → Put o o₁ at p (40 ∷ []) → SpeltInto x o₁ o₂ p a → Put o₂ o₃ a.at end (41 ∷ [])
-    → SpeltInto (bracketed x) o o₃ at (record { at = end; flag = a.flag; fine = a.fine; why = a.why })
-unfolding bracketed
-bracketed_told (spelt_as t f) left told right =
-    good_told (is_fine told) (wrote_then (wrote_put left) (wrote_then (good_wrote told) (wrote_put right))) (good_flag told)
-bracketed_told (unspelt k) left told right = bad_told (not_fine told) (bad_why told)
+module _ (x : Spelt) {o o₁ o₂ : List ℕ} {at p : ℕ} {r : Result AnswerEnd Refusal} (told : SpeltInto x o₁ o₂ p r) where
+  pub bracketed_told : {o₃ : List ℕ} {end : ℕ} {a : AnswerEnd} → Put o o₁ at p (40 ∷ []) → r ≡ Ok a → Put o₂ o₃ a.at end (41 ∷ [])
+      → SpeltInto (bracketed x) o o₃ at (Ok (record { at = end; flag = a.flag }))
+  unfolding bracketed
+  bracketed_told left q right =
+      let w = written x told q in
+      good_told (ap bracketed w.is) (wrote_then (wrote_put left) (wrote_then w.wrote (wrote_put right))) refl
+
+  pub bracketed_bad : {why : Refusal} → r ≡ Err why → SpeltInto (bracketed x) o o₂ at (Err why)
+  unfolding bracketed
+  bracketed_bad q = bad_told (ap bracketed (refused_is x told q))
 
 -- ---- words, a hyphen between them
 
-hyphened_told : (x y : Spelt) {o o₁ o₂ o₃ : List ℕ} {at q : ℕ} {a b r : AnswerEnd}
-    → SpeltInto x o o₁ at a → Put o₁ o₂ a.at q (45 ∷ []) → SpeltInto y o₂ o₃ q b → r ≡ both_of a b b.at → SpeltInto (hyphened x y) o o₃ at r
-unfolding hyphened
-hyphened_told (spelt_as t f) (spelt_as u g) ta middle tb e =
-    let fine = is_fine ta in
-    good_told (both_fine _ _ _ _ e fine ∙ is_fine tb)
-    (rw (both_at _ _ _ _ e fine) (wrote_then (good_wrote ta) (wrote_then (wrote_put middle) (good_wrote tb))))
-    (both_flag _ _ _ _ e fine ∙ ap₂ or (good_flag ta) (good_flag tb))
-hyphened_told (spelt_as t f) (unspelt k) ta middle tb e = bad_second tb _ _ (is_fine ta) e
-hyphened_told (unspelt j) y ta middle tb e =
-    bad_first ta (both_first _ _ _ _ e (not_fine ta))
+module _ (x y : Spelt) {o o₁ o₂ o₃ : List ℕ} {at q : ℕ} {a : AnswerEnd} {r : Result AnswerEnd Refusal} (ta : SpeltInto x o o₁ at (Ok a)) (tb : SpeltInto y o₂ o₃ q r) where
+  hyphened_told : {b : AnswerEnd} → Put o₁ o₂ a.at q (45 ∷ []) → r ≡ Ok b → SpeltInto (hyphened x y) o o₃ at (Ok (both_of a b b.at))
+  unfolding hyphened
+  hyphened_told middle e =
+      let u = written x ta refl in
+      let v = written y tb e in
+      good_told (ap₂ hyphened u.is v.is) (wrote_then u.wrote (wrote_then (wrote_put middle) v.wrote)) refl
 
--- a name with a prefix: the remainder and the joined name, each between brackets
-pub both_told : (x y : Spelt) {o o₁ o₂ o₃ : List ℕ} {at p : ℕ} {a b r : AnswerEnd}
-    → SpeltInto (bracketed x) o o₁ at a → Put o₁ o₂ a.at p (45 ∷ []) → SpeltInto (bracketed y) o₂ o₃ p b → r ≡ both_of b a b.at
-    → SpeltInto (both x y) o o₃ at r
-unfolding both bracketed
-both_told (spelt_as t f) (spelt_as u g) ta middle tb e =
-    let fine = is_fine tb in
-    let same = append_assoc t (41 ∷ []) (45 ∷ 40 ∷ (u ++ (41 ∷ []))) in
-    good_told (both_fine _ _ _ _ e fine ∙ is_fine ta)
-    (rw (both_at _ _ _ _ e fine, ← same) (wrote_then (good_wrote ta) (wrote_then (wrote_put middle) (good_wrote tb))))
-    (both_flag _ _ _ _ e fine ∙ ap₂ or (good_flag tb) (good_flag ta))
-both_told (spelt_as t f) (unspelt k) ta middle tb e = bad_first tb (both_first _ _ _ _ e (not_fine tb))
-both_told (unspelt j) (spelt_as u g) ta middle tb e = bad_second ta _ _ (is_fine tb) e
-both_told (unspelt j) (unspelt k) ta middle tb e = bad_first tb (both_first _ _ _ _ e (not_fine tb))
+  hyphened_bad : {why : Refusal} → r ≡ Err why → hyphened x y ≡ unspelt why
+  unfolding hyphened
+  hyphened_bad e = ap₂ hyphened (written x ta refl).is (refused_is y tb e)
 
--- the first word's answer stands for all so far
-first_told : (y : Spelt) {o o' : List ℕ} {at : ℕ} (a : AnswerEnd) {b r : AnswerEnd} → a.fine ≡ true → a.flag ≡ false → SpeltInto y o o' at b
-    → r ≡ both_of a b b.at → SpeltInto y o o' at r
-unfolding or
-first_told (spelt_as u g) a fine down tb e =
-    good_told (both_fine _ _ _ _ e fine ∙ is_fine tb) (rw (both_at _ _ _ _ e fine) (good_wrote tb))
-    (both_flag _ _ _ _ e fine ∙ ap₂ or down (good_flag tb))
-first_told (unspelt k) a fine down tb e = bad_second tb _ _ fine e
+-- ---- a name with a prefix: the remainder and the joined name, each between brackets
 
--- nothing is written yet, or the words read so far are told
+bracketed_text : (x : Spelt) (t : Text) (f : Bool) → bracketed x ≡ spelt_as t f → (u : Text) × (x ≡ spelt_as u f) × (t ≡ (40 ∷ []) ++ (u ++ (41 ∷ [])))
+unfolding bracketed
+bracketed_text (unspelt k) t f e = clash (cc)
+bracketed_text (spelt_as u g) t f e = let flag : g ≡ f = cc in (u, ap (spelt_as u) flag, cc)
+
+bracketed_why : (x : Spelt) (why : Refusal) → bracketed x ≡ unspelt why → x ≡ unspelt why
+unfolding bracketed
+bracketed_why (unspelt k) why e = e
+bracketed_why (spelt_as u g) why e = clash (cc)
+
+both_why : (x : Spelt) (why : Refusal) → both x (unspelt why) ≡ unspelt why
+unfolding both
+both_why (unspelt k) why = refl
+both_why (spelt_as t f) why = refl
+
+module _ (x y : Spelt) {o o₁ o₂ o₃ : List ℕ} {at p : ℕ} {r k : Result AnswerEnd Refusal} (ta : SpeltInto (bracketed x) o o₁ at r) (tb : SpeltInto (bracketed y) o₂ o₃ p k) where
+  pub both_told : {a b : AnswerEnd} → r ≡ Ok a → Put o₁ o₂ a.at p (45 ∷ []) → k ≡ Ok b → SpeltInto (both x y) o o₃ at (Ok (both_of b a b.at))
+  unfolding both
+  both_told {a} {b} e middle e' =
+      let u = written (bracketed x) ta e in
+      let v = written (bracketed y) tb e' in
+      let m = bracketed_text x u.text a.flag u.is in
+      let n = bracketed_text y v.text b.flag v.is in
+      let same = append_assoc m.0 (41 ∷ []) (45 ∷ 40 ∷ (n.0 ++ (41 ∷ []))) in
+      good_told (ap₂ both m.1 n.1) (rw (← same) (rw (m.2, n.2) at (wrote_then u.wrote (wrote_then (wrote_put middle) v.wrote)))) refl
+
+  pub both_remainder : {why : Refusal} {b : AnswerEnd} → r ≡ Err why → k ≡ Ok b → SpeltInto (both x y) o o₃ at (Err why)
+  unfolding both
+  both_remainder {why} {b} e e' =
+      let v = written (bracketed y) tb e' in
+      let n = bracketed_text y v.text b.flag v.is in
+      bad_told (ap₂ both (bracketed_why x why (refused_is (bracketed x) ta e)) n.1)
+
+pub both_joined : (x y : Spelt) {o₀ o o' : List ℕ} {at p : ℕ} {k : Result AnswerEnd Refusal} {why : Refusal} → SpeltInto (bracketed y) o o' p k → k ≡ Err why → SpeltInto (both x y) o₀ o' at (Err why)
+both_joined x y {why = why} tb e = bad_told (ap (both x) (bracketed_why y why (refused_is (bracketed y) tb e)) ∙ both_why x why)
+
+-- ---- nothing is written yet, or the words read so far are told
 pub data Begun (f : Text → Spelt) (name : Text) (o₀ o : List ℕ) (at p : ℕ) (all : AnswerEnd) : Type 0 where
-  not_yet : p ≡ 0 → o ≡ o₀ → (all.at ≡ at) × (all.flag ≡ false) × (all.fine ≡ true) → Begun f name o₀ o at p all
-  begun : (x : Spelt) → (p ≡ 0 → ⊥) → SpeltInto x o₀ o at all → and_words f x (words_of (drop p name)) ≡ each_word f (words_of name)
+  not_yet : p ≡ 0 → o ≡ o₀ → (all.at ≡ at) × (all.flag ≡ false) → Begun f name o₀ o at p all
+  begun : (x : Spelt) → (p ≡ 0 → ⊥) → SpeltInto x o₀ o at (Ok all) → and_words f x (words_of (drop p name)) ≡ each_word f (words_of name)
       → Begun f name o₀ o at p all
 
 -- the invariant of `spell_words`' loop
@@ -161,23 +146,29 @@ pub record WordsHeld (f : Text → Spelt) (name : Text) (o₀ o : List ℕ) (at 
   pub within : p ≤ length name
   pub out_same : length o ≡ length o₀
 
-pub held_start : (f : Text → Spelt) (name : Text) (o : List ℕ) (at : ℕ) (why : Refusal) → at ≤ cap → length o * 1 < cap
-    → WordsHeld f name o o at 0 (record { at = at; flag = false; fine = true; why = why })
-held_start f name o at why h r =
-    record { fits = h; room = slice_room o r; so_far = not_yet refl refl (refl, refl, refl); within = zero-le; out_same = refl }
+pub held_start : (f : Text → Spelt) (name : Text) (o : List ℕ) (at : ℕ) → at ≤ cap → length o * 1 < cap
+    → WordsHeld f name o o at 0 (record { at = at; flag = false })
+held_start f name o at h r =
+    record { fits = h; room = slice_room o r; so_far = not_yet refl refl (refl, refl); within = zero-le; out_same = refl }
+
+-- words behind one that is refused
+refused_words : (f : Text → Spelt) (why : Refusal) (ws : List Text) → and_words f (unspelt why) ws ≡ unspelt why
+unfolding and_words hyphened
+refused_words f why [] = refl
+refused_words f why (w ∷ ws) = refused_words f why ws
 
 module _ {f : Text → Spelt} {name : Text} {o₀ o : List ℕ} {at p : ℕ} {all : AnswerEnd} (k : WordsHeld f name o₀ o at p all) {w : Text}
     (ew : w ≡ word_at name p) where
-  pub held_end : length w ≡ 0 → SpeltInto (each_word f (words_of name)) o₀ o at all
+  pub held_end : length w ≡ 0 → SpeltInto (each_word f (words_of name)) o₀ o at (Ok all)
   unfolding each_word and_words
   held_end h = end_by k.so_far where
     none : length (word_at name p) ≡ 0
     none = sym (ap length ew) ∙ h
 
-    end_by : Begun f name o₀ o at p all → SpeltInto (each_word f (words_of name)) o₀ o at all
+    end_by : Begun f name o₀ o at p all → SpeltInto (each_word f (words_of name)) o₀ o at (Ok all)
     end_by (not_yet ep eo ea) =
         let empty : words_of name ≡ [] = sym (ap (λ (k : ℕ). words_of (drop k name)) ep) ∙ words_none name p none in
-        rw (empty, eo) (good_told ea.2 (record { ends = omega (arith, ea.0, k.fits); wrote = λ k. refl; same = refl; room = k.room }) ea.1)
+        rw (empty, eo) (good_told refl (record { ends = omega (arith, ea.0, k.fits); wrote = λ k. refl; same = refl; room = k.room }) ea.1)
     end_by (begun x some told rest) = rw (← rest, words_none name p none) told
 
   module _ (some : length w ≡ 0 → ⊥) where
@@ -198,27 +189,42 @@ module _ {f : Text → Spelt} {name : Text} {o₀ o : List ℕ} {at p : ℕ} {al
       pub held_place : q ≤ cap
       held_place = place_by k.so_far
 
-      module _ {o₂ : List ℕ} {b r : AnswerEnd} (tb : SpeltInto (f w) o₁ o₂ q b) (e : r ≡ both_of all b b.at) where
+      module _ {o₂ : List ℕ} {r : Result AnswerEnd Refusal} (tb : SpeltInto (f w) o₁ o₂ q r) where
         later_on : past_word name p ≡ 0 → ⊥
         later_on z = omega (arith, word_later name p a_word)
 
         words_are : words_of (drop p name) ≡ w ∷ words_of (drop (past_word name p) name)
         words_are = rw ew (words_next name p a_word)
 
-        turn_by : Begun f name o₀ o at p all → Begun f name o₀ o₂ at (past_word name p) r
-        unfolding each_word and_words
-        turn_by (not_yet ep eo ea) =
-            let told : SpeltInto (f w) o₀ o₂ at b = rw ((h.first ep).1 ∙ eo, (h.first ep).0 ∙ ea.0) at tb in
-            let words : words_of name ≡ w ∷ words_of (drop (past_word name p) name) = sym (ap (λ (k : ℕ). words_of (drop k name)) ep) ∙ words_are in
-            begun (f w) later_on (first_told (f w) all ea.2 ea.1 told e) (rw words refl)
-        turn_by (begun x later told rest) =
-            begun (hyphened x (f w)) later_on (hyphened_told x (f w) told (h.later later) tb e) (rw words_are at rest)
+        first_words : p ≡ 0 → words_of name ≡ w ∷ words_of (drop (past_word name p) name)
+        first_words ep = sym (ap (λ (k : ℕ). words_of (drop k name)) ep) ∙ words_are
 
-        pub held_turn : {p' : ℕ} → p' ≡ past_word name p → length o₂ ≡ length o → WordsHeld f name o₀ o₂ at p' r
-        held_turn {p'} ep eo = rw ep (record {
-          fits = k.fits;
-          room = k.room;
-          so_far = turn_by k.so_far;
-          within = past_within name p a_word;
-          out_same = eo ∙ k.out_same;
-        })
+        bad_by : {why : Refusal} → r ≡ Err why → Begun f name o₀ o at p all → each_word f (words_of name) ≡ unspelt why
+        unfolding each_word and_words
+        bad_by {why} e (not_yet ep eo ea) = rw (first_words ep, refused_is (f w) tb e) (refused_words f why (words_of (drop (past_word name p) name)))
+        bad_by {why} e (begun x later told rest) =
+            sym rest ∙ ap (and_words f x) words_are ∙ ap (λ (z : Spelt). and_words f z (words_of (drop (past_word name p) name))) (hyphened_bad x (f w) told tb e) ∙ refused_words f why (words_of (drop (past_word name p) name))
+
+        -- a word that is refused
+        pub held_bad : {why : Refusal} → r ≡ Err why → SpeltInto (each_word f (words_of name)) o₀ o₂ at (Err why)
+        held_bad e = bad_told (bad_by e k.so_far)
+
+        module _ {b : AnswerEnd} (e : r ≡ Ok b) where
+          turn_by : Begun f name o₀ o at p all → Begun f name o₀ o₂ at (past_word name p) (both_of all b b.at)
+          unfolding each_word and_words or
+          turn_by (not_yet ep eo ea) =
+              let v = written (f w) tb e in
+              let wrote : Wrote v.text o₀ o₂ at b.at =
+              subst (λ (l : List ℕ). Wrote v.text l o₂ at b.at) ((h.first ep).1 ∙ eo) (subst (λ (n : ℕ). Wrote v.text o₁ o₂ n b.at) ((h.first ep).0 ∙ ea.0) v.wrote) in
+              begun (f w) later_on (good_told v.is wrote (ap (λ (t : Bool). or t b.flag) ea.1)) (rw (first_words ep) refl)
+          turn_by (begun x later told rest) =
+              begun (hyphened x (f w)) later_on (hyphened_told x (f w) told tb (h.later later) e) (rw words_are at rest)
+
+          pub held_turn : {p' : ℕ} → p' ≡ past_word name p → length o₂ ≡ length o → WordsHeld f name o₀ o₂ at p' (both_of all b b.at)
+          held_turn {p'} ep eo = rw ep (record {
+            fits = k.fits;
+            room = k.room;
+            so_far = turn_by k.so_far;
+            within = past_within name p a_word;
+            out_same = eo ∙ k.out_same;
+          })

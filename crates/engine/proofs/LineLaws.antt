@@ -19,8 +19,7 @@ use Rattle.engine.specs.Lines.{decimal_by, decimal, flag_digit, answer_line, ref
 use Rattle.engine.specs.LineContracts.{SpaceIn, head_of, line_length, DoneIs, place_told, refused_line, length_told, length_needed, waits_for, RefusedIs, stopped_at}
 use Rattle.engine.specs.declared.lines.Lines.TheVariants as lines
 use Rattle.engine.specs.declared.lines.Space.{Space}
-use Rattle.engine.specs.declared.lines.Fit.{Fit}
-use Rattle.engine.specs.declared.lines.Fit.TheVariants.{Behind, Over}
+use Rattle.std.specs.Prelude.{Result, Ok, Err}
 use Rattle.engine.specs.declared.spelling.Spelled.TheVariants.{Done}
 use Rattle.base.proofs.PickLaws.{pick_true, pick_false, pick_cong, and_rest, and_none}
 use borrow.Author.Rules.{rules}
@@ -95,28 +94,28 @@ module _ (code place : ℕ) (o : List ℕ) (space : Space) (told n few told-leng
   long_here : told-length ≡ length_needed code place
   long_here = l ∙ ap (length_told code place) (omega (arith, f, x.ends, ap length line_here))
 
-  pub refused_waits : t ≡ true → RefusedIs code place o o space (Over told-length)
-  refused_waits e = record { waits = λ _. (ap Over long_here, refl); line = λ z. absurd (false≢true (sym z ∙ sym w ∙ e)) }
+  pub refused_waits : t ≡ true → RefusedIs code place o o space (Err told-length)
+  refused_waits e = record { waits = λ _. (ap Err long_here, refl); line = λ z. absurd (false≢true (sym z ∙ sym w ∙ e)) }
 
   module _ (e : t ≡ false) (h : SpaceIn o space) where
     pub refused_fits : (o' : List ℕ) (next : ℕ) → n ≤ space.size - space.at → Put o o' space.at next (refusal_line (refused_as code told))
-        → RefusedIs code place o o' space (Behind next)
+        → RefusedIs code place o o' space (Ok next)
     refused_fits o' next g y = record {
       waits = λ z. absurd (false≢true (sym e ∙ w ∙ z));
       line = λ _. record {
         fits =
             λ _. (
-              ap Behind (omega (arith, h.within, h.inside, x.ends, y.ends, y.room, ap length line_here)),
+              ap Ok (omega (arith, h.within, h.inside, x.ends, y.ends, y.room, ap length line_here)),
               y.wrote ∙ ap (sets o space.at) line_here,
             );
         stops = λ s. absurd (omega (arith, h.inside, x.ends, y.room, ap length line_here));
       };
     }
 
-    pub refused_stops : space.size - space.at < n → RefusedIs code place o o space (Over told-length)
+    pub refused_stops : space.size - space.at < n → RefusedIs code place o o space (Err told-length)
     refused_stops g = record {
-      waits = λ _. (ap Over long_here, refl);
-      line = λ _. record { fits = λ s. absurd (omega (arith, x.ends, ap length line_here)); stops = λ _. (ap Over long_here, refl) };
+      waits = λ _. (ap Err long_here, refl);
+      line = λ _. record { fits = λ s. absurd (omega (arith, x.ends, ap length line_here)); stops = λ _. (ap Err long_here, refl) };
     }
 
 -- ---- the line of an answer
@@ -139,19 +138,19 @@ module _ (written : ℕ) (flag : Bool) (o : List ℕ) (space : Space) (h : Space
   done_within y room = let here : written + 5 ≤ space.size - space.at = leb-true _ _ (sym e ∙ y) in omega (arith, h.within, h.inside)
 
   pub done_fits : (o₁ o₂ : List ℕ) (p next : ℕ) → t ≡ true → Put o o₁ space.at p (head_of flag)
-      → Put o₁ o₂ (space.at + 4 + written) next (10 ∷ []) → DoneIs written flag o o₂ space (Behind next)
+      → Put o₁ o₂ (space.at + 4 + written) next (10 ∷ []) → DoneIs written flag o o₂ space (Ok next)
   done_fits o₁ o₂ p next y x z =
       let here : written + 5 ≤ space.size - space.at = leb-true _ _ (sym e ∙ y) in
       record {
         fits =
             λ _. (
-              ap Behind (omega (arith, h.within, h.inside, x.room, z.ends)),
+              ap Ok (omega (arith, h.within, h.inside, x.room, z.ends)),
               z.wrote ∙ ap (λ (l : List ℕ). sets l (space.at + 4 + written) (10 ∷ [])) x.wrote,
             );
         stops = λ s. absurd (omega arith);
       }
 
-  pub done_over : (o₂ : List ℕ) (r : Fit) → t ≡ false → RefusedIs 9 written o o₂ space r → DoneIs written flag o o₂ space r
+  pub done_over : (o₂ : List ℕ) (r : Result ℕ ℕ) → t ≡ false → RefusedIs 9 written o o₂ space r → DoneIs written flag o o₂ space r
   done_over o₂ r n x =
       let over : space.size - space.at < written + 5 = leb-false _ _ (sym e ∙ n) in
       record { fits = λ s. absurd (omega arith); stops = λ _. x }

@@ -22,8 +22,7 @@ use Rattle.engine.specs.Lines.{decimal, refusal_line, most, holds_line, needed, 
 use Rattle.engine.specs.LineContracts.{SpaceOf, LineAt, LineFor, line_length, stopped_at}
 use Rattle.engine.specs.declared.lines.Lines.{Lines}
 use Rattle.engine.specs.declared.lines.Lines.TheVariants as lines
-use Rattle.engine.specs.declared.lines.Fit.{Fit}
-use Rattle.engine.specs.declared.lines.Fit.TheVariants.{Behind, Over}
+use Rattle.std.specs.Prelude.{Result, Ok, Err}
 use Rattle.base.proofs.PickLaws.{pick_true, pick_false, pick_all}
 use Rattle.engine.proofs.LineLaws.{answer_long}
 use Rattle.engine.proofs.NameLineLaws.{line_answer, line_long, line_other}
@@ -236,7 +235,7 @@ module _ {call : Text → CallOutcome} {block o₀ o : List ℕ} {size read writ
   pub going_less : (n read' : ℕ) → n < length left_over_lem → read' ≡ read + n + 1 → length block - read' < length block - read
   going_less n read' h e = omega (arith, e, going_most n h)
 
-  module _ (n : ℕ) (e : n ≡ place_of 10 left_over_lem) (h : n < length left_over_lem) (o' : List ℕ) (next : Fit)
+  module _ (n : ℕ) (e : n ≡ place_of 10 left_over_lem) (h : n < length left_over_lem) (o' : List ℕ) (next : Result ℕ ℕ)
       (l : LineFor (call (take (n - 0) left_over_lem)) o o' (record { at = written; size = size }) next) where
     abbrev name : Text
     name = take n (drop read block)
@@ -283,7 +282,7 @@ module _ {call : Text → CallOutcome} {block o₀ o : List ℕ} {size read writ
     unfolding line_for
     some_line = line_some (length o₀) (call name)
 
-    pub going_stop : (told : ℕ) (r : Lines) → next ≡ Over told → r ≡ stopped_at read written told → LinesIs call block o₀ r o'
+    pub going_stop : (told : ℕ) (r : Lines) → next ≡ Err told → r ≡ stopped_at read written told → LinesIs call block o₀ r o'
     unfolding stopped_at
     going_stop told r z e = elim (dec_le (length line) (size - written)) [
       | yes k ↦ clash (cc (line_at.fits k).0)
@@ -297,7 +296,7 @@ module _ {call : Text → CallOutcome} {block o₀ o : List ℕ} {size read writ
           ])
     ]
 
-    module _ (at : ℕ) (z : next ≡ Behind at) where
+    module _ (at : ℕ) (z : next ≡ Ok at) where
       going_fits : length line ≤ size - written
       going_fits = elim (dec_le (length line) (size - written)) [
         | yes k ↦ k

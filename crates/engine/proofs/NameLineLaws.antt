@@ -20,8 +20,7 @@ use Rattle.engine.specs.Calls.{CallOutcome, refused_by, key, refused_as, spelled
 use Rattle.engine.specs.Lines.{answer_line, refusal_line, whole_line, most, holds_line, needed, line_with}
 use Rattle.engine.specs.LineContracts.{SpaceIn, SpaceOf, answer_room, LineFor, behind_filled, BehindIs, head_of, line_length, DoneIs, refused_line, length_needed, waits_for, RefusedIs}
 use Rattle.engine.specs.declared.lines.Space.{Space}
-use Rattle.engine.specs.declared.lines.Fit.{Fit}
-use Rattle.engine.specs.declared.lines.Fit.TheVariants.{Behind, Over}
+use Rattle.std.specs.Prelude.{Result, Ok, Err}
 use Rattle.engine.specs.declared.spelling.Spelled.{Spelled}
 use Rattle.engine.specs.declared.spelling.Spelled.TheVariants.{Done, Refused}
 use Rattle.base.proofs.PickLaws.{pick_true, pick_false, and_first, and_inv}
@@ -129,7 +128,7 @@ module _ {o : List ℕ} {space : Space} (w : SpaceOf o space) where
   line_nine t f place p over q =
       ap (line_with (length o)) p ∙ line_long (length o) t f over ∙ ap (λ (n : ℕ). refusal_line (refused_as 9 n)) (sym (told_nine place ∙ q))
 
-  module _ {x : CallOutcome} {o₁ o₂ : List ℕ} {r : Fit} where
+  module _ {x : CallOutcome} {o₁ o₂ : List ℕ} {r : Result ℕ ℕ} where
     -- an answer that has no room here: its line waits, or is that of 9
     line_long_by : {place : ℕ} (t : Text) (f b : Bool) → waits_for 9 place space.size ≡ b → x ≡ key t f → place ≡ min (length t) most
         → space.size - space.at < length t + 5 → o₁ ≡ o
@@ -141,7 +140,7 @@ module _ {o : List ℕ} {space : Space} (w : SpaceOf o space) where
         let told : length_needed 9 place ≡ needed x = needed_nine place ∙ omega (arith, ap needed p, needed_answer t f, q) in
         rw (line_room t f p (omega (arith, w.size_is, q))) (record {
           fits = λ s. absurd (omega (arith, over, answer_long (length t) f t));
-          stops = λ _. (left.0 ∙ ap Over told, left.1 ∙ same);
+          stops = λ _. (left.0 ∙ ap Err told, left.1 ∙ same);
         })
     line_long_by {place} t f false h p q over same d =
         let large : space.size < place + 5 = leb-false _ _ h in
@@ -157,7 +156,7 @@ module _ {o : List ℕ} {space : Space} (w : SpaceOf o space) where
           let put = d.fits here in
           rw (line_room p.text flag p.is (omega (arith, p.long))) (record {
             fits = λ s. (
-              put.0 ∙ ap Behind (omega (arith, p.long, long)),
+              put.0 ∙ ap Ok (omega (arith, p.long, long)),
               put.1
                   ∙ ap₂ (λ (l : List ℕ) (n : ℕ). sets (sets l space.at (head_of flag)) (space.at + 4 + n) (10 ∷ [])) p.stands (sym p.long)
                   ∙ answer_stands o space.at (length p.text) flag p.text,

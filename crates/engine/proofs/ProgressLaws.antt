@@ -1,4 +1,5 @@
 -- A block that holds a whole line is read on or answered by 9, with the length needed; and every line fits into 32 bytes. Assumes nothing.
+use Rattle.std.specs.Prelude.{Option, Some, None}
 use mathlib.Core.Path.{◌≡◌, refl, sym, ap, ◌∙◌}
 use mathlib.Core.Bool.{Bool, true, false}
 use mathlib.Core.List.{List, [], ◌∷◌, ◌++◌}
@@ -15,8 +16,6 @@ use Rattle.letters.specs.Utf8.{decode_at}
 use Rattle.letters.specs.Reading.{symbols_on, symbols_from, symbols_of, ill_in, first_ill, outside_in, first_outside}
 use Rattle.letters.specs.declared.utf8.Step.{Step}
 use Rattle.letters.specs.declared.utf8.Step.TheVariants.{Char, Ill, End}
-use Rattle.letters.specs.declared.utf8.Found.{Found}
-use Rattle.letters.specs.declared.utf8.Found.TheVariants.{At, Nothing}
 use Rattle.letters.proofs.Utf8Laws.{char_at, ill_in_lem}
 use Rattle.writing.specs.InnerContracts.{cap}
 use Rattle.base.proofs.Arms.{clash}
@@ -82,31 +81,31 @@ refusal_short k p h l =
 
 -- ---- where a refusal's place is
 
-found_ill : (f : ℕ) (s : List ℕ) (p q : ℕ) (r : Step) → decode_at s p ≡ r → ((m : ℕ) → ill_in (symbols_from f s m) ≡ At q → q < length s)
-    → ill_in (symbols_on r s p (symbols_from f s)) ≡ At q → q < length s
+found_ill : (f : ℕ) (s : List ℕ) (p q : ℕ) (r : Step) → decode_at s p ≡ r → ((m : ℕ) → ill_in (symbols_from f s m) ≡ Some q → q < length s)
+    → ill_in (symbols_on r s p (symbols_from f s)) ≡ Some q → q < length s
 unfolding ill_in symbols_on
 found_ill f s p q (Char c n) d ih e = ih (p + n) e
 found_ill f s p q Ill d ih e = let here : p ≡ q = cc in rw (← here) (ill_in_lem s p d)
 found_ill f s p q End d ih e = clash (cc)
 
-ill_place : (f : ℕ) (s : List ℕ) (p q : ℕ) → ill_in (symbols_from f s p) ≡ At q → q < length s
+ill_place : (f : ℕ) (s : List ℕ) (p q : ℕ) → ill_in (symbols_from f s p) ≡ Some q → q < length s
 unfolding symbols_from ill_in
 ill_place zero s p q e = clash (cc)
 ill_place (suc f) s p q e = found_ill f s p q _ refl (λ m k. ill_place f s m q k) e
 
-outside_by : (b : Bool) (rest : Found) (s : List ℕ) (p q : ℕ) → p < length s → (rest ≡ At q → q < length s) → pick b rest (At p) ≡ At q → q < length s
+outside_by : (b : Bool) (rest : Option ℕ) (s : List ℕ) (p q : ℕ) → p < length s → (rest ≡ Some q → q < length s) → pick b rest (Some p) ≡ Some q → q < length s
 unfolding pick
 outside_by true rest s p q h ih e = ih e
 outside_by false rest s p q h ih e = let here : p ≡ q = cc in rw (← here) h
 
-found_outside : (f : ℕ) (s : List ℕ) (p q : ℕ) (r : Step) → decode_at s p ≡ r → ((m : ℕ) → outside_in (symbols_from f s m) ≡ At q → q < length s)
-    → outside_in (symbols_on r s p (symbols_from f s)) ≡ At q → q < length s
+found_outside : (f : ℕ) (s : List ℕ) (p q : ℕ) (r : Step) → decode_at s p ≡ r → ((m : ℕ) → outside_in (symbols_from f s m) ≡ Some q → q < length s)
+    → outside_in (symbols_on r s p (symbols_from f s)) ≡ Some q → q < length s
 unfolding outside_in symbols_on
 found_outside f s p q (Char c n) d ih e = outside_by _ _ s p q (char_at s p c n d).start (ih (p + n)) e
 found_outside f s p q Ill d ih e = let here : p ≡ q = cc in rw (← here) (ill_in_lem s p d)
 found_outside f s p q End d ih e = clash (cc)
 
-outside_place : (f : ℕ) (s : List ℕ) (p q : ℕ) → outside_in (symbols_from f s p) ≡ At q → q < length s
+outside_place : (f : ℕ) (s : List ℕ) (p q : ℕ) → outside_in (symbols_from f s p) ≡ Some q → q < length s
 unfolding symbols_from outside_in
 outside_place zero s p q e = clash (cc)
 outside_place (suc f) s p q e = found_outside f s p q _ refl (λ m k. outside_place f s m q k) e
@@ -147,11 +146,11 @@ unfolding PlaceIn outcome_of
 spelt_in b (unspelt k) = zero-le
 spelt_in b (spelt_as t f) = tt
 
-unless_in : (b : ℕ) (why : Refusal) (at : Found) (rest : CallOutcome) → ((q : ℕ) → at ≡ At q → q ≤ b) → PlaceIn b rest
+unless_in : (b : ℕ) (why : Refusal) (at : Option ℕ) (rest : CallOutcome) → ((q : ℕ) → at ≡ Some q → q ≤ b) → PlaceIn b rest
     → PlaceIn b (unless why at rest)
 unfolding PlaceIn unless
-unless_in b why (At place) rest h k = h place refl
-unless_in b why Nothing rest h k = k
+unless_in b why (Some place) rest h k = h place refl
+unless_in b why None rest h k = k
 
 on_pack_in : (c : Settings) (start : Start) (s name : List ℕ) (b : ℕ) (v : Verdict) → length s ≤ b → FaultIn (length s) v
     → PlaceIn b (on_pack c start s name v)

@@ -1,17 +1,13 @@
 -- A call for a key: its settings, its refusals in their order, and its answer (01, What the desk gets; Spelling a name, steps 1 and 2).
-use Rattle.std.specs.Prelude.{◌≡◌, ℕ, ◌+◌, ◌*◌, ◌^◌, min, Bool, true, false, List, [], map, eqb, leb, ltb, length, get_or, take, drop}
+use Rattle.std.specs.Prelude.{◌≡◌, ℕ, ◌+◌, ◌*◌, ◌^◌, min, Bool, true, false, List, [], map, eqb, leb, ltb, length, get_or, take, drop, Option, Some, None}
 use Rattle.std.proofs.lemmas.List.Edits.{sets}
 use Rattle.base.specs.Pick.{pick, and}
 use Rattle.letters.specs.Reading.{first_ill, first_outside}
 use Rattle.lower_case.specs.Lower.{lower_text}
-use Rattle.letters.specs.declared.utf8.Found.{Found}
-use Rattle.letters.specs.declared.utf8.Found.TheVariants.{At, Nothing}
 use Rattle.languages.specs.Sets.{single_of}
 use Rattle.languages.specs.Names.{name_place}
 use Rattle.languages.specs.declared.sets.LanguageSet.{LanguageSet}
 use Rattle.languages.specs.declared.sets.LanguageSet.TheVariants.{Any, NoLanguages, SomeLanguages}
-use Rattle.languages.specs.declared.sets.Single.{Single}
-use Rattle.languages.specs.declared.sets.Single.TheVariants.{Language, NotSingle}
 use Rattle.name_parts.specs.Joining.{spaced}
 use Rattle.prefixes.specs.declared.prefixes.NameType.{NameType}
 use Rattle.prefixes.specs.declared.prefixes.NameType.TheVariants.{Ashkenazi, Generic, Sephardic}
@@ -55,9 +51,9 @@ type_of n = pick (eqb n 0) Ashkenazi (pick (eqb n 1) Generic Sephardic)
 -- ---- a word of a pack
 
 -- "Lists: those of the single language, else `any`."
-unfoldable pub language_by : Single → ℕ → ℕ
-language_by (Language l) other = l
-language_by NotSingle other = other
+unfoldable pub language_by : Option ℕ → ℕ → ℕ
+language_by (Some l) other = l
+language_by None other = other
 
 unfoldable pub language_of : Pack → LanguageSet → ℕ
 language_of p g = language_by (single_of g) (name_place any p.names)
@@ -111,9 +107,9 @@ outcome_of (unspelt k) = refused_by k 0
 outcome_of (spelt_as t f) = key t f
 
 -- a refusal at the place that was found
-unfoldable pub unless : Refusal → Found → CallOutcome → CallOutcome
-unless why (At place) rest = refused_by why place
-unless why Nothing rest = rest
+unfoldable pub unless : Refusal → Option ℕ → CallOutcome → CallOutcome
+unless why (Some place) rest = refused_by why place
+unless why None rest = rest
 
 unfoldable pub on_pack : Settings → Start → List ℕ → Text → Verdict → CallOutcome
 on_pack c start s name (refused place) = refused_by PackBroken place

@@ -1,5 +1,5 @@
 -- What the functions of a call tell of the pack's bytes and of the lent buffers.
-use Rattle.std.specs.Prelude.{◌≡◌, ℕ, ◌+◌, ◌*◌, ◌≤◌, ◌<◌, min, Bool, true, false, List, [], ◌∷◌, ◌++◌, eqb, leb, length, take}
+use Rattle.std.specs.Prelude.{◌≡◌, ℕ, ◌+◌, ◌*◌, ◌≤◌, ◌<◌, min, Bool, true, false, List, [], ◌∷◌, ◌++◌, eqb, leb, length, take, Option, Some, None, Result, Ok, Err}
 use Rattle.std.proofs.lemmas.List.Edits.{sets}
 use Rattle.base.specs.Pick.{pick}
 use Rattle.languages.specs.Names.{name_place}
@@ -14,6 +14,7 @@ use Rattle.writing.specs.InnerContracts.{cap, Put}
 use Rattle.prefixes.specs.declared.prefixes.Prefix.{Prefix}
 use Rattle.prefixes.specs.declared.prefixes.Prefix.TheVariants as prefix
 use Rattle.pack.specs.Packs.{accepted, refused, pack_of, any, strings_length}
+use Rattle.refusals.specs.declared.Refusal.{Refusal}
 use Rattle.refusals.specs.declared.Refusal.TheVariants.{TextTooLong, TooManyTexts, NoRoom}
 use Rattle.choices.specs.Texts.{Text}
 use Rattle.rule_index.specs.InnerContracts.{pack_in, Finds}
@@ -27,16 +28,13 @@ use Rattle.engine.specs.declared.spelling.Spelled.TheVariants as spelled
 use Rattle.engine.specs.declared.call.Settings.{Settings}
 use Rattle.engine.specs.declared.call.Start.{Start}
 use Rattle.engine.specs.declared.call.Start.TheVariants.{Guessed, Given}
-use Rattle.engine.specs.declared.call.Opened.{Opened}
-use Rattle.engine.specs.declared.call.Opened.TheVariants.{Usable, Broken}
+use Rattle.engine.specs.declared.call.PackNumbers.{PackNumbers}
 use Rattle.engine.specs.declared.call.Request.{Request}
 use Rattle.engine.specs.declared.call.Call.{Call}
 use Rattle.engine.specs.declared.encode.AnswerEnd.{AnswerEnd}
 use Rattle.engine.specs.declared.encode.Lists.{Lists}
 use Rattle.engine.specs.declared.encode.Joined.{Joined}
-use Rattle.engine.specs.declared.encode.Joined.TheVariants as joined
-use Rattle.engine.specs.declared.spelling.NameCheck.{NameCheck}
-use Rattle.engine.specs.declared.spelling.NameCheck.TheVariants.{Fine, Wrong}
+use Rattle.engine.specs.declared.spelling.NameRefused.{NameRefused}
 use Rattle.languages.specs.InnerContracts.{BitsBelow}
 
 -- the answer that has these numbers
@@ -56,9 +54,9 @@ pub record UsablePack (s : List ℕ) (table : List (List ℕ)) (languages guesse
   pub finds : Finds s table
   pub guesses_by : guesser s table guesses languages ≡ guessed_at s guesses languages
 
-unfoldable pub OpenedIs : List ℕ → List (List ℕ) → Opened → Type 0
-OpenedIs s table (Usable languages guesses other) = UsablePack s table languages guesses other
-OpenedIs s table (Broken place) = pack_of s ≡ refused place
+unfoldable pub OpenedIs : List ℕ → List (List ℕ) → Result PackNumbers ℕ → Type 0
+OpenedIs s table (Ok n) = UsablePack s table n.languages n.guesses n.any
+OpenedIs s table (Err place) = pack_of s ≡ refused place
 
 -- ---- a call on it
 
@@ -72,15 +70,15 @@ unfoldable pub is_guessed : Start → Bool
 is_guessed Guessed = true
 is_guessed (Given kind bits) = false
 
-unfoldable pub call_for : Settings → Start → ℕ → ℕ → ℕ → Call
-call_for c start languages guesses other = record {
+unfoldable pub call_for : Settings → Start → PackNumbers → Call
+call_for c start n = record {
   kind = type_of c.name_type;
   rules = c.rule_type;
   concat = eqb c.concat 1;
   limit = c.limit;
-  languages = languages;
-  guesses = guesses;
-  any = other;
+  languages = n.languages;
+  guesses = n.guesses;
+  any = n.any;
   fresh = is_guessed start;
   set = start_set start Any;
 }
@@ -145,9 +143,9 @@ pub record JoinedAt (kind : NameType) (name : Text) (u : List ℕ) (rest n : ℕ
   pub inside : n ≤ length u
   pub text : take n u ≡ joined_name size rest name
 
-unfoldable pub JoinedIs : NameType → Text → List ℕ → Joined → Type 0
-JoinedIs kind name u (joined.Prefixed rest n) = JoinedAt kind name u rest n
-JoinedIs kind name u joined.Whole = parted_as kind name ≡ prefix.Whole
+unfoldable pub JoinedIs : NameType → Text → List ℕ → Option Joined → Type 0
+JoinedIs kind name u (Some j) = JoinedAt kind name u j.rest j.length
+JoinedIs kind name u None = parted_as kind name ≡ prefix.Whole
 
 -- a lower-cased name at the front of a buffer, its hyphens made spaces, and the call with its set
 pub record LoweredIs (s : List ℕ) (call : Call) (name : Text) (low : List ℕ) (by : Call) : Type 0 where
@@ -174,36 +172,42 @@ pub record Wrote (t : Text) (o o' : List ℕ) (at next : ℕ) : Type 0 where
   pub same : length o' ≡ length o
   pub room : length o < cap
 
-unfoldable pub is_spelt : Spelt → Bool
-is_spelt (unspelt why) = false
-is_spelt (spelt_as t f) = true
+-- where x ends, and its flag; or its refusal
+unfoldable pub end_of : Spelt → ℕ → Result AnswerEnd Refusal
+end_of (unspelt why) at = Err why
+end_of (spelt_as t f) at = Ok (record { at = min (at + length t) cap; flag = f })
 
-unfoldable pub IntoBy : Spelt → List ℕ → List ℕ → ℕ → AnswerEnd → Type 0
-IntoBy (unspelt why) o o' at r = r.why ≡ why
-IntoBy (spelt_as t f) o o' at r = Wrote t o o' at r.at × (r.flag ≡ f)
+unfoldable pub WroteIs : Spelt → List ℕ → List ℕ → ℕ → Type 0
+WroteIs (unspelt why) o o' at = Unit {0}
+WroteIs (spelt_as t f) o o' at = Wrote t o o' at (min (at + length t) cap)
 
-pub record SpeltInto (x : Spelt) (o o' : List ℕ) (at : ℕ) (r : AnswerEnd) : Type 0 where
-  pub fine : r.fine ≡ is_spelt x
-  pub is : IntoBy x o o' at r
+pub record SpeltInto (x : Spelt) (o o' : List ℕ) (at : ℕ) (r : Result AnswerEnd Refusal) : Type 0 where
+  pub told : r ≡ end_of x at
+  pub is : WroteIs x o o' at
 
 -- the same, and what does not fit as a whole is not written at all
 unfoldable pub whole_by : Spelt → List ℕ → ℕ → List ℕ
 whole_by (unspelt why) o at = o
 whole_by (spelt_as t f) o at = pick (leb (at + length t) (length o)) (sets o at t) o
 
-pub record SpeltWhole (x : Spelt) (o o' : List ℕ) (at : ℕ) (r : AnswerEnd) : Type 0 where
+pub record SpeltWhole (x : Spelt) (o o' : List ℕ) (at : ℕ) (r : Result AnswerEnd Refusal) : Type 0 where
   pub told : SpeltInto x o o' at r
   pub whole : o' ≡ whole_by x o at
 
 -- what a word's answer comes to: its end, or its refusal
-unfoldable pub EndedIs : Worded → ℕ → AnswerEnd → Type 0
-EndedIs (Done length flag) at r = (r.at ≡ min (at + length) cap) × (r.flag ≡ flag) × (r.fine ≡ true)
-EndedIs TooLong at r = (r.fine ≡ false) × (r.why ≡ TextTooLong)
-EndedIs TooMany at r = (r.fine ≡ false) × (r.why ≡ TooManyTexts)
+unfoldable pub ended_at : Worded → ℕ → Result AnswerEnd Refusal
+ended_at (Done length flag) at = Ok (record { at = min (at + length) cap; flag = flag })
+ended_at TooLong at = Err TextTooLong
+ended_at TooMany at = Err TooManyTexts
 
 -- two answers as one that ends at a place
-unfoldable pub both_of : AnswerEnd → AnswerEnd → ℕ → AnswerEnd
-both_of first second at = pick first.fine (record { at = at; flag = or first.flag second.flag; fine = second.fine; why = second.why }) first
+abbrev pub both_of : AnswerEnd → AnswerEnd → ℕ → AnswerEnd
+both_of first second at = record { at = at; flag = or first.flag second.flag }
+
+-- where a remainder is refused: the joined name's refusal goes before
+unfoldable pub chosen_refusal : Result AnswerEnd Refusal → Refusal → Refusal
+chosen_refusal (Err why) remainder = why
+chosen_refusal (Ok a) remainder = remainder
 
 -- a hyphen where the name is read already
 pub record HyphenAt (o o' : List ℕ) (at p next : ℕ) : Type 0 where
@@ -224,29 +228,35 @@ pub record FineFor (s : List ℕ) (table : List (List ℕ)) (request : Request) 
   pub known : settings_known request.settings request.start ≡ true
   pub short : length name ≤ 96
 
-unfoldable pub found_by : NameCheck → CallOutcome → CallOutcome
-found_by Fine rest = rest
-found_by (Wrong why place) rest = refused_by why place
+unfoldable pub found_by : Result (Unit {0}) NameRefused → CallOutcome → CallOutcome
+found_by (Ok u) rest = rest
+found_by (Err e) rest = refused_by e.why e.place
 
 -- what is found of a name before the pack is looked at
-pub record FoundIs (f : CallOutcome → CallOutcome) (r : NameCheck) : Type 0 where
+pub record FoundIs (f : CallOutcome → CallOutcome) (r : Result (Unit {0}) NameRefused) : Type 0 where
   pub is : (rest : CallOutcome) → found_by r rest ≡ f rest
 
 -- an answer held apart, written where it fits; or not, as it is a refusal or has no room
-pub data CopiedOut (a : AnswerEnd) (apart o o' : List ℕ) : Type 0 where
-  none : a.fine ≡ false → o' ≡ o → CopiedOut a apart o o'
-  over : length o < a.at → o' ≡ o → CopiedOut a apart o o'
-  copied : a.fine ≡ true → length o < cap → a.at ≤ length o → a.at ≤ length apart → o' ≡ sets o 0 (take a.at apart) → CopiedOut a apart o o'
+pub data CopiedOut (r : Result AnswerEnd Refusal) (apart o o' : List ℕ) : Type 0 where
+  none : (why : Refusal) → r ≡ Err why → o' ≡ o → CopiedOut r apart o o'
+  over : (a : AnswerEnd) → r ≡ Ok a → length o < a.at → o' ≡ o → CopiedOut r apart o o'
+  copied : (a : AnswerEnd) → r ≡ Ok a → length o < cap → a.at ≤ length o → a.at ≤ length apart → o' ≡ sets o 0 (take a.at apart) → CopiedOut r apart o o'
 
 -- the same; or that it fits, but is too long to be held apart
-unfoldable pub CopyOutIs : AnswerEnd → List ℕ → List ℕ → List ℕ → Bool → Type 0
-CopyOutIs a apart o o' true = CopiedOut a apart o o'
-CopyOutIs a apart o o' false = (a.fine ≡ true) × (a.at ≤ length o) × (o' ≡ o)
+pub record FitsOut (r : Result AnswerEnd Refusal) (o o' : List ℕ) : Type 0 where
+  pub end : AnswerEnd
+  pub is : r ≡ Ok end
+  pub fits : end.at ≤ length o
+  pub same : o' ≡ o
+
+unfoldable pub CopyOutIs : Result AnswerEnd Refusal → List ℕ → List ℕ → List ℕ → Bool → Type 0
+CopyOutIs r apart o o' true = CopiedOut r apart o o'
+CopyOutIs r apart o o' false = FitsOut r o o'
 
 -- an answer of so many bytes, or that they have no room
-unfoldable pub answered_by : AnswerEnd → ℕ → Spelled
-answered_by a room =
-    pick a.fine (pick (leb a.at room) (spelled.Done a.at a.flag) (spelled.Refused NoRoom (min a.at 4294967295))) (spelled.Refused a.why 0)
+unfoldable pub answered_by : Result AnswerEnd Refusal → ℕ → Spelled
+answered_by (Ok a) room = pick (leb a.at room) (spelled.Done a.at a.flag) (spelled.Refused NoRoom (min a.at 4294967295))
+answered_by (Err why) room = spelled.Refused why 0
 
 -- a name with no prefix, of which a test holds
 unfoldable pub whole_and : Prefix → Bool → Bool

@@ -1,5 +1,5 @@
 -- What the functions of a line tell: where it ends, or that it has no room behind the lines before it.
-use Rattle.std.specs.Prelude.{◌≡◌, ℕ, ◌+◌, ◌-◌, ◌≤◌, ◌<◌, min, Bool, true, false, List, [], ◌∷◌, eqb, leb, length}
+use Rattle.std.specs.Prelude.{◌≡◌, ℕ, ◌+◌, ◌-◌, ◌≤◌, ◌<◌, min, Bool, true, false, List, [], ◌∷◌, eqb, leb, length, Result, Ok, Err}
 use Rattle.std.proofs.lemmas.List.Edits.{sets}
 use Rattle.base.specs.Pick.{pick, and}
 use Rattle.choices.specs.Texts.{Text}
@@ -10,8 +10,6 @@ use Rattle.engine.specs.declared.lines.Space.{Space}
 use Rattle.engine.specs.declared.spelling.Spelled.{Spelled}
 use Rattle.engine.specs.declared.lines.Lines.{Lines}
 use Rattle.engine.specs.declared.lines.Lines.TheVariants as lines
-use Rattle.engine.specs.declared.lines.Fit.{Fit}
-use Rattle.engine.specs.declared.lines.Fit.TheVariants.{Behind, Over}
 
 -- ---- where a line goes
 
@@ -30,12 +28,12 @@ abbrev pub answer_room : Space → ℕ
 answer_room p = p.size - (p.at + 5)
 
 -- a line stands from its place on where it fits, else nothing is written; told is the length that the name's line needs
-pub record LineAt (line : Text) (told : ℕ) (o o' : List ℕ) (space : Space) (r : Fit) : Type 0 where
-  pub fits : length line ≤ space.size - space.at → (r ≡ Behind (space.at + length line)) × (o' ≡ sets o space.at line)
-  pub stops : space.size - space.at < length line → (r ≡ Over told) × (o' ≡ o)
+pub record LineAt (line : Text) (told : ℕ) (o o' : List ℕ) (space : Space) (r : Result ℕ ℕ) : Type 0 where
+  pub fits : length line ≤ space.size - space.at → (r ≡ Ok (space.at + length line)) × (o' ≡ sets o space.at line)
+  pub stops : space.size - space.at < length line → (r ≡ Err told) × (o' ≡ o)
 
 -- the line of a call
-abbrev pub LineFor : CallOutcome → List ℕ → List ℕ → Space → Fit → Type 0
+abbrev pub LineFor : CallOutcome → List ℕ → List ℕ → Space → Result ℕ ℕ → Type 0
 LineFor x o o' space r = LineAt (line_with (length o) x) (needed x) o o' space r
 
 -- a call's answer in its place in a line
@@ -73,8 +71,8 @@ unfoldable pub waits_for : ℕ → ℕ → ℕ → Bool
 waits_for code place size = and (eqb code 9) (leb (place + 5) size)
 
 -- nothing for an answer that waits, else the line of a refusal where it fits
-pub record RefusedIs (code place : ℕ) (o o' : List ℕ) (space : Space) (r : Fit) : Type 0 where
-  pub waits : waits_for code place space.size ≡ true → (r ≡ Over (length_needed code place)) × (o' ≡ o)
+pub record RefusedIs (code place : ℕ) (o o' : List ℕ) (space : Space) (r : Result ℕ ℕ) : Type 0 where
+  pub waits : waits_for code place space.size ≡ true → (r ≡ Err (length_needed code place)) × (o' ≡ o)
   pub line : waits_for code place space.size ≡ false → LineAt (refused_line code place) (length_needed code place) o o' space r
 
 -- ---- an answer
@@ -84,9 +82,9 @@ unfoldable pub head_of : Bool → Text
 head_of flag = 48 ∷ 32 ∷ flag_digit flag ∷ 32 ∷ []
 
 -- head and LF around an answer that stands, where they have room; else as for an answer that has none
-pub record DoneIs (written : ℕ) (flag : Bool) (o o' : List ℕ) (space : Space) (r : Fit) : Type 0 where
+pub record DoneIs (written : ℕ) (flag : Bool) (o o' : List ℕ) (space : Space) (r : Result ℕ ℕ) : Type 0 where
   pub fits : written + 5 ≤ space.size - space.at
-      → (r ≡ Behind (space.at + 4 + written + 1)) × (o' ≡ sets (sets o space.at (head_of flag)) (space.at + 4 + written) (10 ∷ []))
+      → (r ≡ Ok (space.at + 4 + written + 1)) × (o' ≡ sets (sets o space.at (head_of flag)) (space.at + 4 + written) (10 ∷ []))
   pub stops : space.size - space.at < written + 5 → RefusedIs 9 written o o' space r
 
 -- ---- a block that is read no further

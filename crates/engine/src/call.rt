@@ -9,7 +9,7 @@ ghost use Rattle.engine.specs.Calls.{settings_known, kind_known, have_languages,
 ghost use Rattle.engine.specs.InnerContracts.{OpenedIs, CallReady, is_guessed, call_for, with_start, started_by};
 ghost use Rattle.pack.specs.InnerContracts.{guessed_at};
 
-use languages::{LanguageSet, Listed};
+use languages::LanguageSet;
 use pack::Surveyed;
 use prefixes::NameType;
 use rule_index::Table;
@@ -30,24 +30,18 @@ pub enum Start {
     Given { kind: u32, bits: u32 },
 }
 
-// A survey's verdict, and where it accepts, the numbers that spelling works with: how many languages, the place of the guessing
-// section, and which language is `any`.
+// The numbers of an accepted pack that spelling works with: how many languages, the place of the guessing section, and which language is `any`.
 #[derive(Clone, Copy)]
-pub enum Opened {
-    Usable {
-        languages: usize,
-        guesses: usize,
-        any: usize,
-    },
-    Broken {
-        place: usize,
-    },
+pub struct PackNumbers {
+    pub languages: usize,
+    pub guesses: usize,
+    pub any: usize,
 }
 
-// What each name of a call is asked with.
+// What each name of a call is asked with; of a refused pack the place of the section at fault.
 #[derive(Clone, Copy)]
 pub struct Request {
-    pub opened: Opened,
+    pub opened: Result<PackNumbers, usize>,
     pub settings: Settings,
     pub start: Start,
 }
@@ -68,16 +62,16 @@ pub struct Call {
 
 // The pack's numbers, and the table that its rules are found by; numbered where many names are asked for.
 #[tactic(auto, using(crate::proofs::CallLaws::open_laws))]
-pub(crate) fn open(pack: &[u8], table: &mut Table, numbered: bool) -> Opened
+pub(crate) fn open(pack: &[u8], table: &mut Table, numbered: bool) -> Result<PackNumbers, usize>
     ensures { OpenedIs pack.now table.new result }
 {
     match rule_index::index(pack, table, numbered) {
-        Surveyed::Accepted { languages, guesses } => Opened::Usable {
+        Surveyed::Accepted { languages, guesses } => Ok(PackNumbers {
             languages,
             guesses,
             any: any_of(&pack[1..guesses]),
-        },
-        Surveyed::Refused(place) => Opened::Broken { place },
+        }),
+        Surveyed::Refused(place) => Err(place),
     }
 }
 
@@ -88,8 +82,8 @@ fn any_of(listed: &[u8]) -> usize
     ensures { result ≡ name_place any (strings_of listed.now) }
 {
     match languages::find_language(listed, b"any") {
-        Listed::Bit(bit) => u32::trailing_zeros(bit) as usize,
-        Listed::Unlisted => 0,
+        Some(bit) => bit.trailing_zeros() as usize,
+        None => 0,
     }
 }
 
@@ -98,16 +92,11 @@ fn any_of(listed: &[u8]) -> usize
 pub(crate) fn are_known(settings: Settings, start: Start) -> bool
     ensures { result ≡ settings_known settings start }
 {
-    if settings.name_type < 3 {
-        if settings.rule_type < 2 {
-            if settings.concat < 2 {
-                if settings.limit <= 256 {
-                    return is_known(start);
-                }
-            }
-        }
-    }
-    false
+    settings.name_type < 3
+        && settings.rule_type < 2
+        && settings.concat < 2
+        && settings.limit <= 256
+        && is_known(start)
 }
 
 #[tactic(auto, unfolding(crate::specs::Calls::kind_known))]
@@ -116,7 +105,7 @@ fn is_known(start: Start) -> bool
 {
     match start {
         Start::Guessed => true,
-        Start::Given { kind, bits: _ } => kind < 3,
+        Start::Given { kind, .. } => kind < 3,
     }
 }
 
@@ -128,13 +117,7 @@ pub(crate) fn have_languages(start: Start, languages: usize) -> bool
 {
     match start {
         Start::Guessed => true,
-        Start::Given { kind, bits } => {
-            if kind == 2 {
-                are_below(bits, languages)
-            } else {
-                true
-            }
-        }
+        Start::Given { kind, bits } => kind != 2 || are_below(bits, languages),
     }
 }
 
@@ -144,23 +127,17 @@ fn are_below(bits: u32, n: usize) -> bool
     requires { n ≤ 32 }
     ensures { result ≡ ltb bits (2 ^ n) }
 {
-    if n < 32 {
-        bits < (1u32 << (n as u32))
-    } else {
-        true
-    }
+    32 <= n || bits < 1u32 << n as u32
 }
 
 #[tactic(auto, using(base::proofs::PickLaws::cases), unfolding(crate::specs::Calls::type_of))]
 fn type_of(number: u32) -> NameType
     ensures { result ≡ type_of number }
 {
-    if number == 0 {
-        NameType::Ashkenazi
-    } else if number == 1 {
-        NameType::Generic
-    } else {
-        NameType::Sephardic
+    match number {
+        0 => NameType::Ashkenazi,
+        1 => NameType::Generic,
+        _ => NameType::Sephardic,
     }
 }
 
@@ -168,10 +145,7 @@ fn type_of(number: u32) -> NameType
 fn is_guessed(start: Start) -> bool
     ensures { result ≡ is_guessed start }
 {
-    match start {
-        Start::Guessed => true,
-        Start::Given { kind: _, bits: _ } => false,
-    }
+    matches!(start, Start::Guessed)
 }
 
 // The set that is given, if one is.
@@ -181,67 +155,41 @@ fn set_of(start: Start) -> LanguageSet
 {
     match start {
         Start::Guessed => LanguageSet::Any,
-        Start::Given { kind, bits } => {
-            if kind == 0 {
-                LanguageSet::Any
-            } else if kind == 1 {
-                LanguageSet::NoLanguages
-            } else {
-                LanguageSet::SomeLanguages(bits)
-            }
-        }
+        Start::Given { kind, bits } => match kind {
+            0 => LanguageSet::Any,
+            1 => LanguageSet::NoLanguages,
+            _ => LanguageSet::SomeLanguages(bits),
+        },
     }
 }
 
 // The call of known settings on a usable pack.
 #[tactic(auto, using(crate::proofs::CallLaws::call_made))]
-pub(crate) fn call_of(
-    settings: Settings,
-    start: Start,
-    languages: usize,
-    guesses: usize,
-    any: usize,
-) -> Call
-    ensures { result ≡ call_for settings start languages guesses any }
+pub(crate) fn call_of(settings: Settings, start: Start, numbers: PackNumbers) -> Call
+    ensures { result ≡ call_for settings start numbers }
 {
     Call {
         kind: type_of(settings.name_type),
         rules: settings.rule_type as usize,
         concat: settings.concat == 1,
         limit: settings.limit as usize,
-        languages,
-        guesses,
-        any,
+        languages: numbers.languages,
+        guesses: numbers.guesses,
+        any: numbers.any,
         fresh: is_guessed(start),
         set: set_of(start),
     }
 }
 
-// The same call, for names that are spelled afresh or with a set.
-#[tactic(auto, unfolding(crate::specs::InnerContracts::with_start))]
-fn with_start(call: Call, fresh: bool, set: LanguageSet) -> Call
-    ensures { result ≡ with_start call fresh set }
-{
-    let kind = call.kind;
-    Call {
-        kind,
-        rules: call.rules,
-        concat: call.concat,
-        limit: call.limit,
-        languages: call.languages,
-        guesses: call.guesses,
-        any: call.any,
-        fresh,
-        set,
-    }
-}
-
 // The same call for a name that is spelled afresh.
+#[tactic(auto, unfolding(crate::specs::InnerContracts::with_start))]
 pub(crate) fn afresh(call: Call) -> Call
     ensures { result ≡ with_start call true call.set }
 {
-    let set = call.set;
-    with_start(call, true, set)
+    Call {
+        fresh: true,
+        ..call
+    }
 }
 
 // The set that a name starts with.
@@ -258,11 +206,14 @@ fn start_of(pack: &[u8], table: &Table, call: Call, name: &[u8]) -> LanguageSet
 }
 
 // The same call with that set.
-#[tactic(auto, unfolding(crate::specs::InnerContracts::started_by))]
+#[tactic(auto, unfolding(crate::specs::InnerContracts::started_by, crate::specs::InnerContracts::with_start))]
 pub(crate) fn start_at(pack: &[u8], table: &Table, call: Call, name: &[u8]) -> Call
     requires { CallReady pack.now table.now call }
     ensures { result ≡ started_by call (guessed_at pack.now call.guesses call.languages name.now) }
 {
-    let set = start_of(pack, table, call, name);
-    with_start(call, false, set)
+    Call {
+        fresh: false,
+        set: start_of(pack, table, call, name),
+        ..call
+    }
 }

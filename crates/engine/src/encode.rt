@@ -4,13 +4,13 @@ ghost use Rattle.base.specs.Pick.{pick};
 ghost use Rattle.languages.specs.Sets.{single_of};
 ghost use Rattle.name_parts.specs.Words.{one_word};
 ghost use Rattle.writing.specs.InnerContracts.{cap};
-ghost use Rattle.engine.specs.Spelling.{parted_as, or};
+ghost use Rattle.engine.specs.Spelling.{parted_as};
 ghost use Rattle.engine.specs.Calls.{language_by};
-ghost use Rattle.engine.specs.InnerContracts.{CallReady, Asks, list_numbers, EndedIs, SpeltInto, SpeltWhole, both_of, HyphenAt, bracketed, JoinedIs};
+ghost use Rattle.engine.specs.InnerContracts.{CallReady, Asks, list_numbers, ended_at, SpeltInto, SpeltWhole, both_of, chosen_refusal, HyphenAt, bracketed, JoinedIs};
 ghost use Rattle.engine.specs.InnerContracts.{spelt_word, spelt_part, spelt_name, spelt_afresh, spelt_words};
 
 use crate::call::{Call, afresh, start_at};
-use languages::{LanguageSet, Single};
+use languages::LanguageSet;
 use phoneme_builder::{Plan, Slots, Store, Worded};
 use prefixes::{NameType, Prefix};
 use refusals::Refusal;
@@ -19,13 +19,11 @@ use rule_index::Table;
 // No slice has more bytes; a place stays at most this.
 const CAP: usize = 0x8000_0000_0000_0000;
 
-// Where an answer ends and its flag, if it is fine (`why` then says nothing); else why it is refused.
+// Where an answer ends, and its flag.
 #[derive(Clone, Copy)]
 pub struct AnswerEnd {
     pub at: usize,
     pub flag: bool,
-    pub fine: bool,
-    pub why: Refusal,
 }
 
 // The numbers of the three lists that a word is spelled by.
@@ -36,11 +34,11 @@ pub struct Lists {
     pub own: usize,
 }
 
-// Whether a name has a prefix: where its remainder begins, and how long the joined name is.
+// Of a name with a prefix: where its remainder begins, and how long the joined name is.
 #[derive(Clone, Copy)]
-pub enum Joined {
-    Prefixed { rest: usize, length: usize },
-    Whole,
+pub struct Joined {
+    pub rest: usize,
+    pub length: usize,
 }
 
 // The language whose lists are used: the single one, else `any`.
@@ -49,8 +47,8 @@ fn language_of(set: LanguageSet, any: usize) -> usize
     ensures { result ≡ language_by (single_of set) any }
 {
     match set.single() {
-        Single::Language(l) => l as usize,
-        Single::NotSingle => any,
+        Some(l) => l as usize,
+        None => any,
     }
 }
 
@@ -68,42 +66,18 @@ fn lists_of(call: Call, l: usize) -> Lists
     }
 }
 
-// The place behind n bytes more.
-fn forward(at: usize, n: usize) -> usize
-    ensures { result ≡ min (at + n) cap }
-{
-    if n < CAP {
-        if at < CAP - n {
-            return at + n;
-        }
-    }
-    CAP
-}
-
 // What a word's answer comes to.
 #[tactic(auto, using(crate::proofs::EncodeLaws::encode_laws))]
-fn ended(answer: Worded, at: usize) -> AnswerEnd
-    ensures { EndedIs answer at result }
+fn ended(answer: Worded, at: usize) -> Result<AnswerEnd, Refusal>
+    ensures { result ≡ ended_at answer at }
 {
     match answer {
-        Worded::Done { length, flag } => AnswerEnd {
-            at: forward(at, length),
+        Worded::Done { length, flag } => Ok(AnswerEnd {
+            at: at.saturating_add(length).min(CAP),
             flag,
-            fine: true,
-            why: Refusal::NoRoom,
-        },
-        Worded::TooLong => AnswerEnd {
-            at,
-            flag: false,
-            fine: false,
-            why: Refusal::TextTooLong,
-        },
-        Worded::TooMany => AnswerEnd {
-            at,
-            flag: false,
-            fine: false,
-            why: Refusal::TooManyTexts,
-        },
+        }),
+        Worded::TooLong => Err(Refusal::TextTooLong),
+        Worded::TooMany => Err(Refusal::TooManyTexts),
     }
 }
 
@@ -112,11 +86,7 @@ fn ended(answer: Worded, at: usize) -> AnswerEnd
 pub(crate) fn is_one_part(call: Call, name: &[u8]) -> bool
     ensures { result ≡ pick call.concat true (one_word name.now) }
 {
-    if call.concat {
-        true
-    } else {
-        name_parts::one_word(name)
-    }
+    call.concat || name_parts::one_word(name)
 }
 
 // A word spelled with the call's set, into `out` from `at` on where it fits as a whole.
@@ -130,7 +100,7 @@ fn spell_word(
     word: &[u8],
     out: &mut [u8],
     at: usize,
-) -> AnswerEnd
+) -> Result<AnswerEnd, Refusal>
     requires { CallReady pack.now table.now call }
     ensures { SpeltWhole (spelt_word pack.now call word.now) out.old out.new at result }
 {
@@ -159,16 +129,15 @@ pub(crate) fn spell_part(
     name: &[u8],
     out: &mut [u8],
     at: usize,
-) -> AnswerEnd
+) -> Result<AnswerEnd, Refusal>
     requires call_ready { CallReady pack.now table.now call }
     requires name_len_bound { length name.now ≤ 96 }
     ensures { SpeltWhole (spelt_part pack.now call name.now) out.old out.new at result }
 {
     let by = start_at(pack, table, call, name);
     if call.concat {
-        let kind = call.kind;
         let mut joined = [0u8; 96];
-        let n = name_parts::join_words(kind, name, &mut joined);
+        let n = name_parts::join_words(call.kind, name, &mut joined);
         spell_word(store, slots, pack, table, by, &joined[0..n], out, at)
     } else {
         let word = name_parts::next_word(name, 0);
@@ -182,24 +151,23 @@ pub(crate) fn part_of(kind: NameType, name: &[u8]) -> Prefix
     ensures { result ≡ parted_as kind name.now }
 {
     match kind {
-        NameType::Ashkenazi => Prefix::Whole,
         NameType::Generic => prefixes::prefix_of(name),
-        NameType::Sephardic => Prefix::Whole,
+        NameType::Ashkenazi | NameType::Sephardic => Prefix::Whole,
     }
 }
 
 // A name's prefix joined to its remainder, at the front of a buffer, if it has one.
 #[tactic(auto, using(crate::proofs::NameLaws::join_laws))]
-fn join_parts(kind: NameType, name: &[u8], joined: &mut [u8]) -> Joined
+fn join_parts(kind: NameType, name: &[u8], joined: &mut [u8]) -> Option<Joined>
     requires { (length name.now ≤ 96) × (length joined.old ≡ 96) }
     ensures { JoinedIs kind name.now joined.new result }
 {
     match part_of(kind, name) {
-        Prefix::Leads { size, rest } => Joined::Prefixed {
+        Prefix::Leads { size, rest } => Some(Joined {
             rest,
             length: name_parts::join_prefix(name, size, rest, joined),
-        },
-        Prefix::Whole => Joined::Whole,
+        }),
+        Prefix::Whole => None,
     }
 }
 
@@ -215,28 +183,25 @@ fn hyphen(out: &mut [u8], at: usize, p: usize) -> usize
     }
 }
 
-#[tactic(auto, using(crate::proofs::EncodeLaws::encode_laws))]
-fn either(a: bool, b: bool) -> bool
-    ensures { result ≡ or a b }
-{
-    if a { true } else { b }
-}
-
-// Two answers as one that ends at a place; the refusal of the first goes before.
+// Two answers as one that ends at a place.
 #[tactic(auto, using(crate::proofs::EncodeLaws::encode_laws))]
 fn both(first: AnswerEnd, second: AnswerEnd, at: usize) -> AnswerEnd
     ensures { result ≡ both_of first second at }
 {
-    if first.fine {
-        let why = second.why;
-        AnswerEnd {
-            at,
-            flag: either(first.flag, second.flag),
-            fine: second.fine,
-            why,
-        }
-    } else {
-        first
+    AnswerEnd {
+        at,
+        flag: first.flag || second.flag,
+    }
+}
+
+// Where a remainder is refused: the joined name's refusal goes before.
+#[tactic(auto, unfolding(crate::specs::InnerContracts::chosen_refusal))]
+fn choose_refusal(joined: Result<AnswerEnd, Refusal>, remainder: Refusal) -> Refusal
+    ensures { result ≡ chosen_refusal joined remainder }
+{
+    match joined {
+        Err(why) => why,
+        Ok(_) => remainder,
     }
 }
 
@@ -253,27 +218,28 @@ pub(crate) fn spell_name(
     name: &[u8],
     out: &mut [u8],
     at: usize,
-) -> AnswerEnd
+) -> Result<AnswerEnd, Refusal>
     requires { Asks pack.now table.now call name.now at }
     ensures { SpeltInto (spelt_name pack.now call name.now) out.old out.new at result }
 {
-    let kind = call.kind;
     let mut joined = [0u8; 96];
-    match join_parts(kind, name, &mut joined) {
-        Joined::Prefixed { rest, length } => {
-            let a = spell_bracketed(store, slots, pack, table, call, &name[rest..], out, at);
-            let p = writing::push(out, a.at, b'-');
-            let b = spell_bracketed(store, slots, pack, table, call, &joined[0..length], out, p);
-            both(b, a, b.at)
+    let Some(Joined { rest, length }) = join_parts(call.kind, name, &mut joined) else {
+        return if is_one_part(call, name) {
+            spell_part(store, slots, pack, table, call, name, out, at)
+        } else {
+            spell_words(store, slots, pack, table, call, name, out, at)
+        };
+    };
+    let a = match spell_bracketed(store, slots, pack, table, call, &name[rest..], out, at) {
+        Ok(a) => a,
+        Err(why) => {
+            let b = spell_bracketed(store, slots, pack, table, call, &joined[0..length], out, at);
+            return Err(choose_refusal(b, why));
         }
-        Joined::Whole => {
-            if is_one_part(call, name) {
-                spell_part(store, slots, pack, table, call, name, out, at)
-            } else {
-                spell_words(store, slots, pack, table, call, name, out, at)
-            }
-        }
-    }
+    };
+    let p = writing::push(out, a.at, b'-');
+    let b = spell_bracketed(store, slots, pack, table, call, &joined[0..length], out, p)?;
+    Ok(both(b, a, b.at))
 }
 
 // A name spelled afresh, between brackets.
@@ -288,21 +254,16 @@ fn spell_bracketed(
     name: &[u8],
     out: &mut [u8],
     at: usize,
-) -> AnswerEnd
+) -> Result<AnswerEnd, Refusal>
     requires { Asks pack.now table.now call name.now at }
     ensures { SpeltInto (bracketed (spelt_afresh pack.now call name.now)) out.old out.new at result }
 {
     let p = writing::push(out, at, b'(');
-    let again = afresh(call);
-    let a = spell_name(store, slots, pack, table, again, name, out, p);
-    let end = writing::push(out, a.at, b')');
-    let why = a.why;
-    AnswerEnd {
-        at: end,
+    let a = spell_name(store, slots, pack, table, afresh(call), name, out, p)?;
+    Ok(AnswerEnd {
+        at: writing::push(out, a.at, b')'),
         flag: a.flag,
-        fine: a.fine,
-        why,
-    }
+    })
 }
 
 // Each word of a name spelled afresh, a hyphen between them.
@@ -317,26 +278,21 @@ fn spell_words(
     name: &[u8],
     out: &mut [u8],
     at: usize,
-) -> AnswerEnd
+) -> Result<AnswerEnd, Refusal>
     requires asks { Asks pack.now table.now call name.now at }
     requires name_value { one_word name.now ≡ false }
     ensures { SpeltInto (spelt_words pack.now call name.now) out.old out.new at result }
 {
-    let mut all = AnswerEnd {
-        at,
-        flag: false,
-        fine: true,
-        why: Refusal::NoRoom,
-    };
+    let mut all = AnswerEnd { at, flag: false };
     let mut p: usize = 0;
+    // Stays a loop by hand: where the next word begins is known once this one is read.
     loop {
         let w = name_parts::next_word(name, p);
         if w.len() == 0 {
-            return all;
+            return Ok(all);
         }
         let q = hyphen(out, all.at, p);
-        let again = afresh(call);
-        let b = spell_name(store, slots, pack, table, again, w, out, q);
+        let b = spell_name(store, slots, pack, table, afresh(call), w, out, q)?;
         all = both(all, b, b.at);
         p = name_parts::past_word(name, p);
     }

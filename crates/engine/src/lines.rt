@@ -20,13 +20,6 @@ pub enum Lines {
     NoRoom { needed: usize },
 }
 
-// The place behind a line; or that it has no room there, and how many bytes the name's line needs.
-#[derive(Clone, Copy)]
-pub enum Fit {
-    Behind { next: usize },
-    Over { needed: usize },
-}
-
 // Where a line begins, and how many bytes of the buffer are used.
 #[derive(Clone, Copy)]
 pub struct Space {
@@ -41,14 +34,14 @@ const MOST: usize = 4294967295;
 fn most_of(n: usize) -> usize
     ensures { result ≡ min n most }
 {
-    if n < MOST { n } else { MOST }
+    n.min(MOST)
 }
 
 // The length of the line with an answer of so many bytes.
 fn line_length(n: usize) -> usize
     ensures { result ≡ line_length n }
 {
-    if n < MOST - 5 { n + 5 } else { MOST }
+    n.min(MOST - 5) + 5
 }
 
 // A number in decimal, from a place on. Returns the place behind it.
@@ -80,7 +73,7 @@ fn put_refusal(code: u8, place: usize, out: &mut [u8], at: usize) -> usize
 fn has_room(n: usize, room: usize) -> bool
     ensures { result ≡ leb (n + 5) room }
 {
-    if 5 <= room { n <= room - 5 } else { false }
+    5 <= room && n <= room - 5
 }
 
 // Whether an answer has no room here, but has in the whole buffer.
@@ -88,11 +81,7 @@ fn has_room(n: usize, room: usize) -> bool
 fn waits(code: u8, place: usize, size: usize) -> bool
     ensures { result ≡ waits_for code place size }
 {
-    if code == 9 {
-        has_room(place, size)
-    } else {
-        false
-    }
+    code == 9 && has_room(place, size)
 }
 
 // What the line of a refusal tells as its place: for 9 the length of the line with the answer.
@@ -113,7 +102,7 @@ fn length_told(code: u8, place: usize, n: usize) -> usize
 
 // The line of a refusal from `at` on where it fits, unless the answer waits.
 #[tactic(auto, using(crate::proofs::LineLaws::lines_laws))]
-fn refused_line(code: u8, place: usize, out: &mut [u8], space: Space) -> Fit
+fn refused_line(code: u8, place: usize, out: &mut [u8], space: Space) -> Result<usize, usize>
     requires { SpaceIn out.old space }
     ensures { RefusedIs code place out.old out.new space result }
 {
@@ -124,13 +113,12 @@ fn refused_line(code: u8, place: usize, out: &mut [u8], space: Space) -> Fit
     let n = put_refusal(code, told, &mut none, 0);
     let needed = length_told(code, place, most_of(n));
     if waits(code, place, size) {
-        return Fit::Over { needed };
+        return Err(needed);
     }
     if n <= size - at {
-        let next = put_refusal(code, told, out, at);
-        Fit::Behind { next }
+        Ok(put_refusal(code, told, out, at))
     } else {
-        Fit::Over { needed }
+        Err(needed)
     }
 }
 
@@ -139,13 +127,13 @@ fn refused_line(code: u8, place: usize, out: &mut [u8], space: Space) -> Fit
 fn put_head(flag: bool, out: &mut [u8], at: usize) -> usize
     ensures { Put out.old out.new at result (head_of flag) }
 {
-    let head = [b'0', b' ', b'0' + flag as u8, b' '];
+    let head = [b'0', b' ', b'0' + u8::from(flag), b' '];
     writing::copy(&head, out, at)
 }
 
 // What stands before and behind an answer in its place, 4 bytes behind `at`, where they fit; else the answer is too long.
 #[tactic(auto, using(crate::proofs::LineLaws::lines_laws))]
-fn done_line(written: usize, flag: bool, out: &mut [u8], space: Space) -> Fit
+fn done_line(written: usize, flag: bool, out: &mut [u8], space: Space) -> Result<usize, usize>
     requires { SpaceIn out.old space }
     ensures { DoneIs written flag out.old out.new space result }
 {
@@ -153,8 +141,7 @@ fn done_line(written: usize, flag: bool, out: &mut [u8], space: Space) -> Fit
     let size = space.size;
     if has_room(written, size - at) {
         put_head(flag, out, at);
-        let next = writing::push(out, at + 4 + written, b'\n');
-        Fit::Behind { next }
+        Ok(writing::push(out, at + 4 + written, b'\n'))
     } else {
         refused_line(9, written, out, space)
     }
@@ -165,7 +152,7 @@ fn front_of(at: usize, size: usize) -> usize
     requires { at ≤ size }
     ensures { result ≡ min (at + 4) size }
 {
-    if size - at < 4 { size } else { at + 4 }
+    at + (size - at).min(4)
 }
 
 // Where the room of an answer ends, before the last byte.
@@ -173,7 +160,7 @@ fn end_of(a: usize, size: usize) -> usize
     requires { a ≤ size }
     ensures { result ≡ max a (size - 1) }
 {
-    if a < size { size - 1 } else { a }
+    a.max(size.saturating_sub(1))
 }
 
 // A name spelled, its answer in its place in a line.
@@ -208,7 +195,7 @@ fn put_line(
     name: &[u8],
     out: &mut [u8],
     space: Space,
-) -> Fit
+) -> Result<usize, usize>
     requires opened_is { OpenedIs pack.now table.now request.opened }
     requires space_of { SpaceOf out.old space }
     ensures { LineFor (outcome_for request pack.now name.now) out.old out.new space result }
@@ -258,6 +245,7 @@ fn put_lines(
     let size = most_of(out.len());
     let mut read: usize = 0;
     let mut written: usize = 0;
+    // Stays a loop by hand: a line goes behind the one before it, and none is read behind one that has no room.
     loop {
         let rest = &block[read..];
         let n = texts::find_byte(rest, b'\n');
@@ -266,11 +254,11 @@ fn put_lines(
         }
         let space = Space { at: written, size };
         match put_line(store, slots, pack, table, request, &rest[0..n], out, space) {
-            Fit::Behind { next } => {
+            Ok(next) => {
                 written = next;
                 read = past_line(block, read, n);
             }
-            Fit::Over { needed } => return stopped(read, written, needed),
+            Err(needed) => return stopped(read, written, needed),
         }
     }
 }

@@ -8,10 +8,9 @@ ghost use Rattle.engine.specs.InnerContracts.{OpenedIs, FineFor, outcome_on, out
 ghost use Rattle.engine.specs.InnerContracts.{CallReady, SpeltWhole, spelt_name, spelt_fine, LoweredIs};
 
 use crate::call::{
-    Call, Opened, Request, Settings, Start, are_known, call_of, have_languages, open, start_at,
+    Call, Request, Settings, Start, are_known, call_of, have_languages, open, start_at,
 };
 use crate::encode::{AnswerEnd, is_one_part, part_of, spell_name, spell_part};
-use letters::Found;
 use phoneme_builder::{Slots, Store};
 use prefixes::Prefix;
 use refusals::Refusal;
@@ -24,79 +23,69 @@ pub enum Spelled {
     Refused { why: Refusal, place: usize },
 }
 
-// What is found of a name before the pack is looked at.
+// A refusal that is found of a name before the pack is looked at, and its place.
 #[derive(Clone, Copy)]
-pub enum NameCheck {
-    Fine,
-    Wrong { why: Refusal, place: usize },
+pub struct NameRefused {
+    pub why: Refusal,
+    pub place: usize,
 }
 
 // Refusals 3, 1 and 2.
 #[tactic(auto, using(crate::proofs::CallLaws::found_laws))]
-fn letters_of(name: &[u8]) -> NameCheck
+fn letters_of(name: &[u8]) -> Result<(), NameRefused>
     ensures { FoundIs (letters_then name.now) result }
 {
     if 96 < name.len() {
-        return NameCheck::Wrong {
+        return Err(NameRefused {
             why: Refusal::NameTooLong,
             place: 0,
-        };
+        });
     }
-    match letters::first_ill(name) {
-        Found::At(place) => NameCheck::Wrong {
+    if let Some(place) = letters::first_ill(name) {
+        return Err(NameRefused {
             why: Refusal::NotUtf8,
             place,
-        },
-        Found::Nothing => match letters::first_outside(name) {
-            Found::At(place) => NameCheck::Wrong {
-                why: Refusal::OutsideRange,
-                place,
-            },
-            Found::Nothing => NameCheck::Fine,
-        },
+        });
+    }
+    match letters::first_outside(name) {
+        Some(place) => Err(NameRefused {
+            why: Refusal::OutsideRange,
+            place,
+        }),
+        None => Ok(()),
     }
 }
 
 // Refusals 4, 3, 1 and 2, which come before the pack's.
 #[tactic(auto, using(crate::proofs::CallLaws::found_laws))]
-fn refusal_of(settings: Settings, start: Start, name: &[u8]) -> NameCheck
+fn refusal_of(settings: Settings, start: Start, name: &[u8]) -> Result<(), NameRefused>
     ensures { FoundIs (checked_then settings start name.now) result }
 {
     if are_known(settings, start) {
         letters_of(name)
     } else {
-        NameCheck::Wrong {
+        Err(NameRefused {
             why: Refusal::SettingUnknown,
             place: 0,
-        }
+        })
     }
 }
 
 // An answer of so many bytes, or that they have no room.
-#[tactic(auto, using(crate::proofs::CallLaws::place_kept, crate::proofs::CallLaws::place_cut, base::proofs::PickLaws::cases), unfolding(crate::specs::InnerContracts::answered_by))]
-fn answer(a: AnswerEnd, room: usize) -> Spelled
-    ensures { result ≡ answered_by a room }
+#[tactic(auto, using(crate::proofs::CallLaws::answer_laws))]
+fn answer(spelt: Result<AnswerEnd, Refusal>, room: usize) -> Spelled
+    ensures { result ≡ answered_by spelt room }
 {
-    if a.fine {
-        if a.at <= room {
-            Spelled::Done {
-                written: a.at,
-                flag: a.flag,
-            }
-        } else if a.at < 4294967295 {
-            Spelled::Refused {
-                why: Refusal::NoRoom,
-                place: a.at,
-            }
-        } else {
-            Spelled::Refused {
-                why: Refusal::NoRoom,
-                place: 4294967295,
-            }
-        }
-    } else {
-        let why = a.why;
-        Spelled::Refused { why, place: 0 }
+    match spelt {
+        Ok(a) if a.at <= room => Spelled::Done {
+            written: a.at,
+            flag: a.flag,
+        },
+        Ok(a) => Spelled::Refused {
+            why: Refusal::NoRoom,
+            place: a.at.min(4294967295),
+        },
+        Err(why) => Spelled::Refused { why, place: 0 },
     }
 }
 
@@ -105,28 +94,25 @@ fn answer(a: AnswerEnd, room: usize) -> Spelled
 fn is_single(call: Call, name: &[u8]) -> bool
     ensures { result ≡ whole_and (parted_as call.kind name.now) (pick call.concat true (one_word name.now)) }
 {
-    let kind = call.kind;
-    match part_of(kind, name) {
-        Prefix::Leads { size: _, rest: _ } => false,
-        Prefix::Whole => is_one_part(call, name),
-    }
+    matches!(part_of(call.kind, name), Prefix::Whole) && is_one_part(call, name)
 }
 
 // An answer held apart, written where it fits. False where it fits, but is too long to be held apart.
 #[tactic(auto, using(crate::proofs::AnswerLaws::copy_laws))]
-fn copy_out(a: AnswerEnd, apart: &[u8], out: &mut [u8]) -> bool
-    ensures { CopyOutIs a apart.now out.old out.new result }
+fn copy_out(spelt: Result<AnswerEnd, Refusal>, apart: &[u8], out: &mut [u8]) -> bool
+    ensures { CopyOutIs spelt apart.now out.old out.new result }
 {
-    let n = a.at;
-    if a.fine {
-        if n <= out.len() {
-            if n <= apart.len() {
-                writing::copy(&apart[0..n], out, 0);
-                return true;
-            }
-            return false;
-        }
+    let a = match spelt {
+        Ok(a) => a,
+        Err(_) => return true,
+    };
+    if out.len() < a.at {
+        return true;
     }
+    if apart.len() < a.at {
+        return false;
+    }
+    writing::copy(&apart[0..a.at], out, 0);
     true
 }
 
@@ -141,7 +127,7 @@ fn spell_lowered(
     call: Call,
     name: &[u8],
     out: &mut [u8],
-) -> AnswerEnd
+) -> Result<AnswerEnd, Refusal>
     requires call_ready { CallReady pack.now table.now call }
     requires name_len_bound { length name.now ≤ 96 }
     ensures { SpeltWhole (spelt_name pack.now call name.now) out.old out.new 0 result }
@@ -182,7 +168,7 @@ fn spell_fine(
     call: Call,
     name: &[u8],
     out: &mut [u8],
-) -> AnswerEnd
+) -> Result<AnswerEnd, Refusal>
     requires call_ready { CallReady pack.now table.now call }
     requires name_len_bound { length name.now ≤ 96 }
     ensures { SpeltWhole (spelt_fine pack.now call name.now) out.old out.new 0 result }
@@ -207,31 +193,24 @@ fn spell_opened(
     requires { FineFor pack.now table.now request name.now }
     ensures { SpellIs (outcome_on pack.now request name.now) out.old result out.new }
 {
-    let opened = request.opened;
-    let settings = request.settings;
-    let start = request.start;
-    match opened {
-        Opened::Usable {
-            languages,
-            guesses,
-            any,
-        } => {
-            if have_languages(start, languages) {
-                let call = call_of(settings, start, languages, guesses, any);
-                let a = spell_fine(store, slots, pack, table, call, name, out);
-                answer(a, out.len())
-            } else {
-                Spelled::Refused {
-                    why: Refusal::NoSuchLanguage,
-                    place: 0,
-                }
-            }
+    let numbers = match request.opened {
+        Ok(numbers) => numbers,
+        Err(place) => {
+            return Spelled::Refused {
+                why: Refusal::PackBroken,
+                place,
+            };
         }
-        Opened::Broken { place } => Spelled::Refused {
-            why: Refusal::PackBroken,
-            place,
-        },
+    };
+    if !have_languages(request.start, numbers.languages) {
+        return Spelled::Refused {
+            why: Refusal::NoSuchLanguage,
+            place: 0,
+        };
     }
+    let call = call_of(request.settings, request.start, numbers);
+    let a = spell_fine(store, slots, pack, table, call, name, out);
+    answer(a, out.len())
 }
 
 // Any name, with any settings: the checks in the order 4, 3, 1, 2, 5, 6, and then its answer.
@@ -248,11 +227,9 @@ pub(crate) fn spell_at(
     requires { OpenedIs pack.now table.now request.opened }
     ensures { SpellIs (outcome_for request pack.now name.now) out.old result out.new }
 {
-    let settings = request.settings;
-    let start = request.start;
-    match refusal_of(settings, start, name) {
-        NameCheck::Fine => spell_opened(store, slots, pack, table, request, name, out),
-        NameCheck::Wrong { why, place } => Spelled::Refused { why, place },
+    match refusal_of(request.settings, request.start, name) {
+        Ok(()) => spell_opened(store, slots, pack, table, request, name, out),
+        Err(NameRefused { why, place }) => Spelled::Refused { why, place },
     }
 }
 

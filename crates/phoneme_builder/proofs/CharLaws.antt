@@ -52,15 +52,22 @@ take_min (x ∷ l) (suc n) =
     rw one (ap (◌∷◌ x) (take_min l n))
 
 module _ (s : List ℕ) (guesses end : ℕ) (e : end ≡ min guesses (length s)) where
-  pub names_some : take (end - 1) (drop 1 s) ≡ names_in s guesses
+  names_some : take (end - 1) (drop 1 s) ≡ names_in s guesses
   unfolding names_in
   names_some =
       let all : end - 1 ≡ min (guesses - 1) (length (drop 1 s)) = simp length-drop (omega arith) in
       rw all (take_min (drop 1 s) (guesses - 1))
 
-  pub names_none : end ≤ 1 → take (0 - 0) (drop 0 s) ≡ names_in s guesses
+  names_none : end ≤ 1 → [] ≡ names_in s guesses
   names_none h =
       let none : end - 1 ≡ 0 = omega arith in
       sym (ap (λ (n : ℕ). take n (drop 1 s)) none) ∙ names_some
 
-pub ruleset names_laws = (names_some, names_none, rules)
+-- from place 1 on, or nothing where there is no place 1
+pub names_from : (s : List ℕ) (guesses end m : ℕ) → end ≡ min guesses (length s) → m ≡ min end 1 → take (end - m) (drop m s) ≡ names_in s guesses
+names_from s guesses zero m e em =
+    let none : zero - m ≡ 0 = omega arith in
+    rw none (names_none s guesses zero e (omega arith))
+names_from s guesses (suc n) m e em =
+    let one : m ≡ 1 = omega arith in
+    rw one (names_some s guesses (suc n) e)

@@ -1,7 +1,8 @@
 -- Characters appended one after the other, and as one stretch: the same comes of both. Laws for `settle`. Assumes nothing.
 use borrow.Author.Rules.{rules}
+use Rattle.std.proofs.Common.{Result, Ok, Err}
 use mathlib.Core.Path.{◌≡◌, refl, sym, ap, ap₂, subst, ◌∙◌}
-use mathlib.Core.Bool.{Bool, true, false}
+use mathlib.Core.Bool.{Bool, true, false, not}
 use mathlib.Core.List.{List, [], ◌∷◌, ◌++◌, map, append_assoc}
 use mathlib.Core.Logic.{◌⊎◌, inl, inr}
 use Prim.Native.Nat.{ℕ, ◌-◌, ◌≤◌, ◌<◌}
@@ -12,8 +13,8 @@ use lib.ListN.{length, take, drop, length-append, length-take, length-drop}
 use Rattle.base.specs.Pick.{pick}
 use Rattle.base.proofs.PickLaws.{pick_all}
 use Rattle.letters.specs.Order.{order_of}
-use Rattle.letters.specs.declared.order.Order.{Order}
-use Rattle.letters.specs.declared.order.Order.TheVariants.{Less, Equal, Greater}
+use Rattle.std.specs.declared.cmp.Ordering.{Ordering}
+use Rattle.std.specs.declared.cmp.Ordering.TheVariants.{Less, Equal, Greater}
 use Rattle.letters.proofs.StrictOrder.{compare_same}
 use Rattle.choices.specs.Texts.{Text, by_order}
 use Rattle.choices.specs.Apply.{Entry, texts_of, NextSet, next_set, insert}
@@ -24,16 +25,14 @@ use Rattle.phoneme_builder.specs
 use specs.Sets.{sorted, lengthened, all_short, appended}
 use specs.BufferContracts.{entry, Arena, SetAt, Only, AppliedAt, BetweenIn, source_of}
 use specs.Passes.{Ran, after_letter, unmatched}
-use specs.InnerContracts.{Sides, straight, crossed, sets_at, StageIn, stretched, SettledKept, settled_by, SettledBy}
+use specs.InnerContracts.{Sides, straight, crossed, StageIn, stretched, SettledKept, settled_by, SettledBy}
 use specs.declared
-use declared.apply.Applied.{Applied}
-use declared.apply.Applied.TheVariants.{Now, TooLong}
-use declared.pass.Pass.{Pass}
+use declared.way.Pass.{Pass}
 use declared.pass.Stage.{Stage}
-use declared.pass.Settled.TheVariants as settled
+use declared.set.Excess.{Excess}
 use Rattle.phoneme_builder.proofs
 use proofs.PartLaws.{only_refl}
-use proofs.Answers.{now-at, now-held-at, long-at}
+use proofs.Answers.{now-at, now-held-at, only-long-at, long-at}
 use proofs.AppendLaws.{lengthened_apart, appended_long, appended_short}
 
 -- ---- sorted anew twice, and once
@@ -42,7 +41,7 @@ use proofs.AppendLaws.{lengthened_apart, appended_long, appended_short}
 module _ {S : Type 0} (made : List Entry → S) (more : Entry → S → S) (each : (e : Entry) (l : List Entry) → made (e ∷ l) ≡ more e (made l))
     (either : (x e : Entry) (l : List Entry) → order_of x.text e.text ≡ Less → more x (more e (made l)) ≡ more e (more x (made l)))
     (once : (x e : Entry) (l : List Entry) → x.text ≡ e.text → more x (made l) ≡ more e (more x (made l))) where
-  made_by : (e x : Entry) (l : List Entry) (o : Order) → order_of x.text e.text ≡ o → made (insert e l) ≡ more e (made l)
+  made_by : (e x : Entry) (l : List Entry) (o : Ordering) → order_of x.text e.text ≡ o → made (insert e l) ≡ more e (made l)
       → made (by_order o (x ∷ insert e l) (x ∷ l) (e ∷ x ∷ l)) ≡ more e (more x (made l))
   unfolding by_order
   made_by e x l Less q ih = each x _ ∙ ap (more x) ih ∙ either x e l q
@@ -174,6 +173,14 @@ sides_between s crossed set = record { source = set; known = s.source.known; apa
 
 -- ---- the stretch before a stage
 
+not_true : (b : Bool) → not b ≡ true → b ≡ false
+not_true true e = cc
+not_true false e = refl
+
+not_false : (b : Bool) → not b ≡ false → b ≡ true
+not_false true e = refl
+not_false false e = cc
+
 stretched_some : (final : Bool) (c : Text) (l : List Entry) → 0 < length c → stretched final c l ≡ unmatched final c l
 unfolding stretched
 stretched_some final [] l h = let none : ⊥ = omega arith in absurd none
@@ -195,15 +202,15 @@ module _ (a : Arena) (by : Pass) (word : Text) (at : Stage) (s : StageIn a word 
   abbrev stretch : Text
   stretch = take (at.place - at.since) (drop at.since word)
 
-  settle_same : stretched by.appends stretch (source_of a (sets_at at)) ≡ next_set (source_of a (sets_at at)) → SettledBy a a by word at (settled.In (sets_at at))
+  settle_same : stretched by.appends stretch (source_of a at.sets) ≡ next_set (source_of a at.sets) → SettledBy a a by word at (Ok at.sets)
   unfolding SettledKept settled_by after_letter
   settle_same e = record { kept = (s.sides, straight); is = λ rest. rw e; others = only_refl _ _ a }
 
-  pub settle_none : at.since ≡ at.place → SettledBy a a by word at (settled.In (sets_at at))
+  pub settle_none : at.since ≡ at.place → SettledBy a a by word at (Ok at.sets)
   settle_none e = settle_same (stretched_none by.appends word at.since at.place _ e)
 
-  pub settle_skipped : by.appends ≡ false → SettledBy a a by word at (settled.In (sets_at at))
-  settle_skipped f = settle_same (rw f (stretched_skipped stretch _))
+  pub settle_skipped : not by.appends ≡ true → SettledBy a a by word at (Ok at.sets)
+  settle_skipped f = settle_same (rw (not_true by.appends f) (stretched_skipped stretch _))
 
   pub settle_order : at.since ≤ at.place
   settle_order = s.behind
@@ -211,14 +218,14 @@ module _ (a : Arena) (by : Pass) (word : Text) (at : Stage) (s : StageIn a word 
   pub settle_fits : at.place ≤ length word
   settle_fits = s.within
 
-  module _ (b : Arena) (f : by.appends ≡ true) (some : at.since ≡ at.place → ⊥) (r : Applied) (d : AppliedAt a b at.to r (appended stretch (source_of a (sets_at at)))) where
-    stretch_is : (o : NextSet) → appended stretch (source_of a (sets_at at)) ≡ o → stretched by.appends stretch (source_of a (sets_at at)) ≡ o
+  module _ (b : Arena) (f : not by.appends ≡ false) (some : at.since ≡ at.place → ⊥) (r : Result ℕ Excess) (d : AppliedAt a b at.sets.to r (appended stretch (source_of a at.sets))) where
+    stretch_is : (o : NextSet) → appended stretch (source_of a at.sets) ≡ o → stretched by.appends stretch (source_of a at.sets) ≡ o
     unfolding unmatched
     stretch_is o q =
         let long : 0 < length stretch = simp (length-take, length-drop) (omega (arith, s.behind, s.within, some)) in
-        rw f (stretched_some true stretch _ long ∙ q)
+        rw (not_false by.appends f) (stretched_some true stretch _ long ∙ q)
 
-    pub settle_now : (k : ℕ) → r ≡ Now k → SettledBy a b by word at (settled.In (record { from = at.to; count = k; to = at.from }))
+    pub settle_now : (k : ℕ) → r ≡ Ok k → SettledBy a b by word at (Ok (record { from = at.sets.to; count = k; to = at.sets.from }))
     unfolding SettledKept settled_by after_letter
     settle_now k e = record {
       kept = (sides_between s.sides crossed (now-at d k e), crossed);
@@ -226,8 +233,8 @@ module _ (a : Arena) (by : Pass) (word : Text) (at : Stage) (s : StageIn a word 
       others = sides_only a b straight d.others;
     }
 
-    pub settle_long : r ≡ TooLong → SettledBy a b by word at settled.TooLong
+    pub settle_long : {x : Excess} → r ≡ Err x → SettledBy a b by word at (Err x)
     unfolding SettledKept settled_by after_letter
-    settle_long e = record { kept = tt; is = λ rest. rw (stretch_is _ (long-at d e)); others = sides_only a b straight d.others }
+    settle_long e = record { kept = only-long-at d e; is = λ rest. rw (stretch_is _ (long-at d e)); others = sides_only a b straight d.others }
 
 pub ruleset settle_laws = (settle_none, settle_skipped, settle_order, settle_fits, settle_now, settle_long, rules)

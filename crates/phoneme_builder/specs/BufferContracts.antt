@@ -1,6 +1,6 @@
 -- The list of texts that lent buffers hold: rows of 128 bytes, and in the order of the texts a slot for each: its languages, its row and its length.
 -- A text that may enter is first written into the row behind the others. Of each function the record of what it asks and what it gives.
-use Rattle.std.specs.Prelude.{ℕ, zero, suc, ◌+◌, ◌-◌, ◌*◌, ◌/◌, ◌%◌, ◌≤◌, ◌<◌, ◌≡◌, false, List, [], ◌∷◌, ◌++◌, map, eqb, length, take, drop, get_or}
+use Rattle.std.specs.Prelude.{ℕ, zero, suc, ◌+◌, ◌-◌, ◌*◌, ◌/◌, ◌%◌, ◌≤◌, ◌<◌, ◌≡◌, false, List, [], ◌∷◌, ◌++◌, map, eqb, length, take, drop, get_or, Result, Ok, Err, Option, Some, None}
 use Rattle.std.specs.Float.Ieee.{size}
 use Rattle.std.proofs.lemmas.List.Edits.{sets}
 use Rattle.base.specs.Pick.{pick}
@@ -8,22 +8,17 @@ use Rattle.letters.specs.Order.{order_of}
 use Rattle.languages.specs.InnerContracts.{decoded, codes_merged, IsCode}
 use Rattle.languages.specs.Sets.{narrowed, is_empty}
 use Rattle.languages.specs.declared.sets.LanguageSet.{LanguageSet}
-use Rattle.languages.specs.declared.sets.Narrowed.{Narrowed}
-use Rattle.languages.specs.declared.sets.Narrowed.TheVariants.{To, Nothing}
 use Rattle.choices.specs.Texts.{Text, by_order}
 use Rattle.choices.specs.Apply.{Alternative, Entry, NextSet, overlong, next_set, insert, under, enter, apply, start}
 use Rattle.choices.specs.Choices.{Increasing}
-use Rattle.refusals.specs.declared.Refusal.TheVariants.{TooManyTexts}
+use Rattle.refusals.specs.declared.Refusal.{Refusal}
+use Rattle.refusals.specs.declared.Refusal.TheVariants.{TextTooLong, TooManyTexts}
 use Rattle.phoneme_builder.specs.Sets.{lengthened, appended, Spelling, refusal, united}
-use Rattle.phoneme_builder.specs.declared.set.Found.{Found}
-use Rattle.phoneme_builder.specs.declared.set.Found.TheVariants.{At, Free}
+use Rattle.phoneme_builder.specs.declared.set.Excess.{Excess}
+use Rattle.phoneme_builder.specs.declared.set.Excess.TheVariants.{TooLong, TooMany}
 use Rattle.phoneme_builder.specs.declared.set.Target.{Target}
 use Rattle.phoneme_builder.specs.declared.set.Between.{Between}
-use Rattle.phoneme_builder.specs.declared.apply.Most.{Most}
-use Rattle.phoneme_builder.specs.declared.apply.Applied.{Applied}
-use Rattle.phoneme_builder.specs.declared.apply.Applied.TheVariants.{Now, TooLong}
-use Rattle.phoneme_builder.specs.declared.unite.United.{United}
-use Rattle.phoneme_builder.specs.declared.unite.United.TheVariants.{Into, TooMany}
+use Rattle.phoneme_builder.specs.declared.expressions.Candidate.{Candidate}
 
 -- the bytes of a row, which no text exceeds, and the texts that a set may have
 abbrev pub ROW : ℕ
@@ -31,10 +26,6 @@ ROW = 128
 
 abbrev pub MOST : ℕ
 MOST = 256
-
--- the numbers of a table of alternatives
-abbrev pub TABLE : ℕ
-TABLE = 512
 
 -- the bytes of a set's rows, and the sets
 abbrev pub STORE : ℕ
@@ -45,14 +36,14 @@ SETS = 4
 
 -- ---- lists
 
-unfoldable pub further : Found → Found
-further (At k) = At (suc k)
-further (Free k) = Free (suc k)
+unfoldable pub further : Result ℕ ℕ → Result ℕ ℕ
+further (Ok k) = Ok (suc k)
+further (Err k) = Err (suc k)
 
 -- where t stands in a list in order, or where it would go
-unfoldable pub find_l : Text → List Text → Found
-find_l t [] = Free 0
-find_l t (x ∷ xs) = by_order (order_of x t) (further (find_l t xs)) (At 0) (Free 0)
+unfoldable pub find_l : Text → List Text → Result ℕ ℕ
+find_l t [] = Err 0
+find_l t (x ∷ xs) = by_order (order_of x t) (further (find_l t xs)) (Ok 0) (Err 0)
 
 -- how many of some texts a look asks at most, where the last one is asked first and then the middle one of those that are left
 unfoldable pub asks_last_first : ℕ → ℕ
@@ -158,11 +149,6 @@ pub record SetIs (store slots : List ℕ) (n : ℕ) (l : List Entry) : Type 0 wh
   pub set : IsSet store slots n
   pub is : slot_entries store slots n ≡ l
 
--- what opening index p of the first n asks
-pub record Opens (slots : List ℕ) (p n : ℕ) : Type 0 where
-  pub index : p ≤ n
-  pub within : n < length slots
-
 -- what a slot for row n asks
 pub record InsertsText (slots : List ℕ) (p n g long : ℕ) : Type 0 where
   pub index : p ≤ n
@@ -263,14 +249,17 @@ pub record CopiedIs (t : Text) (d : List ℕ) (r : ℕ) : Type 0 where
 unfoldable pub alt_of : List ℕ → ℕ → Alternative
 alt_of expr x = record { text = take (second_of x - first_of x) (drop (first_of x) expr); langs = decoded (langs_of x) }
 
-abbrev pub alt_at : List ℕ → List ℕ → ℕ → Alternative
-alt_at expr alts j = alt_of expr (get_or alts j 0)
+abbrev pub candidate_at : List Candidate → ℕ → Candidate
+candidate_at alts j = get_or alts j (record { number = 0; before = 0 })
 
-unfoldable pub alts_from : List ℕ → List ℕ → ℕ → ℕ → List Alternative
+abbrev pub alt_at : List ℕ → List Candidate → ℕ → Alternative
+alt_at expr alts j = alt_of expr (candidate_at alts j).number
+
+unfoldable pub alts_from : List ℕ → List Candidate → ℕ → ℕ → List Alternative
 alts_from expr alts j zero = []
 alts_from expr alts j (suc k) = alt_at expr alts j ∷ alts_from expr alts (suc j) k
 
-abbrev pub alternatives : List ℕ → List ℕ → ℕ → List Alternative
+abbrev pub alternatives : List ℕ → List Candidate → ℕ → List Alternative
 alternatives expr alts m = alts_from expr alts 0 m
 
 -- a number that is an alternative of the expression
@@ -280,41 +269,45 @@ pub record AltIn (expr : List ℕ) (x : ℕ) : Type 0 where
   pub code : IsCode (langs_of x)
 
 -- an alternative before number j has the text t, and its languages leave something of g
-pub record Earlier (expr alts : List ℕ) (j : ℕ) (t : Text) (g : LanguageSet) : Type 0 where
+pub record Earlier (expr : List ℕ) (alts : List Candidate) (j : ℕ) (t : Text) (g : LanguageSet) : Type 0 where
   pub number : ℕ
   pub before : number < j
   pub text : (alt_at expr alts number).text ≡ t
   pub some : is_empty (narrowed g (alt_at expr alts number).langs) ≡ false
 
 -- where the languages with the number p leave something of a set, those of one before number j with the text t do
-pub record Before (expr alts : List ℕ) (j : ℕ) (t : Text) (p : ℕ) : Type 0 where
+pub record Before (expr : List ℕ) (alts : List Candidate) (j : ℕ) (t : Text) (p : ℕ) : Type 0 where
   pub code : IsCode p
   pub some : (g : LanguageSet) → is_empty (narrowed g (decoded p)) ≡ false → Earlier expr alts j t g
 
--- the table holds m alternatives, each a part of the expression, and for each the languages of those before it with the same text
-pub record AltsIn (expr alts : List ℕ) (m : ℕ) : Type 0 where
-  pub few : m ≤ MOST
-  pub room : length alts ≡ TABLE
-  pub each : (j : ℕ) → j < m → AltIn expr (get_or alts j 0)
-  pub before : (j : ℕ) → j < m → Before expr alts j (alt_at expr alts j).text (get_or alts (j + MOST) 0)
+-- the first m are alternatives, each a part of the expression, and with each stand the languages of those before it with the same text
+pub record AltsIn (expr : List ℕ) (alts : List Candidate) (m : ℕ) : Type 0 where
+  pub within : m ≤ length alts
+  pub each : (j : ℕ) → j < m → AltIn expr (candidate_at alts j).number
+  pub before : (j : ℕ) → j < m → Before expr alts j (alt_at expr alts j).text (candidate_at alts j).before
+
+-- the refusal of what a set can't take (01, the table)
+unfoldable pub refused_by : Excess → Refusal
+refused_by TooLong = TextTooLong
+refused_by TooMany = TooManyTexts
 
 -- what an answer says of set `to`: it is one, or a text was too long (01, the table, 7)
-unfoldable pub KeptBy : Applied → Arena → ℕ → Type 0
-KeptBy (Now k) b to = SetAt b to k
-KeptBy TooLong b to = Unit {0}
+unfoldable pub KeptBy : Result ℕ Excess → Arena → ℕ → Type 0
+KeptBy (Ok k) b to = SetAt b to k
+KeptBy (Err e) b to = e ≡ TooLong
 
-unfoldable pub outcome_by : Applied → Arena → ℕ → (List Entry → NextSet) → NextSet
-outcome_by (Now k) b to rest = rest (entries_at b to k)
-outcome_by TooLong b to rest = overlong
+unfoldable pub outcome_by : Result ℕ Excess → Arena → ℕ → (List Entry → NextSet) → NextSet
+outcome_by (Ok k) b to rest = rest (entries_at b to k)
+outcome_by (Err e) b to rest = overlong
 
 -- the answer is the outcome o, and no set but `to` changed
-pub record AppliedAt (a b : Arena) (to : ℕ) (r : Applied) (o : NextSet) : Type 0 where
+pub record AppliedAt (a b : Arena) (to : ℕ) (r : Result ℕ Excess) (o : NextSet) : Type 0 where
   pub kept : KeptBy r b to
   pub is : outcome_by r b to next_set ≡ o
   pub others : Only to to a b
 
 -- the candidates cs entered into l, whatever comes behind them
-pub record OfferedAt (limit : ℕ) (cs l : List Entry) (a b : Arena) (to : ℕ) (r : Applied) : Type 0 where
+pub record OfferedAt (limit : ℕ) (cs l : List Entry) (a b : Arena) (to : ℕ) (r : Result ℕ Excess) : Type 0 where
   pub kept : KeptBy r b to
   pub is : (rest : List Entry) → outcome_by r b to (enter limit rest) ≡ enter limit (cs ++ rest) l
   pub others : Only to to a b
@@ -327,34 +320,34 @@ pub record Offers (a : Arena) (to : Target) (g h limit : ℕ) : Type 0 where
   pub other : IsCode h
 
 -- the languages with which an alternative is offered: none where those before it with the same text leave something, else its own
-unfoldable pub withheld : Narrowed → ℕ → ℕ
-withheld (To x) own = 0
-withheld Nothing own = own
+unfoldable pub withheld : Option ℕ → ℕ → ℕ
+withheld (Some x) own = 0
+withheld None own = own
 
 -- the alternatives entered under the entry e
-abbrev pub OfferedUnder : Entry → List Alternative → ℕ → Arena → Arena → Target → Applied → Type 0
+abbrev pub OfferedUnder : Entry → List Alternative → ℕ → Arena → Arena → Target → Result ℕ Excess → Type 0
 OfferedUnder e alts limit a b to r = OfferedAt limit (under e alts) (entries_at a to.set to.count) a b to.set r
 
-abbrev pub OfferedTo : Arena → Arena → Target → Text → ℕ → Text → ℕ → ℕ → Applied → Type 0
+abbrev pub OfferedTo : Arena → Arena → Target → Text → ℕ → Text → ℕ → ℕ → Result ℕ Excess → Type 0
 OfferedTo a b to t g u h limit r = OfferedUnder (entry t (decoded g)) (alternative u (decoded h) ∷ []) limit a b to r
 
-pub record RowOffers (a : Arena) (to : Target) (g : ℕ) (expr alts : List ℕ) (most : Most) : Type 0 where
+pub record RowOffers (a : Arena) (to : Target) (g : ℕ) (expr : List ℕ) (alts : List Candidate) (limit : ℕ) : Type 0 where
   pub set : SetAt a to.set to.count
-  pub parts : AltsIn expr alts most.alternatives
-  pub few : most.limit ≤ MOST
+  pub parts : AltsIn expr alts (length alts)
+  pub few : limit ≤ MOST
   pub code : IsCode g
 
-abbrev pub RowOffered : Arena → Arena → Target → Text → ℕ → List ℕ → List ℕ → Most → Applied → Type 0
-RowOffered a b to t g expr alts most r = OfferedUnder (entry t (decoded g)) (alternatives expr alts most.alternatives) most.limit a b to r
+abbrev pub RowOffered : Arena → Arena → Target → Text → ℕ → List ℕ → List Candidate → ℕ → Result ℕ Excess → Type 0
+RowOffered a b to t g expr alts limit r = OfferedUnder (entry t (decoded g)) (alternatives expr alts (length alts)) limit a b to r
 
-pub record TextOffers (a : Arena) (from i : ℕ) (to : Target) (expr alts : List ℕ) (most : Most) : Type 0 where
+pub record TextOffers (a : Arena) (from i : ℕ) (to : Target) (expr : List ℕ) (alts : List Candidate) (limit : ℕ) : Type 0 where
   pub text : TextIn a.slots from i
   pub set : SetAt a to.set to.count
-  pub parts : AltsIn expr alts most.alternatives
-  pub few : most.limit ≤ MOST
+  pub parts : AltsIn expr alts (length alts)
+  pub few : limit ≤ MOST
 
-abbrev pub TextOffered : Arena → Arena → ℕ → ℕ → Target → List ℕ → List ℕ → Most → Applied → Type 0
-TextOffered a b from i to expr alts most r = OfferedUnder (entry_in a from i) (alternatives expr alts most.alternatives) most.limit a b to r
+abbrev pub TextOffered : Arena → Arena → ℕ → ℕ → Target → List ℕ → List Candidate → ℕ → Result ℕ Excess → Type 0
+TextOffered a b from i to expr alts limit r = OfferedUnder (entry_in a from i) (alternatives expr alts (length alts)) limit a b to r
 
 -- the set to read has its texts, and the set to write is another
 pub record BetweenIn (a : Arena) (sets : Between) : Type 0 where
@@ -366,22 +359,22 @@ pub record BetweenIn (a : Arena) (sets : Between) : Type 0 where
 abbrev pub source_of : Arena → Between → List Entry
 source_of a sets = entries_at a sets.from sets.count
 
-pub record Applies (a : Arena) (sets : Between) (expr alts : List ℕ) (most : Most) : Type 0 where
+pub record Applies (a : Arena) (sets : Between) (expr : List ℕ) (alts : List Candidate) (limit : ℕ) : Type 0 where
   pub sides : BetweenIn a sets
-  pub parts : AltsIn expr alts most.alternatives
-  pub few : most.limit ≤ MOST
+  pub parts : AltsIn expr alts (length alts)
+  pub few : limit ≤ MOST
 
-abbrev pub AppliedTo : Arena → Arena → Between → List ℕ → List ℕ → Most → Applied → Type 0
-AppliedTo a b sets expr alts most r = AppliedAt a b sets.to r (apply most.limit (alternatives expr alts most.alternatives) (source_of a sets))
+abbrev pub AppliedTo : Arena → Arena → Between → List ℕ → List Candidate → ℕ → Result ℕ Excess → Type 0
+AppliedTo a b sets expr alts limit r = AppliedAt a b sets.to r (apply limit (alternatives expr alts (length alts)) (source_of a sets))
 
 -- ---- append
 
 -- the entry e inserted into l, where it is short
-unfoldable pub InsertedBy : Applied → Arena → ℕ → Entry → List Entry → Type 0
-InsertedBy (Now k) b to e l = SetAt b to k × (entries_at b to k ≡ insert e l) × (length e.text ≤ ROW)
-InsertedBy TooLong b to e l = ROW < length e.text
+unfoldable pub InsertedBy : Result ℕ Excess → Arena → ℕ → Entry → List Entry → Type 0
+InsertedBy (Ok k) b to e l = SetAt b to k × (entries_at b to k ≡ insert e l) × (length e.text ≤ ROW)
+InsertedBy (Err x) b to e l = (x ≡ TooLong) × (ROW < length e.text)
 
-pub record LengthenedAt (a b : Arena) (to : ℕ) (e : Entry) (l : List Entry) (r : Applied) : Type 0 where
+pub record LengthenedAt (a b : Arena) (to : ℕ) (e : Entry) (l : List Entry) (r : Result ℕ Excess) : Type 0 where
   pub is : InsertedBy r b to e l
   pub others : Only to to a b
 
@@ -390,24 +383,24 @@ pub record Lengthens (a : Arena) (from i : ℕ) (to : Target) : Type 0 where
   pub set : SetAt a to.set to.count
   pub room : to.count < MOST
 
-abbrev pub LengthenedTo : Arena → Arena → ℕ → ℕ → Target → Text → Applied → Type 0
+abbrev pub LengthenedTo : Arena → Arena → ℕ → ℕ → Target → Text → Result ℕ Excess → Type 0
 LengthenedTo a b from i to c r = LengthenedAt a b to.set (lengthened c (entry_in a from i)) (entries_at a to.set to.count) r
 
-abbrev pub AppendedTo : Arena → Arena → Between → Text → Applied → Type 0
+abbrev pub AppendedTo : Arena → Arena → Between → Text → Result ℕ Excess → Type 0
 AppendedTo a b sets c r = AppliedAt a b sets.to r (appended c (source_of a sets))
 
 -- ---- unite
 
-unfoldable pub HeldBy : United → List ℕ → List ℕ → Type 0
-HeldBy (Into k) store slots = IsSet store slots k
-HeldBy TooMany store slots = Unit {0}
+unfoldable pub HeldBy : Result ℕ Excess → List ℕ → List ℕ → Type 0
+HeldBy (Ok k) store slots = IsSet store slots k
+HeldBy (Err e) store slots = Unit {0}
 
-unfoldable pub spelling_by : United → List ℕ → List ℕ → (List Entry → Spelling) → Spelling
-spelling_by (Into k) store slots rest = rest (slot_entries store slots k)
-spelling_by TooMany store slots rest = refusal TooManyTexts
+unfoldable pub spelling_by : Result ℕ Excess → List ℕ → List ℕ → (List Entry → Spelling) → Spelling
+spelling_by (Ok k) store slots rest = rest (slot_entries store slots k)
+spelling_by (Err e) store slots rest = refusal (refused_by e)
 
 -- the texts xs united into l for the set g, whatever is done with the result
-pub record UnitedIs (g : LanguageSet) (xs l : List Entry) (r : United) (store slots : List ℕ) : Type 0 where
+pub record UnitedIs (g : LanguageSet) (xs l : List Entry) (r : Result ℕ Excess) (store slots : List ℕ) : Type 0 where
   pub kept : HeldBy r store slots
   pub is : (rest : List Entry → Spelling) → spelling_by r store slots rest ≡ united g xs l rest
 
@@ -430,19 +423,19 @@ pub record Unites (store slots : List ℕ) (n : ℕ) (t : Text) (h g : ℕ) : Ty
   pub code : IsCode h
   pub worked : IsCode g
 
-abbrev pub UnitedRow : List ℕ → List ℕ → ℕ → Text → ℕ → ℕ → United → List ℕ → List ℕ → Type 0
+abbrev pub UnitedRow : List ℕ → List ℕ → ℕ → Text → ℕ → ℕ → Result ℕ Excess → List ℕ → List ℕ → Type 0
 UnitedRow store slots n t h g r store' slots' = UnitedIs (decoded g) (entry t (decoded h) ∷ []) (slot_entries store slots n) r store' slots'
 
 -- the same in set `to`
-unfoldable pub HeldAt : United → Arena → ℕ → Type 0
-HeldAt (Into k) b to = SetAt b to k
-HeldAt TooMany b to = Unit {0}
+unfoldable pub HeldAt : Result ℕ Excess → Arena → ℕ → Type 0
+HeldAt (Ok k) b to = SetAt b to k
+HeldAt (Err e) b to = Unit {0}
 
-unfoldable pub spelling_at : United → Arena → ℕ → (List Entry → Spelling) → Spelling
-spelling_at (Into k) b to rest = rest (entries_at b to k)
-spelling_at TooMany b to rest = refusal TooManyTexts
+unfoldable pub spelling_at : Result ℕ Excess → Arena → ℕ → (List Entry → Spelling) → Spelling
+spelling_at (Ok k) b to rest = rest (entries_at b to k)
+spelling_at (Err e) b to rest = refusal (refused_by e)
 
-pub record UnitedAt (a b : Arena) (to : ℕ) (g : LanguageSet) (xs l : List Entry) (r : United) : Type 0 where
+pub record UnitedAt (a b : Arena) (to : ℕ) (g : LanguageSet) (xs l : List Entry) (r : Result ℕ Excess) : Type 0 where
   pub kept : HeldAt r b to
   pub is : (rest : List Entry → Spelling) → spelling_at r b to rest ≡ united g xs l rest
   pub others : Only to to a b
@@ -453,7 +446,7 @@ pub record UnitesTo (a : Arena) (to : Target) (t : Text) (h g : ℕ) : Type 0 wh
   pub code : IsCode h
   pub worked : IsCode g
 
-abbrev pub UnitedTo : Arena → Arena → Target → Text → ℕ → ℕ → United → Type 0
+abbrev pub UnitedTo : Arena → Arena → Target → Text → ℕ → ℕ → Result ℕ Excess → Type 0
 UnitedTo a b to t h g r = UnitedAt a b to.set (decoded g) (entry t (decoded h) ∷ []) (entries_at a to.set to.count) r
 
 pub record UnitesText (a : Arena) (from i : ℕ) (to : Target) (g : ℕ) : Type 0 where
@@ -461,7 +454,7 @@ pub record UnitesText (a : Arena) (from i : ℕ) (to : Target) (g : ℕ) : Type 
   pub set : SetAt a to.set to.count
   pub worked : IsCode g
 
-abbrev pub UnitedText : Arena → Arena → ℕ → ℕ → Target → ℕ → United → Type 0
+abbrev pub UnitedText : Arena → Arena → ℕ → ℕ → Target → ℕ → Result ℕ Excess → Type 0
 UnitedText a b from i to g r = UnitedAt a b to.set (decoded g) (entry_in a from i ∷ []) (entries_at a to.set to.count) r
 
 pub record UnitesSet (a : Arena) (sets : Between) (n g : ℕ) : Type 0 where
@@ -470,5 +463,5 @@ pub record UnitesSet (a : Arena) (sets : Between) (n g : ℕ) : Type 0 where
   pub apart : sets.from ≡ sets.to → ⊥
   pub worked : IsCode g
 
-abbrev pub UnitedSet : Arena → Arena → Between → ℕ → ℕ → United → Type 0
+abbrev pub UnitedSet : Arena → Arena → Between → ℕ → ℕ → Result ℕ Excess → Type 0
 UnitedSet a b sets n g r = UnitedAt a b sets.to (decoded g) (source_of a sets) (entries_at a sets.to n) r

@@ -1,5 +1,5 @@
 -- What the functions of a pass tell of the pack's bytes and of the lent tables.
-use Rattle.std.specs.Prelude.{ℕ, suc, ◌+◌, ◌-◌, ◌≤◌, ◌<◌, min, ◌≡◌, Bool, true, List, [], ◌∷◌, ◌++◌, map, ◌⊎◌, leb, length, take, drop}
+use Rattle.std.specs.Prelude.{ℕ, suc, ◌+◌, ◌-◌, ◌≤◌, ◌<◌, min, ◌≡◌, Bool, true, List, [], ◌∷◌, ◌++◌, map, ◌⊎◌, leb, length, take, drop, Result, Ok, Err}
 use Rattle.std.proofs.lemmas.List.Edits.{sets}
 use Rattle.base.specs.Pick.{pick}
 use Rattle.choices.specs.Texts.{Text}
@@ -13,20 +13,18 @@ use Rattle.refusals.specs.Numbers.{number_of}
 use Rattle.refusals.specs.declared.Refusal.TheVariants.{TextTooLong, TooManyTexts}
 use Rattle.phoneme_builder.specs.Sets.{Spelling, refusal, texts}
 use Rattle.phoneme_builder.specs.Passes.{offered, Turn, turn_on, turns_of, Ran, too_long, ran, flagged, after_letter, unmatched, run, raised, final_text, final_from, final_pass, then, word_of, joined}
-use Rattle.phoneme_builder.specs.BufferContracts.{MOST, TABLE, SETS, langs_of, alt_of, AltIn, AltsIn, alternatives, Holds, slot_texts, part, Arena, SetAt, TextIn, entry_in, entries_at, Stayed, Only, BetweenIn, source_of}
+use Rattle.phoneme_builder.specs.BufferContracts.{MOST, langs_of, refused_by, alt_of, AltIn, AltsIn, alternatives, Holds, slot_texts, part, Arena, SetAt, TextIn, entry_in, entries_at, Stayed, Only, BetweenIn, source_of}
+use Rattle.phoneme_builder.specs.declared.expressions.Candidate.{Candidate}
 use Rattle.phoneme_builder.specs.declared.pass.Turned.{Turned}
-use Rattle.phoneme_builder.specs.declared.pass.Turned.TheVariants as turned
-use Rattle.phoneme_builder.specs.declared.pass.Settled.{Settled}
-use Rattle.phoneme_builder.specs.declared.pass.Settled.TheVariants as settled
 use Rattle.phoneme_builder.specs.declared.pass.Passed.{Passed}
-use Rattle.phoneme_builder.specs.declared.pass.Passed.TheVariants as passed
 use Rattle.phoneme_builder.specs.declared.finals.Finished.{Finished}
-use Rattle.phoneme_builder.specs.declared.finals.Finished.TheVariants as finished
+use Rattle.phoneme_builder.specs.declared.set.Excess.{Excess}
+use Rattle.phoneme_builder.specs.declared.set.Excess.TheVariants.{TooLong}
 use Rattle.phoneme_builder.specs.declared.set.Target.{Target}
 use Rattle.phoneme_builder.specs.declared.set.Between.{Between}
-use Rattle.phoneme_builder.specs.declared.pass.Pass.{Pass}
+use Rattle.phoneme_builder.specs.declared.way.Pass.{Pass}
 use Rattle.phoneme_builder.specs.declared.pass.Stage.{Stage}
-use Rattle.phoneme_builder.specs.declared.finals.FinalSets.{FinalSets}
+use Rattle.phoneme_builder.specs.declared.way.FinalSets.{FinalSets}
 use Rattle.phoneme_builder.specs.declared.finals.NextText.{NextText}
 use Rattle.phoneme_builder.specs.declared.words.Plan.{Plan}
 use Rattle.rule_index.specs.Matching.{Matcher}
@@ -41,7 +39,7 @@ names_in s guesses = take (guesses - 1) (drop 1 s)
 -- ---- the table of an expression's alternatives
 
 -- the first n stand there, and x is another
-pub record Asks (e alts : List ℕ) (n x : ℕ) : Type 0 where
+pub record Asks (e : List ℕ) (alts : List Candidate) (n x : ℕ) : Type 0 where
   pub parts : AltsIn e alts n
   pub own : AltIn e x
 
@@ -53,23 +51,24 @@ langs_if_alike e x y = pick (same_text (alt_of e x).text (alt_of e y).text) (lan
 pub record Alike (xs ys : List Alternative) : Type 0 where
   pub are : (u : Entry) (limit : ℕ) (rest l : List Entry) → Increasing (texts_of l) → enter limit (under u xs ++ rest) l ≡ enter limit (under u ys ++ rest) l
 
-pub record Keeps (e alts : List ℕ) (n x : ℕ) : Type 0 where
+pub record Keeps (e : List ℕ) (alts : List Candidate) (n x : ℕ) : Type 0 where
   pub asks : Asks e alts n x
-  pub room : n < MOST
+  pub room : n < length alts
 
 -- the table then holds what is alike to the first n with x behind them
-pub record KeptIn (e alts alts' : List ℕ) (n x r : ℕ) : Type 0 where
+pub record KeptIn (e : List ℕ) (alts alts' : List Candidate) (n x r : ℕ) : Type 0 where
+  pub same : length alts' ≡ length alts
   pub parts : AltsIn e alts' r
   pub few : r ≤ n + 1
   pub alike : (more : List Alternative) → Alike (alternatives e alts' r ++ more) (alternatives e alts n ++ alt_of e x ∷ more)
 
--- an expression has fewer than 256 bytes, and a table has 512 places
-pub record Fills (e alts : List ℕ) : Type 0 where
+-- an expression has fewer than 256 bytes, and a table has 256 places
+pub record Fills (e : List ℕ) (alts : List Candidate) : Type 0 where
   pub short : length e < 256
-  pub room : length alts ≡ TABLE
+  pub room : length alts ≡ MOST
 
 -- of what the table holds the same comes as of the alternatives of e
-pub record AltsAre (names e alts : List ℕ) (m : ℕ) : Type 0 where
+pub record AltsAre (names e : List ℕ) (alts : List Candidate) (m : ℕ) : Type 0 where
   pub parts : AltsIn e alts m
   pub are : (limit : ℕ) (old : List Entry) → apply limit (alternatives e alts m) old ≡ apply limit (offered names e) old
 
@@ -87,12 +86,9 @@ pub data Sides (x y : ℕ) : ℕ → ℕ → Type 0 where
   straight : Sides x y x y
   crossed : Sides x y y x
 
-abbrev pub sets_at : Stage → Between
-sets_at at = record { from = at.from; count = at.count; to = at.to }
-
 -- a pass stands at a place of the word or at its end, with two sets
 pub record StageIn (a : Arena) (word : Text) (at : Stage) : Type 0 where
-  pub sides : BetweenIn a (sets_at at)
+  pub sides : BetweenIn a at.sets
   pub behind : at.since ≤ at.place
   pub within : at.place ≤ length word
 
@@ -103,29 +99,28 @@ stretched final (b ∷ c) l = unmatched final (b ∷ c) l
 
 -- the stretch before a stage, appended as the pass appends
 abbrev pub stretch_at : Pass → Text → Arena → Stage → NextSet
-stretch_at by word a at = stretched by.appends (take (at.place - at.since) (drop at.since word)) (source_of a (sets_at at))
+stretch_at by word a at = stretched by.appends (take (at.place - at.since) (drop at.since word)) (source_of a at.sets)
 
-unfoldable pub SettledKept : Settled → Arena → Stage → Type 0
-SettledKept (settled.In sets) b at = BetweenIn b sets × Sides at.from at.to sets.from sets.to
-SettledKept settled.TooLong b at = Unit {0}
+unfoldable pub SettledKept : Result Between Excess → Arena → Stage → Type 0
+SettledKept (Ok sets) b at = BetweenIn b sets × Sides at.sets.from at.sets.to sets.from sets.to
+SettledKept (Err e) b at = e ≡ TooLong
 
-unfoldable pub settled_by : Settled → Arena → (List Entry → Ran) → Ran
-settled_by (settled.In sets) b rest = rest (source_of b sets)
-settled_by settled.TooLong b rest = too_long
+unfoldable pub settled_by : Result Between Excess → Arena → (List Entry → Ran) → Ran
+settled_by (Ok sets) b rest = rest (source_of b sets)
+settled_by (Err e) b rest = too_long
 
-pub record SettledAt (a b : Arena) (at : Stage) (o : NextSet) (r : Settled) : Type 0 where
+pub record SettledAt (a b : Arena) (at : Stage) (o : NextSet) (r : Result Between Excess) : Type 0 where
   pub kept : SettledKept r b at
   pub is : (rest : List Entry → Ran) → settled_by r b rest ≡ after_letter o rest
-  pub others : Only at.from at.to a b
+  pub others : Only at.sets.from at.sets.to a b
 
-abbrev pub SettledBy : Arena → Arena → Pass → Text → Stage → Settled → Type 0
+abbrev pub SettledBy : Arena → Arena → Pass → Text → Stage → Result Between Excess → Type 0
 SettledBy a b by word at r = SettledAt a b at (stretch_at by word a at) r
 
 -- a rule's expression applied behind it
 pub record RuleApplies (a : Arena) (by : Pass) (word : Text) (at : Stage) (expr : List ℕ) : Type 0 where
   pub stage : StageIn a word at
   pub short : length expr < 256
-  pub few : by.limit ≤ MOST
 
 unfoldable pub after_set : NextSet → (List Entry → NextSet) → NextSet
 after_set overlong rest = overlong
@@ -134,7 +129,7 @@ after_set (next_set l) rest = rest l
 abbrev pub rule_on : List ℕ → Pass → List ℕ → List Entry → NextSet
 rule_on s by expr = apply by.limit (offered (names_of s by) expr)
 
-abbrev pub RuleApplied : Arena → Arena → List ℕ → Pass → Text → Stage → List ℕ → Settled → Type 0
+abbrev pub RuleApplied : Arena → Arena → List ℕ → Pass → Text → Stage → List ℕ → Result Between Excess → Type 0
 RuleApplied a b s by word at expr r = SettledAt a b at (after_set (stretch_at by word a at) (rule_on s by expr)) r
 
 -- ---- a turn: what the run then comes to, whatever turns follow
@@ -143,9 +138,9 @@ RuleApplied a b s by word at expr r = SettledAt a b at (after_set (stretch_at by
 abbrev pub run_from : Pass → Text → List Turn → Arena → Stage → Ran
 run_from by word turns a at = after_letter (stretch_at by word a at) (run by.appends by.limit turns)
 
-unfoldable pub turned_by : Turned → Pass → Text → Arena → (ℕ → List Turn) → Ran
-turned_by (turned.On next full) by word b rest = flagged full (run_from by word (rest next.place) b next)
-turned_by turned.TooLong by word b rest = too_long
+unfoldable pub turned_by : Result Turned Excess → Pass → Text → Arena → (ℕ → List Turn) → Ran
+turned_by (Ok t) by word b rest = flagged t.full (run_from by word (rest t.next.place) b t.next)
+turned_by (Err e) by word b rest = too_long
 
 -- the step lies within the word
 pub record StepIn (word : Text) (place step : ℕ) : Type 0 where
@@ -155,115 +150,87 @@ pub record StepIn (word : Text) (place step : ℕ) : Type 0 where
 -- the next stage is further on, with the same two sets
 pub record StageOn (b : Arena) (word : Text) (at next : Stage) : Type 0 where
   pub stage : StageIn b word next
-  pub sides : Sides at.from at.to next.from next.to
+  pub sides : Sides at.sets.from at.sets.to next.sets.from next.sets.to
   pub on : at.place < next.place
 
-unfoldable pub TurnKept : Turned → Arena → Text → Stage → Type 0
-TurnKept (turned.On next full) b word at = StageOn b word at next
-TurnKept turned.TooLong b word at = Unit {0}
+unfoldable pub TurnKept : Result Turned Excess → Arena → Text → Stage → Type 0
+TurnKept (Ok t) b word at = StageOn b word at t.next
+TurnKept (Err e) b word at = e ≡ TooLong
 
-pub record TurnedAt (a b : Arena) (by : Pass) (word : Text) (at : Stage) (turns : (ℕ → List Turn) → List Turn) (r : Turned) : Type 0 where
+pub record TurnedAt (a b : Arena) (by : Pass) (word : Text) (at : Stage) (turns : (ℕ → List Turn) → List Turn) (r : Result Turned Excess) : Type 0 where
   pub kept : TurnKept r b word at
   pub is : (rest : ℕ → List Turn) → turned_by r by word b rest ≡ run_from by word (turns rest) a at
-  pub others : Only at.from at.to a b
+  pub others : Only at.sets.from at.sets.to a b
 
 pub record Turns (a : Arena) (by : Pass) (word : Text) (at : Stage) : Type 0 where
   pub stage : StageIn a word at
   pub here : at.place < length word
-  pub few : by.limit ≤ MOST
 
-abbrev pub TurnedBy : Arena → Arena → List ℕ → List (List ℕ) → Pass → Text → Stage → Turned → Type 0
+abbrev pub TurnedBy : Arena → Arena → List ℕ → List (List ℕ) → Pass → Text → Stage → Result Turned Excess → Type 0
 TurnedBy a b s table by word at r = TurnedAt a b by word at (turn_on (names_of s by) (rules_of s table by word at.place) word at.place) r
 
 -- ---- a pass in two sets
 
-unfoldable pub passed_by : Passed → Arena → Ran
-passed_by (passed.Now k set flag) b = ran (entries_at b set k) flag
-passed_by passed.TooLong b = too_long
+unfoldable pub passed_by : Result Passed Excess → Arena → Ran
+passed_by (Ok p) b = ran (entries_at b p.texts.set p.texts.count) p.flag
+passed_by (Err e) b = too_long
 
-unfoldable pub PassKept : Passed → Arena → ℕ → ℕ → Type 0
-PassKept (passed.Now k set flag) b x y = SetAt b set k × ((set ≡ x) ⊎ (set ≡ y))
-PassKept passed.TooLong b x y = Unit {0}
+unfoldable pub PassKept : Result Passed Excess → Arena → ℕ → ℕ → Type 0
+PassKept (Ok p) b x y = SetAt b p.texts.set p.texts.count × ((p.texts.set ≡ x) ⊎ (p.texts.set ≡ y))
+PassKept (Err e) b x y = e ≡ TooLong
 
-pub record PassedAt (a b : Arena) (x y : ℕ) (o : Ran) (r : Passed) : Type 0 where
+pub record PassedAt (a b : Arena) (x y : ℕ) (o : Ran) (r : Result Passed Excess) : Type 0 where
   pub kept : PassKept r b x y
   pub is : passed_by r b ≡ o
   pub others : Only x y a b
-
-pub record Runs (a : Arena) (by : Pass) (sets : Between) : Type 0 where
-  pub sides : BetweenIn a sets
-  pub few : by.limit ≤ MOST
 
 -- a word run from a set
 abbrev pub run_of : List ℕ → List (List ℕ) → Pass → Text → List Entry → Ran
 run_of s table by word l = run by.appends by.limit (turns_of (names_of s by) (rules_of s table by) word) l
 
-abbrev pub RunTo : Arena → Arena → List ℕ → List (List ℕ) → Pass → Text → Between → Passed → Type 0
+abbrev pub RunTo : Arena → Arena → List ℕ → List (List ℕ) → Pass → Text → Between → Result Passed Excess → Type 0
 RunTo a b s table by word sets r = PassedAt a b sets.from sets.to (run_of s table by word (source_of a sets)) r
 
 -- ---- final passes
 
--- four sets, all different
-pub record Apart (sets : FinalSets) : Type 0 where
-  pub old_known : sets.old < SETS
-  pub result_known : sets.result < SETS
-  pub x_known : sets.x < SETS
-  pub y_known : sets.y < SETS
-  pub old_result : sets.old ≡ sets.result → ⊥
-  pub old_x : sets.old ≡ sets.x → ⊥
-  pub old_y : sets.old ≡ sets.y → ⊥
-  pub result_x : sets.result ≡ sets.x → ⊥
-  pub result_y : sets.result ≡ sets.y → ⊥
-  pub x_y : sets.x ≡ sets.y → ⊥
+unfoldable pub FinalKept : Result Finished Excess → Arena → ℕ → Type 0
+FinalKept (Ok f) b to = SetAt b to f.texts
+FinalKept (Err e) b to = Unit {0}
 
-unfoldable pub FinalKept : Finished → Arena → ℕ → Type 0
-FinalKept (finished.Into k flag) b to = SetAt b to k
-FinalKept finished.TooLong b to = Unit {0}
-FinalKept finished.TooMany b to = Unit {0}
-
-unfoldable pub finished_by : Finished → Arena → ℕ → (List Entry → Spelling) → Spelling
-finished_by (finished.Into k flag) b to rest = raised flag (rest (entries_at b to k))
-finished_by finished.TooLong b to rest = refusal TextTooLong
-finished_by finished.TooMany b to rest = refusal TooManyTexts
+unfoldable pub finished_by : Result Finished Excess → Arena → ℕ → (List Entry → Spelling) → Spelling
+finished_by (Ok f) b to rest = raised f.flag (rest (entries_at b to f.texts))
+finished_by (Err e) b to rest = refusal (refused_by e)
 
 -- one text's run, united into the result so far, whatever is done with it
-pub record TextFinished (a b : Arena) (old to : ℕ) (s : (List Entry → Spelling) → Spelling) (r : Finished) : Type 0 where
+pub record TextFinished (a b : Arena) (old to : ℕ) (s : (List Entry → Spelling) → Spelling) (r : Result Finished Excess) : Type 0 where
   pub kept : FinalKept r b to
   pub is : (rest : List Entry → Spelling) → finished_by r b to rest ≡ s rest
   pub stayed : Stayed a b old
 
 -- the texts of set `to`
-unfoldable pub texts_by : Finished → Arena → ℕ → Spelling
-texts_by (finished.Into k flag) b to = texts (entries_at b to k) flag
-texts_by finished.TooLong b to = refusal TextTooLong
-texts_by finished.TooMany b to = refusal TooManyTexts
+unfoldable pub texts_by : Result Finished Excess → Arena → ℕ → Spelling
+texts_by (Ok f) b to = texts (entries_at b to f.texts) f.flag
+texts_by (Err e) b to = refusal (refused_by e)
 
-pub record FinishedAt (b : Arena) (to : ℕ) (s : Spelling) (r : Finished) : Type 0 where
+pub record FinishedAt (b : Arena) (to : ℕ) (s : Spelling) (r : Result Finished Excess) : Type 0 where
   pub kept : FinalKept r b to
   pub is : texts_by r b to ≡ s
 
--- what each function of a final pass asks of the pass: its limit, and that it appends
-pub record FinalBy (by : Pass) : Type 0 where
-  pub few : by.limit ≤ MOST
-  pub final : by.appends ≡ true
-
 pub record TextRuns (a : Arena) (by : Pass) (sets : FinalSets) (i : ℕ) : Type 0 where
   pub text : TextIn a.slots sets.old i
-  pub apart : Apart sets
-  pub pass : FinalBy by
+  pub final : by.appends ≡ true
 
 -- what an entry is run to
 abbrev pub text_run : List ℕ → List (List ℕ) → Pass → Entry → Ran
 text_run s table by e = run true by.limit (turns_of (names_of s by) (rules_of s table by) e.text) (start e.langs)
 
-abbrev pub TextRan : Arena → Arena → List ℕ → List (List ℕ) → Pass → FinalSets → ℕ → Passed → Type 0
+abbrev pub TextRan : Arena → Arena → List ℕ → List (List ℕ) → Pass → FinalSets → ℕ → Result Passed Excess → Type 0
 TextRan a b s table by sets i r = PassedAt a b sets.x sets.y (text_run s table by (entry_in a sets.old i)) r
 
 pub record TextFinishes (a : Arena) (by : Pass) (sets : FinalSets) (next : NextText) : Type 0 where
   pub text : TextIn a.slots sets.old next.text
   pub set : SetAt a sets.result next.count
-  pub apart : Apart sets
-  pub pass : FinalBy by
+  pub final : by.appends ≡ true
 
 -- the definitions of a final pass, by the rules of this one
 abbrev pub text_final : List ℕ → List (List ℕ) → Pass → Entry → List Entry → (List Entry → Spelling) → Spelling
@@ -275,25 +242,18 @@ final_rest s table by = final_from by.limit (names_of s by) (rules_of s table by
 abbrev pub final_whole : List ℕ → List (List ℕ) → Pass → List Entry → Spelling
 final_whole s table by = final_pass by.limit (names_of s by) (rules_of s table by)
 
-abbrev pub TextFinishedBy : Arena → Arena → List ℕ → List (List ℕ) → Pass → FinalSets → NextText → Finished → Type 0
+abbrev pub TextFinishedBy : Arena → Arena → List ℕ → List (List ℕ) → Pass → FinalSets → NextText → Result Finished Excess → Type 0
 TextFinishedBy a b s table by sets next r =
     TextFinished a b sets.old sets.result
     (text_final s table by (entry_in a sets.old next.text) (entries_at a sets.result next.count)) r
 
 pub record Finishes (a : Arena) (by : Pass) (sets : FinalSets) (count : ℕ) : Type 0 where
   pub old : SetAt a sets.old count
-  pub apart : Apart sets
-  pub pass : FinalBy by
+  pub final : by.appends ≡ true
 
-abbrev pub FinishedBy : Arena → Arena → List ℕ → List (List ℕ) → Pass → FinalSets → ℕ → Finished → Type 0
+abbrev pub FinishedBy : Arena → Arena → List ℕ → List (List ℕ) → Pass → FinalSets → ℕ → Result Finished Excess → Type 0
 FinishedBy a b s table by sets count r =
     FinishedAt b sets.result (final_whole s table by (entries_at a sets.old count)) r
-
--- the same pass with the flag up where `up`
-unfoldable pub raised_by : Bool → Finished → Finished
-raised_by up (finished.Into k flag) = finished.Into k (pick up true flag)
-raised_by up finished.TooLong = finished.TooLong
-raised_by up finished.TooMany = finished.TooMany
 
 -- ---- the passes of a word
 
@@ -306,7 +266,7 @@ pub record FinishesAll (a : Arena) (by : Plan) (from : Target) : Type 0 where
 abbrev pub final_by : List ℕ → List (List ℕ) → Plan → ℕ → List Entry → Spelling
 final_by s table by list l = final_pass by.limit (names_in s by.guesses) (matcher s table list) l
 
-abbrev pub FinishedAll : Arena → Arena → List ℕ → List (List ℕ) → Plan → Target → Finished → Type 0
+abbrev pub FinishedAll : Arena → Arena → List ℕ → List (List ℕ) → Plan → Target → Result Finished Excess → Type 0
 FinishedAll a b s table by from r =
     FinishedAt b 0 (then (final_by s table by by.common (entries_at a from.set from.count)) (final_by s table by by.own)) r
 
@@ -324,7 +284,7 @@ abbrev pub word_within : ℕ → List ℕ → List (List ℕ) → Plan → Text 
 word_within limit s table by word =
     word_of limit (names_in s by.guesses) (matcher s table by.main) (matcher s table by.common) (matcher s table by.own) by.set word
 
-abbrev pub SpelledAs : Arena → List ℕ → List (List ℕ) → Plan → Text → Finished → Type 0
+abbrev pub SpelledAs : Arena → List ℕ → List (List ℕ) → Plan → Text → Result Finished Excess → Type 0
 SpelledAs b s table by word r = FinishedAt b 0 (word_within by.limit s table by word) r
 
 -- ---- the answer

@@ -3,24 +3,9 @@ ghost use Rattle.std.specs.Prelude.{◌≡◌};
 ghost use Rattle.languages.specs.InnerContracts.{codes_narrowed};
 ghost use Rattle.phoneme_builder.specs.BufferContracts.{arena, langs_of, withheld, Offers, OfferedTo, RowOffers, RowOffered, TextOffers, TextOffered, Applies, AppliedTo};
 
-use crate::expressions::text_in;
-use crate::set::{Between, MOST, ROW, Slots, Store, Target, add_to, copy_text, langs_at};
+use crate::expressions::{Candidate, text_in};
+use crate::set::{Between, Excess, ROW, Slots, Store, Target, add_to, copy_text, langs_at};
 use crate::slots::{NO_LANGUAGES, langs_of};
-use languages::Narrowed;
-
-// How many alternatives a table has, and how many texts a set may have.
-#[derive(Clone, Copy)]
-pub(crate) struct Most {
-    pub(crate) alternatives: usize,
-    pub(crate) limit: usize,
-}
-
-// How many texts the set has now; or a text over 128 bytes would have entered it (01, the table, 7).
-#[derive(Clone, Copy)]
-pub(crate) enum Applied {
-    Now(usize),
-    TooLong,
-}
 
 // A text with the bytes `more` of an alternative behind it: passed over where nothing is left of its languages, else it enters set `to`.
 #[tactic(auto, using(crate::proofs::ApplyLaws::offer_laws))]
@@ -33,19 +18,19 @@ fn offer(
     more: &[u8],
     other: u64,
     limit: usize,
-) -> Applied
+) -> Result<usize, Excess>
     requires { Offers (arena store.old slots.old) to langs other limit }
     ensures { OfferedTo (arena store.old slots.old) (arena store.new slots.new)
         to text.now langs more.now other limit result }
 {
     match languages::narrow_codes(langs, other) {
-        Narrowed::To(left) => {
+        Some(left) => {
             if ROW < text.len() + more.len() {
-                return Applied::TooLong;
+                return Err(Excess::TooLong);
             }
-            Applied::Now(add_to(store, slots, to, text, more, left))
+            Ok(add_to(store, slots, to, text, more, left))
         }
-        Narrowed::Nothing => Applied::Now(to.count),
+        None => Ok(to.count),
     }
 }
 
@@ -56,8 +41,8 @@ fn langs_to_offer(langs: u64, before: u64, x: u64) -> u64
     ensures { result ≡ withheld (codes_narrowed langs before) (langs_of x) }
 {
     match languages::narrow_codes(langs, before) {
-        Narrowed::To(_) => NO_LANGUAGES,
-        Narrowed::Nothing => langs_of(x),
+        Some(_) => NO_LANGUAGES,
+        None => langs_of(x),
     }
 }
 
@@ -70,41 +55,24 @@ fn apply_row(
     text: &[u8],
     langs: u64,
     expr: &[u8],
-    alts: &[u64],
-    most: Most,
-) -> Applied
-    requires { RowOffers (arena store.old slots.old) to langs expr.now alts.now most }
+    alts: &[Candidate],
+    limit: usize,
+) -> Result<usize, Excess>
+    requires { RowOffers (arena store.old slots.old) to langs expr.now alts.now limit }
     ensures { RowOffered (arena store.old slots.old) (arena store.new slots.new)
-        to text.now langs expr.now alts.now most result }
+        to text.now langs expr.now alts.now limit result }
 {
-    let mut j = 0;
     let mut count = to.count;
-    while j < most.alternatives {
-        if most.limit <= count {
-            return Applied::Now(count);
+    for candidate in alts {
+        if limit <= count {
+            return Ok(count);
         }
-        let x = alts[j];
-        let other = langs_to_offer(langs, alts[j + MOST], x);
-        j += 1;
-        match offer(
-            store,
-            slots,
-            Target { set: to.set, count },
-            text,
-            langs,
-            text_in(expr, x),
-            other,
-            most.limit,
-        ) {
-            Applied::Now(grown) => {
-                count = grown;
-            }
-            Applied::TooLong => {
-                return Applied::TooLong;
-            }
-        }
+        let other = langs_to_offer(langs, candidate.before, candidate.number);
+        let to = Target { set: to.set, count };
+        let more = text_in(expr, candidate.number);
+        count = offer(store, slots, to, text, langs, more, other, limit)?;
     }
-    Applied::Now(count)
+    Ok(count)
 }
 
 // Under the i-th text of set `from` the alternatives, into set `to`.
@@ -116,17 +84,17 @@ fn apply_text(
     i: usize,
     to: Target,
     expr: &[u8],
-    alts: &[u64],
-    most: Most,
-) -> Applied
-    requires { TextOffers (arena store.old slots.old) from i to expr.now alts.now most }
+    alts: &[Candidate],
+    limit: usize,
+) -> Result<usize, Excess>
+    requires { TextOffers (arena store.old slots.old) from i to expr.now alts.now limit }
     ensures { TextOffered (arena store.old slots.old) (arena store.new slots.new)
-        from i to expr.now alts.now most result }
+        from i to expr.now alts.now limit result }
 {
     let mut row = [0u8; ROW];
     let e = copy_text(store, slots, from, i, &mut row);
     let langs = langs_at(slots, from, i);
-    apply_row(store, slots, to, &row[0..e], langs, expr, alts, most)
+    apply_row(store, slots, to, &row[..e], langs, expr, alts, limit)
 }
 
 // The old texts in order, under each the alternatives in order, into the other set; when the count reaches the limit, stop.
@@ -136,41 +104,23 @@ pub(crate) fn apply(
     slots: &mut Slots,
     sets: Between,
     expr: &[u8],
-    alts: &[u64],
-    most: Most,
-) -> Applied
-    requires { Applies (arena store.old slots.old) sets expr.now alts.now most }
+    alts: &[Candidate],
+    limit: usize,
+) -> Result<usize, Excess>
+    requires { Applies (arena store.old slots.old) sets expr.now alts.now limit }
     ensures { AppliedTo (arena store.old slots.old) (arena store.new slots.new)
-        sets expr.now alts.now most result }
+        sets expr.now alts.now limit result }
 {
-    let mut i = 0;
     let mut count = 0;
-    while i < sets.count {
-        if most.limit <= count {
-            return Applied::Now(count);
+    for i in 0..sets.count {
+        if limit <= count {
+            return Ok(count);
         }
-        let old = i;
-        i += 1;
-        match apply_text(
-            store,
-            slots,
-            sets.from,
-            old,
-            Target {
-                set: sets.to,
-                count,
-            },
-            expr,
-            alts,
-            most,
-        ) {
-            Applied::Now(grown) => {
-                count = grown;
-            }
-            Applied::TooLong => {
-                return Applied::TooLong;
-            }
-        }
+        let to = Target {
+            set: sets.to,
+            count,
+        };
+        count = apply_text(store, slots, sets.from, i, to, expr, alts, limit)?;
     }
-    Applied::Now(count)
+    Ok(count)
 }

@@ -7,21 +7,23 @@ use crate::set::MOST;
 use crate::slots::{NO_LANGUAGES, first_of, langs_of, packed, second_of};
 use phonemes::Alternative;
 
-// A table of alternatives: an expression has no more than 256. Each is a number, and 256 places behind it stand the languages, merged,
-// of those before it with the same text.
-pub(crate) type Alternatives = [u64; TABLE];
+// An alternative, and the languages, merged, of those before it with the same text.
+#[derive(Clone, Copy)]
+pub(crate) struct Candidate {
+    pub(crate) number: u64,
+    pub(crate) before: u64,
+}
 
-pub(crate) const TABLE: usize = 512;
+// A table of alternatives: an expression has no more than 256.
+pub(crate) type Alternatives = [Candidate; MOST];
 
 // The text of the alternative x of e.
 #[tactic(auto, using(crate::proofs::TableLaws::text_laws))]
-pub(crate) fn text_in<'a>(e: &'a [u8], x: u64) -> &'a [u8]
+pub(crate) fn text_in(e: &[u8], x: u64) -> &[u8]
     requires { AltIn e.now x }
     ensures { result.now ≡ (alt_of e.now x).text }
 {
-    let start = first_of(x);
-    let end = second_of(x);
-    &e[start..end]
+    &e[first_of(x)..second_of(x)]
 }
 
 // The languages of the alternative y of e where it has the text of x, else none.
@@ -39,15 +41,13 @@ fn langs_if_alike(e: &[u8], x: u64, y: u64) -> u64
 
 // The languages, merged, of those of the first n alternatives that have the text of x.
 #[tactic(auto, using(crate::proofs::TableLaws::looking_laws))]
-fn langs_before(e: &[u8], alts: &[u64], n: usize, x: u64) -> u64
+fn langs_before(e: &[u8], alts: &[Candidate], n: usize, x: u64) -> u64
     requires { Asks e.now alts.now n x }
     ensures { Before e.now alts.now n (alt_of e.now x).text result }
 {
-    let mut i = 0;
     let mut langs = NO_LANGUAGES;
-    while i < n {
-        langs = languages::merge_codes(langs, langs_if_alike(e, x, alts[i]));
-        i += 1;
+    for y in &alts[..n] {
+        langs = languages::merge_codes(langs, langs_if_alike(e, x, y.number));
     }
     langs
 }
@@ -55,7 +55,7 @@ fn langs_before(e: &[u8], alts: &[u64], n: usize, x: u64) -> u64
 // The alternative x behind the first n, unless those with its text have all its languages: then it adds nothing to any set.
 // Returns how many there are then.
 #[tactic(auto, using(crate::proofs::TableLaws::keep_laws))]
-fn keep(e: &[u8], alts: &mut [u64], n: usize, x: u64) -> usize
+fn keep(e: &[u8], alts: &mut [Candidate], n: usize, x: u64) -> usize
     requires { Keeps e.now alts.old n x }
     ensures { KeptIn e.now alts.old alts.new n x result }
 {
@@ -63,34 +63,27 @@ fn keep(e: &[u8], alts: &mut [u64], n: usize, x: u64) -> usize
     if languages::merge_codes(before, langs_of(x)) == before {
         return n;
     }
-    alts[n] = x;
-    alts[n + MOST] = before;
+    alts[n] = Candidate { number: x, before };
     n + 1
 }
 
 // The alternatives of e in the table, less those that add nothing. Returns how many there are.
 #[tactic(auto, using(crate::proofs::PhonemeLaws::filling_laws))]
-pub(crate) fn alternatives(e: &[u8], names: &[u8], alts: &mut [u64]) -> usize
+pub(crate) fn alternatives(e: &[u8], names: &[u8], alts: &mut [Candidate]) -> usize
     requires { Fills e.now alts.old }
     ensures { AltsAre names.now e.now alts.new result }
 {
     let mut from = 0;
     let mut n = 0;
-    while n < MOST {
-        match phonemes::alternative(e, names, from) {
-            Alternative::At {
-                start,
-                end,
-                set,
-                next,
-            } => {
-                n = keep(e, alts, n, packed(languages::coded(set), start, end));
-                from = next;
-            }
-            Alternative::Nothing => {
-                return n;
-            }
-        }
+    while let Alternative::At {
+        start,
+        end,
+        set,
+        next,
+    } = phonemes::alternative(e, names, from)
+    {
+        n = keep(e, alts, n, packed(languages::coded(set), start, end));
+        from = next;
     }
     n
 }

@@ -3,19 +3,10 @@ ghost use Rattle.phoneme_builder.specs.BufferContracts.{arena};
 ghost use Rattle.phoneme_builder.specs.InnerContracts.{TextRuns, TextRan, TextFinishes, TextFinishedBy, Finishes, FinishedBy};
 
 use crate::expressions::Alternatives;
-use crate::pass::{Pass, Passed, either, run};
-use crate::set::{Between, ROW, Slots, Store, begin, copy_text, langs_at};
-use crate::unite::{United, unite};
-use rule_index::Table;
-
-// The sets of a final pass: the old texts, the result, and two to run a text in.
-#[derive(Clone, Copy)]
-pub(crate) struct FinalSets {
-    pub(crate) old: usize,
-    pub(crate) result: usize,
-    pub(crate) x: usize,
-    pub(crate) y: usize,
-}
+use crate::pass::{Book, Passed, run};
+use crate::set::{Between, Excess, ROW, Slots, Store, begin, copy_text, langs_at};
+use crate::unite::unite;
+use crate::way::{FinalSets, Pass};
 
 // The next old text, and how many texts the result has.
 #[derive(Clone, Copy)]
@@ -24,12 +15,11 @@ pub(crate) struct NextText {
     pub(crate) count: usize,
 }
 
-// How many texts the result has, and the flag; or 7; or 8.
+// How many texts the result has, and the flag.
 #[derive(Clone, Copy)]
-pub(crate) enum Finished {
-    Into { texts: usize, flag: bool },
-    TooLong,
-    TooMany,
+pub(crate) struct Finished {
+    pub(crate) texts: usize,
+    pub(crate) flag: bool,
 }
 
 // The i-th old text, run from a set begun with its languages.
@@ -38,15 +28,14 @@ fn run_text(
     store: &mut Store,
     slots: &mut Slots,
     alts: &mut Alternatives,
-    pack: &[u8],
-    table: &Table,
+    book: Book,
     by: Pass,
     sets: FinalSets,
     i: usize,
-) -> Passed
+) -> Result<Passed, Excess>
     requires { TextRuns (arena store.old slots.old) by sets i }
     ensures { TextRan (arena store.old slots.old) (arena store.new slots.new)
-        pack.now table.now by sets i result }
+        book.entry.pack.now book.entry.table.now by sets i result }
 {
     let mut word = [0u8; ROW];
     let e = copy_text(store, slots, sets.old, i, &mut word);
@@ -57,7 +46,7 @@ fn run_text(
         count,
         to: sets.y,
     };
-    run(store, slots, alts, pack, table, by, &word[0..e], between)
+    run(store, slots, alts, book, by, &word[..e], between)
 }
 
 // The next old text, run and united into the result.
@@ -66,31 +55,27 @@ fn final_text(
     store: &mut Store,
     slots: &mut Slots,
     alts: &mut Alternatives,
-    pack: &[u8],
-    table: &Table,
+    book: Book,
     by: Pass,
     sets: FinalSets,
     next: NextText,
-) -> Finished
+) -> Result<Finished, Excess>
     requires { TextFinishes (arena store.old slots.old) by sets next }
     ensures { TextFinishedBy (arena store.old slots.old) (arena store.new slots.new)
-        pack.now table.now by sets next result }
+        book.entry.pack.now book.entry.table.now by sets next result }
 {
-    match run_text(store, slots, alts, pack, table, by, sets, next.text) {
-        Passed::Now { texts, set, flag } => {
-            let langs = langs_at(slots, sets.old, next.text);
-            let between = Between {
-                from: set,
-                count: texts,
-                to: sets.result,
-            };
-            match unite(store, slots, between, next.count, langs) {
-                United::Into(texts) => Finished::Into { texts, flag },
-                United::TooMany => Finished::TooMany,
-            }
-        }
-        Passed::TooLong => Finished::TooLong,
-    }
+    let ran = run_text(store, slots, alts, book, by, sets, next.text)?;
+    let langs = langs_at(slots, sets.old, next.text);
+    let between = Between {
+        from: ran.texts.set,
+        count: ran.texts.count,
+        to: sets.result,
+    };
+    let texts = unite(store, slots, between, next.count, langs)?;
+    Ok(Finished {
+        texts,
+        flag: ran.flag,
+    })
 }
 
 // The old texts in order, each run and united into the result.
@@ -99,43 +84,22 @@ pub(crate) fn final_pass(
     store: &mut Store,
     slots: &mut Slots,
     alts: &mut Alternatives,
-    pack: &[u8],
-    table: &Table,
+    book: Book,
     by: Pass,
     sets: FinalSets,
     count: usize,
-) -> Finished
+) -> Result<Finished, Excess>
     requires { Finishes (arena store.old slots.old) by sets count }
     ensures { FinishedBy (arena store.old slots.old) (arena store.new slots.new)
-        pack.now table.now by sets count result }
+        book.entry.pack.now book.entry.table.now by sets count result }
 {
-    let mut text = 0;
-    let mut united = 0;
+    let mut texts = 0;
     let mut flag = false;
-    while text < count {
-        let next = NextText {
-            text,
-            count: united,
-        };
-        match final_text(store, slots, alts, pack, table, by, sets, next) {
-            Finished::Into {
-                texts,
-                flag: raised,
-            } => {
-                united = texts;
-                flag = either(flag, raised);
-                text += 1;
-            }
-            Finished::TooLong => {
-                return Finished::TooLong;
-            }
-            Finished::TooMany => {
-                return Finished::TooMany;
-            }
-        }
+    for text in 0..count {
+        let next = NextText { text, count: texts };
+        let one = final_text(store, slots, alts, book, by, sets, next)?;
+        texts = one.texts;
+        flag |= one.flag;
     }
-    Finished::Into {
-        texts: united,
-        flag,
-    }
+    Ok(Finished { texts, flag })
 }

@@ -9,6 +9,7 @@ mod pass;
 mod set;
 mod slots;
 mod unite;
+mod way;
 mod words;
 
 pub use set::{Slots, Store};

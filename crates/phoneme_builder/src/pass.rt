@@ -2,86 +2,54 @@
 ghost use Rattle.std.specs.Prelude.{◌≡◌, true, ◌+◌, ◌<◌, min, length};
 ghost use Rattle.base.specs.Pick.{pick};
 ghost use Rattle.letters.specs.Utf8.{decode_at};
-ghost use Rattle.phoneme_builder.specs.BufferContracts.{arena};
+ghost use Rattle.phoneme_builder.specs.BufferContracts.{arena, BetweenIn};
 ghost use Rattle.phoneme_builder.specs.Passes.{step_length};
-ghost use Rattle.phoneme_builder.specs.InnerContracts.{names_in, StepIn, StageIn, SettledBy, RuleApplies, RuleApplied, Turns, TurnedBy, Runs, RunTo};
+ghost use Rattle.phoneme_builder.specs.InnerContracts.{names_in, StepIn, StageIn, SettledBy, RuleApplies, RuleApplied, Turns, TurnedBy, RunTo};
 
 use crate::append::append;
-use crate::apply::{Applied, Most, apply};
+use crate::apply::apply;
 use crate::expressions::{Alternatives, alternatives};
-use crate::set::{Between, Slots, Store};
+use crate::set::{Between, Excess, Slots, Store, Target};
+use crate::way::Pass;
 use letters::Step;
-use rule_index::{Matched, Table, first_match};
+use rule_index::{Table, first_match};
 
-// How a pass works: by the rules of which list, up to which limit, whether it appends what no rule matches, and where the pack's names
-// end.
+// A pack's bytes, and where the rules of its lists stand in them.
 #[derive(Clone, Copy)]
-pub(crate) struct Pass {
-    pub(crate) list: usize,
-    pub(crate) limit: usize,
-    pub(crate) appends: bool,
-    pub(crate) guesses: usize,
+pub(crate) struct Book<'a> {
+    pub(crate) pack: &'a [u8],
+    pub(crate) table: &'a Table,
 }
 
 // Where a pass stands: from the texts of one set into another, at a place of the word; no rule matched from `since` on.
 #[derive(Clone, Copy)]
 pub(crate) struct Stage {
-    pub(crate) from: usize,
-    pub(crate) count: usize,
-    pub(crate) to: usize,
+    pub(crate) sets: Between,
     pub(crate) since: usize,
     pub(crate) place: usize,
 }
 
-// What a turn at a place comes to: the next stage, `full` where an apply ended at or over the limit;
-// or a text over 128 bytes would have entered (7).
+// What a turn at a place comes to: the next stage, and whether an apply ended at or over the limit.
 #[derive(Clone, Copy)]
-pub(crate) enum Turned {
-    On { next: Stage, full: bool },
-    TooLong,
+pub(crate) struct Turned {
+    pub(crate) next: Stage,
+    pub(crate) full: bool,
 }
 
-// Where the texts of a pass stand when the characters that no rule matched are appended; or 7.
+// What a pass comes to: its texts, and the flag.
 #[derive(Clone, Copy)]
-pub(crate) enum Settled {
-    In(Between),
-    TooLong,
-}
-
-// What a pass comes to: so many texts in a set, and the flag.
-#[derive(Clone, Copy)]
-pub(crate) enum Passed {
-    Now {
-        texts: usize,
-        set: usize,
-        flag: bool,
-    },
-    TooLong,
-}
-
-#[tactic(auto, using(base::proofs::PickLaws::cases))]
-pub(crate) fn either(a: bool, b: bool) -> bool
-    ensures { result ≡ pick a true b }
-{
-    if a { true } else { b }
-}
-
-pub(crate) fn least_of(a: usize, b: usize) -> usize
-    ensures { result ≡ min a b }
-{
-    if a < b { a } else { b }
+pub(crate) struct Passed {
+    pub(crate) texts: Target,
+    pub(crate) flag: bool,
 }
 
 // The bytes of a pack's names, behind which its guesses stand.
-#[tactic(auto, using(crate::proofs::CharLaws::names_laws))]
-fn names_in<'a>(pack: &'a [u8], guesses: usize) -> &'a [u8]
+#[tactic(auto, using(crate::proofs::CharLaws::names_from))]
+fn names_in(pack: &[u8], guesses: usize) -> &[u8]
     ensures { result.now ≡ names_in pack.now guesses }
 {
-    let end = least_of(guesses, pack.len());
-    if end <= 1 {
-        return &pack[0..0];
-    }
-    &pack[1..end]
+    let end = guesses.min(pack.len());
+    &pack[end.min(1)..end]
 }
 
 // The bytes of the character at a place.
@@ -92,48 +60,33 @@ fn char_bytes(word: &[u8], place: usize) -> usize
 {
     match letters::decode(word, place) {
         Step::Char { code: _, len } => len,
-        Step::Ill => 1,
-        Step::End => 1,
+        Step::Ill | Step::End => 1,
     }
-}
-
-// The place a step further in a word.
-fn past(word: &[u8], place: usize, step: usize) -> usize
-    requires { StepIn word.now place step }
-    ensures { result ≡ place + step }
-{
-    place + step
 }
 
 // The stretch of unmatched characters before a place: skipped in the main pass, appended in a final one.
 #[tactic(auto, using(crate::proofs::StretchLaws::settle_laws))]
-fn settle(store: &mut Store, slots: &mut Slots, by: Pass, word: &[u8], at: Stage) -> Settled
+fn settle(
+    store: &mut Store,
+    slots: &mut Slots,
+    by: Pass,
+    word: &[u8],
+    at: Stage,
+) -> Result<Between, Excess>
     requires { StageIn (arena store.old slots.old) word.now at }
     ensures { SettledBy (arena store.old slots.old) (arena store.new slots.new)
         by word.now at result }
 {
-    let since = at.since;
-    let place = at.place;
-    let sets = Between {
-        from: at.from,
-        count: at.count,
-        to: at.to,
-    };
-    if since == place {
-        return Settled::In(sets);
+    let sets = at.sets;
+    if at.since == at.place || !by.appends {
+        return Ok(sets);
     }
-    if by.appends {
-        match append(store, slots, sets, &word[since..place]) {
-            Applied::Now(texts) => Settled::In(Between {
-                from: at.to,
-                count: texts,
-                to: at.from,
-            }),
-            Applied::TooLong => Settled::TooLong,
-        }
-    } else {
-        Settled::In(sets)
-    }
+    let texts = append(store, slots, sets, &word[at.since..at.place])?;
+    Ok(Between {
+        from: sets.to,
+        count: texts,
+        to: sets.from,
+    })
 }
 
 // A rule's expression applied, behind the stretch before its place.
@@ -147,28 +100,19 @@ fn apply_rule(
     word: &[u8],
     at: Stage,
     expr: &[u8],
-) -> Settled
+) -> Result<Between, Excess>
     requires { RuleApplies (arena store.old slots.old) by word.now at expr.now }
     ensures { RuleApplied (arena store.old slots.old) (arena store.new slots.new)
         pack.now by word.now at expr.now result }
 {
-    match settle(store, slots, by, word, at) {
-        Settled::In(sets) => {
-            let most = Most {
-                alternatives: alternatives(expr, names_in(pack, by.guesses), alts),
-                limit: by.limit,
-            };
-            match apply(store, slots, sets, expr, alts, most) {
-                Applied::Now(texts) => Settled::In(Between {
-                    from: sets.to,
-                    count: texts,
-                    to: sets.from,
-                }),
-                Applied::TooLong => Settled::TooLong,
-            }
-        }
-        Settled::TooLong => Settled::TooLong,
-    }
+    let sets = settle(store, slots, by, word, at)?;
+    let n = alternatives(expr, names_in(pack, by.guesses), alts);
+    let texts = apply(store, slots, sets, expr, &alts[..n], by.limit)?;
+    Ok(Between {
+        from: sets.to,
+        count: texts,
+        to: sets.from,
+    })
 }
 
 // The turn at a place of a word.
@@ -177,58 +121,38 @@ fn turn(
     store: &mut Store,
     slots: &mut Slots,
     alts: &mut Alternatives,
-    pack: &[u8],
-    table: &Table,
+    book: Book,
     by: Pass,
     word: &[u8],
     at: Stage,
-) -> Turned
+) -> Result<Turned, Excess>
     requires { Turns (arena store.old slots.old) by word.now at }
     ensures { TurnedBy (arena store.old slots.old) (arena store.new slots.new)
-        pack.now table.now by word.now at result }
+        book.entry.pack.now book.entry.table.now by word.now at result }
 {
     let place = at.place;
-    match first_match(pack, table, by.list, word, place) {
-        Matched::By {
-            step,
-            expression,
-            end,
-        } => match apply_rule(
-            store,
-            slots,
-            alts,
-            pack,
-            by,
-            word,
-            at,
-            &pack[expression..end],
-        ) {
-            Settled::In(sets) => {
-                let behind = past(word, place, step);
-                let next = Stage {
-                    from: sets.from,
-                    count: sets.count,
-                    to: sets.to,
+    match first_match(book.pack, book.table, by.list, word, place) {
+        Some(found) => {
+            let expr = &book.pack[found.expression.start..found.expression.end];
+            let sets = apply_rule(store, slots, alts, book.pack, by, word, at, expr)?;
+            let behind = place + found.step;
+            Ok(Turned {
+                next: Stage {
+                    sets,
                     since: behind,
                     place: behind,
-                };
-                Turned::On {
-                    next,
-                    full: by.limit <= sets.count,
-                }
-            }
-            Settled::TooLong => Turned::TooLong,
-        },
-        Matched::Nothing => Turned::On {
+                },
+                full: by.limit <= sets.count,
+            })
+        }
+        None => Ok(Turned {
             next: Stage {
-                from: at.from,
-                count: at.count,
-                to: at.to,
+                sets: at.sets,
                 since: at.since,
-                place: past(word, place, char_bytes(word, place)),
+                place: place + char_bytes(word, place),
             },
             full: false,
-        },
+        }),
     }
 }
 
@@ -238,41 +162,33 @@ pub(crate) fn run(
     store: &mut Store,
     slots: &mut Slots,
     alts: &mut Alternatives,
-    pack: &[u8],
-    table: &Table,
+    book: Book,
     by: Pass,
     word: &[u8],
     sets: Between,
-) -> Passed
-    requires { Runs (arena store.old slots.old) by sets }
+) -> Result<Passed, Excess>
+    requires { BetweenIn (arena store.old slots.old) sets }
     ensures { RunTo (arena store.old slots.old) (arena store.new slots.new)
-        pack.now table.now by word.now sets result }
+        book.entry.pack.now book.entry.table.now by word.now sets result }
 {
     let mut at = Stage {
-        from: sets.from,
-        count: sets.count,
-        to: sets.to,
+        sets,
         since: 0,
         place: 0,
     };
     let mut flag = false;
+    // Stays a loop by hand: how far a turn goes depends on the rule that matched.
     while at.place < word.len() {
-        match turn(store, slots, alts, pack, table, by, word, at) {
-            Turned::On { next, full } => {
-                at = next;
-                flag = either(flag, full);
-            }
-            Turned::TooLong => {
-                return Passed::TooLong;
-            }
-        }
+        let turned = turn(store, slots, alts, book, by, word, at)?;
+        at = turned.next;
+        flag |= turned.full;
     }
-    match settle(store, slots, by, word, at) {
-        Settled::In(sets) => Passed::Now {
-            texts: sets.count,
+    let sets = settle(store, slots, by, word, at)?;
+    Ok(Passed {
+        texts: Target {
             set: sets.from,
-            flag,
+            count: sets.count,
         },
-        Settled::TooLong => Passed::TooLong,
-    }
+        flag,
+    })
 }

@@ -2,11 +2,13 @@
 // A text that may enter is written into the row behind the others, and then looked up.
 // Four sets stand side by side, by number: 256 rows of 128 bytes and 256 slots each.
 ghost use Rattle.std.specs.Prelude.{◌≡◌, ◌++◌, ◌+◌, ◌*◌, ◌≤◌, ◌<◌, length, take, drop};
-ghost use Rattle.phoneme_builder.specs.BufferContracts.{ROW, find_l, AsksNext, ins_at, put, slot_of, InsertsText, first_of, second_of, slot_text, slot_texts, added, IsSet, SetIs, Enters, arena, Opens, AddsTo, AddedTo, Begins, BegunAs, TextIn, text_in, langs_in, CopiedIs};
+ghost use Rattle.phoneme_builder.specs.BufferContracts.{ROW, find_l, AsksNext, ins_at, put, slot_of, InsertsText, first_of, second_of, slot_text, slot_texts, added, IsSet, SetIs, Enters, arena, AddsTo, AddedTo, Begins, BegunAs, TextIn, text_in, langs_in, CopiedIs};
 
 use crate::slots::{NO_LANGUAGES, first_of, langs_of, merged, packed, second_of};
+use std::cmp::Ordering;
 
-// The rows and the slots of four sets.
+// The rows and the slots of four sets. The two are lent side by side: of a struct of two `&mut` each contract would have to say that it
+// keeps both.
 pub type Store = [[u8; STORE]; SETS];
 
 pub type Slots = [[u64; MOST]; SETS];
@@ -36,16 +38,16 @@ pub(crate) struct Between {
     pub(crate) to: usize,
 }
 
-// Where a text stands, or where it would go.
-#[derive(Clone, Copy)]
-pub(crate) enum Found {
-    At(usize),
-    Free(usize),
+// What a set can't take: a text over 128 bytes (01, the table, 7), or a 257th text (8).
+#[derive(Clone, Copy, PartialEq, Eq, Debug)]
+pub(crate) enum Excess {
+    TooLong,
+    TooMany,
 }
 
 // The text that a slot names.
 #[tactic(auto, using(crate::proofs::FindLaws::row_is))]
-fn row<'a>(store: &'a [u8], slot: u64) -> &'a [u8]
+fn row(store: &[u8], slot: u64) -> &[u8]
     requires { first_of slot * ROW + second_of slot ≤ length store.now }
     ensures { result.now ≡ slot_text store.now slot }
 {
@@ -68,8 +70,9 @@ fn ask_next(low: usize, high: usize, count: usize) -> usize
 }
 
 // Where t stands among the texts, or where it would go, by halves: it stands behind those before `low`, and before those from `high` on.
+// Stays a loop by hand: it promises how many texts are asked, the last one first, and `binary_search_by` promises no number.
 #[tactic(auto, using(crate::proofs::FindLaws::find_laws))]
-pub(crate) fn find(store: &[u8], slots: &[u64], count: usize, t: &[u8]) -> Found
+pub(crate) fn find(store: &[u8], slots: &[u64], count: usize, t: &[u8]) -> Result<usize, usize>
     requires { IsSet store.now slots.now count }
     ensures { result ≡ find_l t.now (slot_texts store.now slots.now count) }
 {
@@ -78,44 +81,22 @@ pub(crate) fn find(store: &[u8], slots: &[u64], count: usize, t: &[u8]) -> Found
     while low < high {
         let asked = ask_next(low, high, count);
         match letters::compare(row(store, slots[asked]), t) {
-            letters::Order::Less => {
-                low = asked + 1;
-            }
-            letters::Order::Equal => {
-                return Found::At(asked);
-            }
-            letters::Order::Greater => {
-                high = asked;
-            }
+            Ordering::Less => low = asked + 1,
+            Ordering::Equal => return Ok(asked),
+            Ordering::Greater => high = asked,
         }
     }
-    Found::Free(low)
+    Err(low)
 }
 
-// Puts v at index p of the first n, and moves the others up by one.
-#[tactic(auto, using(base::proofs::Opening::shift_laws))]
-fn insert_at(slots: &mut [u64], p: usize, n: usize, v: u64)
-    requires { Opens slots.old p n }
-    ensures { take (n + 1) slots.new ≡ ins_at p v (take n slots.old) }
-{
-    let mut x = v;
-    let mut i = p;
-    while i < n {
-        let y = slots[i];
-        slots[i] = x;
-        x = y;
-        i += 1;
-    }
-    slots[n] = x;
-}
-
-// Puts the slot of a text in row n at index p of the first n.
+// Puts the slot of a text in row n at index p of the first n, and moves the others up by one.
 #[tactic(auto, using(crate::proofs::EnterLaws::slot_small, crate::proofs::EnterLaws::inserted))]
 pub(crate) fn insert_text(slots: &mut [u64], p: usize, n: usize, langs: u64, long: usize)
     requires { InsertsText slots.old p n langs long }
     ensures { take (n + 1) slots.new ≡ ins_at p (slot_of langs n long) (take n slots.old) }
 {
-    insert_at(slots, p, n, packed(langs, n, long));
+    slots.copy_within(p..n, p + 1);
+    slots[p] = packed(langs, n, long);
 }
 
 // Enters the text of `long` bytes in the row behind the others; an equal text already there stays as it was: nothing is added to its
@@ -128,11 +109,11 @@ fn enter(store: &[u8], slots: &mut [u64], count: usize, long: usize, langs: u64)
 {
     let a = count * ROW;
     match find(store, slots, count, &store[a..a + long]) {
-        Found::At(p) => {
+        Ok(p) => {
             slots[p] = merged(slots[p], NO_LANGUAGES);
             count
         }
-        Found::Free(p) => {
+        Err(p) => {
             insert_text(slots, p, count, langs, long);
             count + 1
         }
@@ -140,16 +121,12 @@ fn enter(store: &[u8], slots: &mut [u64], count: usize, long: usize, langs: u64)
 }
 
 // Copies t into d from index at on.
-#[tactic(auto, using(crate::proofs::PutLaws::put_laws))]
+#[tactic(auto, using(crate::proofs::PutLaws::copied_over))]
 pub(crate) fn put(d: &mut [u8], at: usize, t: &[u8])
     requires { at + length t.now ≤ length d.old }
     ensures { d.new ≡ put d.old at t.now }
 {
-    let mut j = 0;
-    while j < t.len() {
-        d[at + j] = t[j];
-        j += 1;
-    }
+    d[at..at + t.len()].copy_from_slice(t);
 }
 
 // Writes the text of a and then b into row n.

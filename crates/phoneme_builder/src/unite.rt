@@ -2,16 +2,9 @@
 ghost use Rattle.phoneme_builder.specs.BufferContracts.{InsertsRow, RowInserted, Unites, UnitedRow, arena, UnitesTo, UnitedTo, UnitesText, UnitedText, UnitesSet, UnitedSet};
 
 use crate::set::{
-    Between, Found, MOST, ROW, Slots, Store, Target, copy_text, find, insert_text, langs_at, write,
+    Between, Excess, MOST, ROW, Slots, Store, Target, copy_text, find, insert_text, langs_at, write,
 };
 use crate::slots::merged;
-
-// How many texts the result has now; or a 257th text would have entered it (01, the table, 8).
-#[derive(Clone, Copy)]
-pub(crate) enum United {
-    Into(usize),
-    TooMany,
-}
 
 // A text written into the row behind the others, and its slot put at index p.
 fn insert_row(store: &mut [u8], slots: &mut [u64], p: usize, count: usize, text: &[u8], langs: u64)
@@ -32,22 +25,22 @@ fn unite_row(
     text: &[u8],
     langs: u64,
     worked: u64,
-) -> United
+) -> Result<usize, Excess>
     requires { Unites store.old slots.old count text.now langs worked }
     ensures { UnitedRow store.old slots.old count text.now langs worked result
         store.new slots.new }
 {
     match find(store, slots, count, text) {
-        Found::At(p) => {
+        Ok(p) => {
             slots[p] = merged(slots[p], worked);
-            United::Into(count)
+            Ok(count)
         }
-        Found::Free(p) => {
+        Err(p) => {
             if MOST <= count {
-                return United::TooMany;
+                return Err(Excess::TooMany);
             }
             insert_row(store, slots, p, count, text, langs);
-            United::Into(count + 1)
+            Ok(count + 1)
         }
     }
 }
@@ -61,7 +54,7 @@ fn unite_to(
     text: &[u8],
     langs: u64,
     worked: u64,
-) -> United
+) -> Result<usize, Excess>
     requires { UnitesTo (arena store.old slots.old) to text.now langs worked }
     ensures { UnitedTo (arena store.old slots.old) (arena store.new slots.new)
         to text.now langs worked result }
@@ -86,7 +79,7 @@ fn unite_text(
     i: usize,
     to: Target,
     worked: u64,
-) -> United
+) -> Result<usize, Excess>
     requires { UnitesText (arena store.old slots.old) from i to worked }
     ensures { UnitedText (arena store.old slots.old) (arena store.new slots.new)
         from i to worked result }
@@ -94,7 +87,7 @@ fn unite_text(
     let mut row = [0u8; ROW];
     let e = copy_text(store, slots, from, i, &mut row);
     let langs = langs_at(slots, from, i);
-    unite_to(store, slots, to, &row[0..e], langs, worked)
+    unite_to(store, slots, to, &row[..e], langs, worked)
 }
 
 // The texts of one text's final run, in order into the result so far of n texts; `worked` is the set of that text.
@@ -105,34 +98,18 @@ pub(crate) fn unite(
     sets: Between,
     n: usize,
     worked: u64,
-) -> United
+) -> Result<usize, Excess>
     requires { UnitesSet (arena store.old slots.old) sets n worked }
     ensures { UnitedSet (arena store.old slots.old) (arena store.new slots.new)
         sets n worked result }
 {
-    let mut i = 0;
     let mut count = n;
-    while i < sets.count {
-        let next = i;
-        i += 1;
-        match unite_text(
-            store,
-            slots,
-            sets.from,
-            next,
-            Target {
-                set: sets.to,
-                count,
-            },
-            worked,
-        ) {
-            United::Into(grown) => {
-                count = grown;
-            }
-            United::TooMany => {
-                return United::TooMany;
-            }
-        }
+    for i in 0..sets.count {
+        let to = Target {
+            set: sets.to,
+            count,
+        };
+        count = unite_text(store, slots, sets.from, i, to, worked)?;
     }
-    United::Into(count)
+    Ok(count)
 }

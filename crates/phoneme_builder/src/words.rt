@@ -3,12 +3,13 @@ ghost use Rattle.std.specs.Prelude.{◌≡◌, ◌+◌, ◌≤◌, length};
 ghost use Rattle.std.proofs.lemmas.List.Edits.{sets};
 ghost use Rattle.phoneme_builder.specs.BufferContracts.{arena};
 ghost use Rattle.phoneme_builder.specs.Passes.{joined};
-ghost use Rattle.phoneme_builder.specs.InnerContracts.{CodeOf, raised_by, FinishesAll, FinishedAll, Spells, SpelledAs, TextsIn, texts_in, barred, PutBarred, Joins, GivenIs, word_by, WordIs};
+ghost use Rattle.phoneme_builder.specs.InnerContracts.{CodeOf, FinishesAll, FinishedAll, Spells, SpelledAs, TextsIn, texts_in, barred, PutBarred, Joins, GivenIs, word_by, WordIs};
 
-use crate::expressions::{Alternatives, TABLE};
-use crate::finals::{FinalSets, Finished, final_pass};
-use crate::pass::{Pass, Passed, either, least_of, run};
-use crate::set::{Between, MOST, Slots, Store, Target, begin, put, text_of};
+use crate::expressions::{Alternatives, Candidate};
+use crate::finals::{Finished, final_pass};
+use crate::pass::{Book, run};
+use crate::set::{Between, Excess, MOST, Slots, Store, Target, begin, put, text_of};
+use crate::way::{FinalSets, Pass};
 use languages::LanguageSet;
 use rule_index::Table;
 
@@ -40,35 +41,19 @@ fn code_of(set: LanguageSet) -> u64
     languages::coded(set)
 }
 
-// What a pass came to, with the flag up where that of the pass before it was.
-#[tactic(auto, using(crate::proofs::FinalLaws::raised_into), unfolding(crate::specs::InnerContracts::raised_by))]
-fn raised(up: bool, pass: Finished) -> Finished
-    ensures { result ≡ raised_by up pass }
-{
-    match pass {
-        Finished::Into { texts, flag } => Finished::Into {
-            texts,
-            flag: either(up, flag),
-        },
-        Finished::TooLong => Finished::TooLong,
-        Finished::TooMany => Finished::TooMany,
-    }
-}
-
 // The final passes from the texts of set 0 or 1, into set 0.
 #[tactic(auto, using(crate::proofs::FinalLaws::final_laws))]
 fn final_passes(
     store: &mut Store,
     slots: &mut Slots,
     alts: &mut Alternatives,
-    pack: &[u8],
-    table: &Table,
+    book: Book,
     by: Plan,
     from: Target,
-) -> Finished
+) -> Result<Finished, Excess>
     requires { FinishesAll (arena store.old slots.old) by from }
     ensures { FinishedAll (arena store.old slots.old) (arena store.new slots.new)
-        pack.now table.now by from result }
+        book.entry.pack.now book.entry.table.now by from result }
 {
     let common = Pass {
         list: by.common,
@@ -82,26 +67,24 @@ fn final_passes(
         x: 1 - from.set,
         y: 3,
     };
-    match final_pass(store, slots, alts, pack, table, common, first, from.count) {
-        Finished::Into { texts, flag } => {
-            let own = Pass {
-                list: by.own,
-                limit: by.limit,
-                appends: true,
-                guesses: by.guesses,
-            };
-            let second = FinalSets {
-                old: 2,
-                result: 0,
-                x: 1,
-                y: 3,
-            };
-            let language = final_pass(store, slots, alts, pack, table, own, second, texts);
-            raised(flag, language)
-        }
-        Finished::TooLong => Finished::TooLong,
-        Finished::TooMany => Finished::TooMany,
-    }
+    let shared = final_pass(store, slots, alts, book, common, first, from.count)?;
+    let own = Pass {
+        list: by.own,
+        limit: by.limit,
+        appends: true,
+        guesses: by.guesses,
+    };
+    let second = FinalSets {
+        old: 2,
+        result: 0,
+        x: 1,
+        y: 3,
+    };
+    let language = final_pass(store, slots, alts, book, own, second, shared.texts)?;
+    Ok(Finished {
+        texts: language.texts,
+        flag: shared.flag | language.flag,
+    })
 }
 
 // The word's texts, in set 0.
@@ -110,14 +93,14 @@ fn spell_word(
     store: &mut Store,
     slots: &mut Slots,
     alts: &mut Alternatives,
-    pack: &[u8],
-    table: &Table,
+    book: Book,
     by: Plan,
     langs: u64,
     word: &[u8],
-) -> Finished
+) -> Result<Finished, Excess>
     requires { Spells by langs }
-    ensures { SpelledAs (arena store.new slots.new) pack.now table.now by word.now result }
+    ensures { SpelledAs (arena store.new slots.new)
+        book.entry.pack.now book.entry.table.now by word.now result }
 {
     let count = begin(store, slots, 0, langs);
     let main = Pass {
@@ -131,14 +114,12 @@ fn spell_word(
         count,
         to: 1,
     };
-    match run(store, slots, alts, pack, table, main, word, sides) {
-        Passed::Now { texts, set, flag } => {
-            let from = Target { set, count: texts };
-            let finished = final_passes(store, slots, alts, pack, table, by, from);
-            raised(flag, finished)
-        }
-        Passed::TooLong => Finished::TooLong,
-    }
+    let ran = run(store, slots, alts, book, main, word, sides)?;
+    let finished = final_passes(store, slots, alts, book, by, ran.texts)?;
+    Ok(Finished {
+        texts: finished.texts,
+        flag: ran.flag | finished.flag,
+    })
 }
 
 // The bytes of the n texts of set 0 with a bar behind each.
@@ -147,11 +128,9 @@ fn bytes_barred(store: &Store, slots: &Slots, n: usize) -> usize
     requires { TextsIn store.now slots.now n }
     ensures { result ≡ barred (texts_in store.now slots.now n) }
 {
-    let mut i = 0;
     let mut total = 0;
-    while i < n {
+    for i in 0..n {
         total += text_of(store, slots, 0, i).len() + 1;
-        i += 1;
     }
     total
 }
@@ -176,10 +155,8 @@ fn put_joined(store: &Store, slots: &Slots, n: usize, out: &mut [u8], at: usize)
     let t = text_of(store, slots, 0, 0);
     put(out, at, t);
     let mut p = at + t.len();
-    let mut i = 1;
-    while i < n {
+    for i in 1..n {
         p = put_barred(out, p, text_of(store, slots, 0, i));
-        i += 1;
     }
 }
 
@@ -193,14 +170,9 @@ fn give(store: &Store, slots: &Slots, n: usize, out: &mut [u8], at: usize) -> us
         return 0;
     }
     let length = bytes_barred(store, slots, n) - 1;
-    let room = out.len();
-    if room < at {
-        return length;
+    if at <= out.len() && length <= out.len() - at {
+        put_joined(store, slots, n, out, at);
     }
-    if room - at < length {
-        return length;
-    }
-    put_joined(store, slots, n, out, at);
     length
 }
 
@@ -219,23 +191,22 @@ pub fn word(
 ) -> Worded
     ensures { WordIs (word_by pack.now table.now by word.now) out.old out.new at result }
 {
-    let set = by.set;
-    let langs = code_of(set);
+    let langs = code_of(by.set);
     let within = Plan {
-        main: by.main,
-        common: by.common,
-        own: by.own,
-        limit: least_of(by.limit, MOST),
-        guesses: by.guesses,
-        set,
+        limit: by.limit.min(MOST),
+        ..by
     };
-    let mut alts = [0u64; TABLE];
-    match spell_word(store, slots, &mut alts, pack, table, within, langs, word) {
-        Finished::Into { texts, flag } => Worded::Done {
+    let mut alts = [Candidate {
+        number: 0,
+        before: 0,
+    }; MOST];
+    let book = Book { pack, table };
+    match spell_word(store, slots, &mut alts, book, within, langs, word) {
+        Ok(Finished { texts, flag }) => Worded::Done {
             length: give(store, slots, texts, out, at),
             flag,
         },
-        Finished::TooLong => Worded::TooLong,
-        Finished::TooMany => Worded::TooMany,
+        Err(Excess::TooLong) => Worded::TooLong,
+        Err(Excess::TooMany) => Worded::TooMany,
     }
 }

@@ -1,4 +1,6 @@
 -- The guessing rules noted in the table, and guessing by what is noted: as the pack's guessing section does. Assumes nothing.
+use Rattle.pack.specs.declared.guessing.GuessAt.{GuessAt}
+use Rattle.std.specs.Prelude.{Option, Some, None}
 use borrow.Author.Rules.{rules}
 use mathlib.Core.Path.{◌≡◌, refl, sym, ap, ap₂, subst, ◌∙◌}
 use mathlib.Core.Bool.{Bool, true, false}
@@ -26,8 +28,6 @@ use Rattle.pack.specs.Packs.{Guess, guess, read_guess}
 use Rattle.pack.specs.PlaceContracts.{rule_count}
 use Rattle.pack.specs.Guessing.{narrowed_by, narrowed_by_all, left_over, all_listed, guessed}
 use Rattle.pack.specs.InnerContracts.{guess_stands_at, guesses_at, guessed_at}
-use Rattle.pack.specs.declared.guessing.GuessAt.{GuessAt}
-use Rattle.pack.specs.declared.guessing.GuessAt.TheVariants as guesses
 use Rattle.pack.proofs.GuessLaws.{GuessIs, guess_is, guess_cut, guess_order, guess_fits}
 use Rattle.pack.proofs.Laws.{GuessSection, guesses_whole}
 use Rattle.rule_index.specs
@@ -71,15 +71,15 @@ module _ (name : List ℕ) (b m : ℕ) (p : List ℕ) (left x : ℕ) (e : x ≡ 
 
 pub ruleset narrow_laws = (narrow_idle, narrow_hit, narrow_missed, rules)
 
-module _ (s name : List ℕ) (at left : ℕ) (x : GuessAt) (g : x ≡ guess_stands_at s at) where
-  pub narrow_at_cut : x ≡ guesses.Cut → left ≡ narrowed_in name (read_guess (drop at s)) left
+module _ (s name : List ℕ) (at left : ℕ) (x : Option GuessAt) (g : x ≡ guess_stands_at s at) where
+  pub narrow_at_cut : x ≡ None → left ≡ narrowed_in name (read_guess (drop at s)) left
   unfolding narrowed_in
   narrow_at_cut q = rw (guess_cut s at x g q) refl
 
-  pub narrow_at_whole : (b m a e r : ℕ) → x ≡ guesses.At b m a e → r ≡ narrowed_by name (guess b m (take (e - a) (drop a s))) left
+  pub narrow_at_whole : (spans : GuessAt) (r : ℕ) → x ≡ Some spans → r ≡ narrowed_by name (guess spans.accept spans.mask (take (spans.pattern.end - spans.pattern.start) (drop spans.pattern.start s))) left
       → r ≡ narrowed_in name (read_guess (drop at s)) left
   unfolding narrowed_in
-  narrow_at_whole b m a e r q f = f ∙ sym (ap (λ (y : Read Guess). narrowed_in name y left) (guess_is s at x g b m a e q).reads)
+  narrow_at_whole spans r q f = f ∙ sym (ap (λ (y : Read Guess). narrowed_in name y left) (guess_is s at x g spans q).reads)
 
 pub ruleset narrow_at_laws = (guess_order, guess_fits, narrow_at_cut, narrow_at_whole, rules)
 
@@ -130,12 +130,6 @@ module _ {s : List ℕ} {table : List (List ℕ)} {name : List ℕ} {count all i
 
 pub ruleset narrowing_laws = (narrowing_start, narrowing_noted, narrowing_next, narrowing_done, rules)
 
-pub count_some : (n : ℕ) → n < 4096 → n ≡ min 4096 n
-count_some n h = omega arith
-
-pub count_most : (n : ℕ) → 4096 ≤ n → 4096 ≡ min 4096 n
-count_most n h = omega arith
-
 pub count_few : (k n : ℕ) → k ≡ min 4096 n → k ≤ 4096
 count_few k n e = omega arith
 
@@ -144,7 +138,7 @@ pub guess_by : (s : List ℕ) (table : List (List ℕ)) (name : List ℕ) (place
 unfolding guesser
 guess_by s table name place n k all m x a b c d = d ∙ ap left_over (c ∙ ap₂ (λ (u v : ℕ). narrowed_by_first s table name u v) b a)
 
-pub ruleset guess_laws = (count_some, count_most, count_few, guess_by, rules)
+pub ruleset guess_laws = (count_few, guess_by, rules)
 
 -- ---- the loop that notes them
 
@@ -247,19 +241,19 @@ module _ {s : List ℕ} {place count : ℕ} {table₀ table : List (List ℕ)} {
     here : FirstRead (count - (i + 1)) (drop at s) w.rules w.rest
     here = first_read _ _ _ _ more
 
-    module _ (x : GuessAt) (g : x ≡ guess_stands_at s at) where
+    module _ (x : Option GuessAt) (g : x ≡ guess_stands_at s at) where
       -- bytes do not run out
-      pub noting_cut : x ≡ guesses.Cut → GuessesNoted s place table₀ table
+      pub noting_cut : x ≡ None → GuessesNoted s place table₀ table
       noting_cut q = let o = sym here.here ∙ guess_cut s at x g q in clash (cc)
 
-      module _ (b m a e : ℕ) (q : x ≡ guesses.At b m a e) (k p : ℕ) (f : k ≡ required_of (take (e - a) (drop a s))) (f' : PairsAsked (take (e - a) (drop a s)) p) where
-        it : GuessIs s at b m a e
-        it = guess_is s at x g b m a e q
+      module _ (spans : GuessAt) (q : x ≡ Some spans) (k p : ℕ) (f : k ≡ required_of (take (spans.pattern.end - spans.pattern.start) (drop spans.pattern.start s))) (f' : PairsAsked (take (spans.pattern.end - spans.pattern.start) (drop spans.pattern.start s)) p) where
+        it : GuessIs s at spans.accept spans.mask spans.pattern.start spans.pattern.end
+        it = guess_is s at x g spans q
 
-        the : here.one ≡ guess b m (take (e - a) (drop a s))
+        the : here.one ≡ guess spans.accept spans.mask (take (spans.pattern.end - spans.pattern.start) (drop spans.pattern.start s))
         the = let o = sym here.here ∙ it.reads in cc
 
-        behind_it : here.behind ≡ drop e s
+        behind_it : here.behind ≡ drop spans.pattern.end s
         behind_it = let o = sym here.here ∙ it.reads in cc
 
         small : i < 4096
@@ -281,7 +275,7 @@ module _ {s : List ℕ} {place count : ℕ} {table₀ table : List (List ℕ)} {
             noted_narrows s noted i at here.one here.behind here.here (there 0 (omega arith) ∙ f ∙ ap (λ (y : Guess). required_of y.pattern) (sym the))
             (rw (there 1 (omega arith), the) f') (there 2 (omega arith)) name n
 
-        turned : Noting s place count table₀ noted (i + 1) e
+        turned : Noting s place count table₀ noted (i + 1) spans.pattern.end
         unfolding noted narrowed_by_first narrowed_by_all
         turned = record {
           counted = w.counted;
@@ -298,9 +292,9 @@ module _ {s : List ℕ} {place count : ℕ} {table₀ table : List (List ℕ)} {
               ∙ sym (narrows name (narrowed_by_first s noted name i n)) ∙ ap (λ (c : ℕ). narrowed_by_first s noted name c n) (sym (add-one i)));
         }
 
-        pub noting_turn : {t : List (List ℕ)} → t ≡ put_all table required_row i (k ∷ p ∷ at ∷ []) → Noting s place count table₀ t (i + 1) e
+        pub noting_turn : {t : List (List ℕ)} → t ≡ put_all table required_row i (k ∷ p ∷ at ∷ []) → Noting s place count table₀ t (i + 1) spans.pattern.end
         unfolding noted
-        noting_turn u = subst (λ (y : List (List ℕ)). Noting s place count table₀ y (i + 1) e) (sym u) turned
+        noting_turn u = subst (λ (y : List (List ℕ)). Noting s place count table₀ y (i + 1) spans.pattern.end) (sym u) turned
 
 pub ruleset asked_laws = (asked_all, asked_none, rules)
 

@@ -287,10 +287,6 @@ sets_below : {A : Type 0} (vs l : List A) (i k : ℕ) (d : A) → k < i → get_
 sets_below [] l i k d h = refl
 sets_below (a ∷ vs) l i k d h = sets_below vs (set l i a) (suc i) k d (omega arith) ∙ get_or-set_other l i k a d (λ e. omega arith)
 
-sets_above : {A : Type 0} (vs l : List A) (i k : ℕ) (d : A) → i + length vs ≤ k → get_or (sets l i vs) k d ≡ get_or l k d
-sets_above [] l i k d h = refl
-sets_above (a ∷ vs) l i k d h = sets_above vs (set l i a) (suc i) k d (omega arith) ∙ get_or-set_other l i k a d (λ e. omega arith)
-
 sets_map : {A B : Type 0} (f : A → B) (xs : List A) (l : List B) (i j k : ℕ) (x : A) (d : B) → j ≡ i + k → k < length xs → i + length xs ≤ length l → get_or (sets l i (map f xs)) j d ≡ f (get_or xs k x)
 sets_map f [] l i j k x d e h r = let no_way : ⊥ = omega arith in absurd no_way
 sets_map f (a ∷ xs) l i j zero x d e h r =

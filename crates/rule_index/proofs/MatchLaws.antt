@@ -1,4 +1,8 @@
 -- The first rule that matches at a place of a word: the loop over the rules to try, and what its answer tells. Assumes nothing.
+use Rattle.rule_index.specs.Places.{matched}
+use Rattle.rule_index.specs.declared.matching.Matched.{Matched}
+use Rattle.pack.specs.declared.rules.RuleAt.{RuleAt}
+use Rattle.std.specs.Prelude.{Option, Some, None}
 use borrow.Author.Rules.{rules}
 use mathlib.Core.Path.{◌≡◌, refl, sym, ap, ap₂, subst, ◌∙◌}
 use mathlib.Core.Bool.{Bool, true, false}
@@ -24,8 +28,6 @@ use Rattle.strings.specs.InnerContracts.{behind, ByteIs}
 use Rattle.texts.specs.Parts.{first_byte, last_byte}
 use Rattle.texts.specs.Signatures.{bit_of, has_bits}
 use Rattle.base.proofs.Stores.{rest_is}
-use Rattle.pack.specs.declared.rules.RuleAt.{RuleAt}
-use Rattle.pack.specs.declared.rules.RuleAt.TheVariants as rules
 use Rattle.strings.proofs.Readers.{place_drop}
 use Rattle.pack.proofs.RuleLaws.{RuleIs, rule_is, rule_cut, pattern_order, pattern_fits, left_order, left_fits, right_order, right_fits}
 use Rattle.pack.proofs.Laws.{short_expression}
@@ -37,8 +39,6 @@ use specs.InnerContracts.{rules_between, lead_of, rule_in, rule_of, tried_by, tr
 use Rattle.rule_index.proofs.RowLaws.{or_else, first_append}
 use specs.declared
 use declared.numbers.Front.{Front}
-use declared.matching.Matched.{Matched}
-use declared.matching.Matched.TheVariants.{By, Nothing}
 
 -- ---- the rules between two places, from the front
 
@@ -74,31 +74,31 @@ pub finding_start : (s word : List ℕ) (place start stop : ℕ) → ((i : ℕ) 
 finding_start s word place start stop b h = record { bytes = b; here = h; fuel = stop; enough = omega arith; is = refl }
 
 -- what the first of two lists has goes before
-found_first : (s word : List ℕ) (place : ℕ) (m n : Match) (step start end : ℕ) → MatchIs s word place m (By step start end) → MatchIs s word place (or_else m n) (By step start end)
+found_first : (s word : List ℕ) (place : ℕ) (m n : Match) (found : Matched) → MatchIs s word place m (Some found) → MatchIs s word place (or_else m n) (Some found)
 unfolding MatchIs or_else
-found_first s word place none n step start end v = absurd v
-found_first s word place (by r) n step start end v = v
+found_first s word place none n found v = absurd v
+found_first s word place (by r) n found v = v
 
-missed_first : (s word : List ℕ) (place : ℕ) (m n : Match) → MatchIs s word place m Nothing → or_else m n ≡ n
+missed_first : (s word : List ℕ) (place : ℕ) (m n : Match) → MatchIs s word place m None → or_else m n ≡ n
 unfolding MatchIs or_else
 missed_first s word place none n v = refl
 missed_first s word place (by r) n v = absurd v
 
 -- none is left to try
-nothing_left : (s word : List ℕ) (place : ℕ) (l : List Rule) → l ≡ [] → MatchIs s word place (first_match l word place) Nothing
+nothing_left : (s word : List ℕ) (place : ℕ) (l : List Rule) → l ≡ [] → MatchIs s word place (first_match l word place) None
 unfolding first_match MatchIs
-nothing_left s word place l e = subst (λ (l : List Rule). MatchIs s word place (first_match l word place) Nothing) (sym e) tt
+nothing_left s word place l e = subst (λ (l : List Rule). MatchIs s word place (first_match l word place) None) (sym e) tt
 
 -- the rule at a place, tried
-module _ (s : List ℕ) (at : ℕ) (x : RuleAt) (o : x ≡ rule_stands_at s at) (a b c d e f g h : ℕ) (q : x ≡ rules.At a b c d e f g h) where
-  rule_here : RuleIs s at a b c d e f g h
-  rule_here = rule_is s at x o a b c d e f g h q
+module _ (s : List ℕ) (at : ℕ) (x : Option RuleAt) (o : x ≡ rule_stands_at s at) (spans : RuleAt) (q : x ≡ Some spans) where
+  rule_here : RuleIs s at spans.pattern.start spans.pattern.end spans.left.start spans.left.end spans.right.start spans.right.end spans.expression.start spans.expression.end
+  rule_here = rule_is s at x o spans q
 
-  rule_forward : at < h
+  rule_forward : at < spans.expression.end
   rule_forward =
       let v = rule_here in omega arith
 
-  module _ (word : List ℕ) (place : ℕ) (t : Bool) (k : t ≡ rule_matches (take (b - a) (drop a s)) (take (d - c) (drop c s)) (take (f - e) (drop e s)) word place) where
+  module _ (word : List ℕ) (place : ℕ) (t : Bool) (k : t ≡ rule_matches (take (spans.pattern.end - spans.pattern.start) (drop spans.pattern.start s)) (take (spans.left.end - spans.left.start) (drop spans.left.start s)) (take (spans.right.end - spans.right.start) (drop spans.right.start s)) word place) where
     test : t ≡ rule_matches rule_here.value.pattern rule_here.value.left rule_here.value.right word place
     test = k ∙ (λ i. rule_matches (rule_here.pattern i) (rule_here.left i) (rule_here.right i) word place)
 
@@ -106,78 +106,78 @@ module _ (s : List ℕ) (at : ℕ) (x : RuleAt) (o : x ≡ rule_stands_at s at) 
     unfolding first_match
     tested rs = ap (λ (u : Bool). pick u (by rule_here.value) (first_match rs word place)) (sym test)
 
-    rule_told_lem : ((i : ℕ) → Fits w8 (get_or s i 0)) → place < length word → (step : ℕ) → t ≡ true → step ≡ max 1 (b - a) → MatchIs s word place (by rule_here.value) (By step g h)
+    rule_told_lem : ((i : ℕ) → Fits w8 (get_or s i 0)) → place < length word → (step : ℕ) → t ≡ true → step ≡ max 1 (spans.pattern.end - spans.pattern.start) → MatchIs s word place (by rule_here.value) (Some (matched step spans.expression))
     unfolding MatchIs
     rule_told_lem bytes here step z y =
         let v = rule_here in
-        let size : b - a ≡ length v.value.pattern = omega (arith, ap length v.pattern, length-take (b - a) (drop a s), length-drop a s, pattern_fits s at x o a b c d e f g h q) in
+        let size : spans.pattern.end - spans.pattern.start ≡ length v.value.pattern = omega (arith, ap length v.pattern, length-take (spans.pattern.end - spans.pattern.start) (drop spans.pattern.start s), length-drop spans.pattern.start s, pattern_fits s at x o spans q) in
         record {
           passes = omega arith;
           within = omega (arith, match_end _ _ _ word place t test z);
           order = v.seven;
           fits = v.fits;
           expression = v.expression;
-          short = omega (arith, short_expression s at v.value _ (λ i. omega (arith, bytes i)) v.reads, ap length v.expression, length-take (h - g) (drop g s), length-drop g s);
+          short = omega (arith, short_expression s at v.value _ (λ i. omega (arith, bytes i)) v.reads, ap length v.expression, length-take (spans.expression.end - spans.expression.start) (drop spans.expression.start s), length-drop spans.expression.start s);
         }
 
-    rule_found : ((i : ℕ) → Fits w8 (get_or s i 0)) → place < length word → (rs : List Rule) (step : ℕ) → t ≡ true → step ≡ max 1 (b - a) → MatchIs s word place (first_match (rule_here.value ∷ rs) word place) (By step g h)
-    rule_found bytes here rs step z y = subst (λ (m : Match). MatchIs s word place m (By step g h)) (sym (tested rs ∙ pick_true _ _ _ z)) (rule_told_lem bytes here step z y)
+    rule_found : ((i : ℕ) → Fits w8 (get_or s i 0)) → place < length word → (rs : List Rule) (step : ℕ) → t ≡ true → step ≡ max 1 (spans.pattern.end - spans.pattern.start) → MatchIs s word place (first_match (rule_here.value ∷ rs) word place) (Some (matched step spans.expression))
+    rule_found bytes here rs step z y = subst (λ (m : Match). MatchIs s word place m (Some (matched step spans.expression))) (sym (tested rs ∙ pick_true _ _ _ z)) (rule_told_lem bytes here step z y)
 
 module _ {s word : List ℕ} {place at stop : ℕ} {m : Match} (w : Finding s word place m at stop) where
-  pub finding_done : stop ≤ at → MatchIs s word place m Nothing
+  pub finding_done : stop ≤ at → MatchIs s word place m None
   finding_done h = rw w.is (nothing_left s word place _ (between_done _ _ _ _ h))
 
-  module _ (x : RuleAt) (o : x ≡ rule_stands_at s at) where
-    pub finding_cut : x ≡ rules.Cut → MatchIs s word place m Nothing
+  module _ (x : Option RuleAt) (o : x ≡ rule_stands_at s at) where
+    pub finding_cut : x ≡ None → MatchIs s word place m None
     finding_cut q = rw w.is (nothing_left s word place _ (between_cut _ _ _ _ (rule_cut s at x o q)))
 
-    module _ (a b c d e f g h : ℕ) (q : x ≡ rules.At a b c d e f g h) where
-      finding_forward : at < h
-      finding_forward = rule_forward s at x o a b c d e f g h q
+    module _ (spans : RuleAt) (q : x ≡ Some spans) where
+      finding_forward : at < spans.expression.end
+      finding_forward = rule_forward s at x o spans q
 
-      pub finding_less : at < stop → stop - h < stop - at
+      pub finding_less : at < stop → stop - spans.expression.end < stop - at
       finding_less n = omega (arith, finding_forward)
 
       module _ (n : at < stop) (t : Bool)
-          (k : t ≡ rule_matches (take (b - a) (drop a s)) (take (d - c) (drop c s)) (take (f - e) (drop e s)) word place) where
-        in_front : m ≡ first_match ((rule_here s at x o a b c d e f g h q).value ∷ rules_between (w.fuel - 1) s h stop) word place
+          (k : t ≡ rule_matches (take (spans.pattern.end - spans.pattern.start) (drop spans.pattern.start s)) (take (spans.left.end - spans.left.start) (drop spans.left.start s)) (take (spans.right.end - spans.right.start) (drop spans.right.start s)) word place) where
+        in_front : m ≡ first_match ((rule_here s at x o spans q).value ∷ rules_between (w.fuel - 1) s spans.expression.end stop) word place
         in_front =
-            let v = rule_here s at x o a b c d e f g h q in
-            w.is ∙ ap (λ (l : List Rule). first_match l word place) (between_one _ s at stop h _ n w.enough v.fits v.reads)
+            let v = rule_here s at x o spans q in
+            w.is ∙ ap (λ (l : List Rule). first_match l word place) (between_one _ s at stop spans.expression.end _ n w.enough v.fits v.reads)
 
-        pub finding_next : t ≡ false → Finding s word place m h stop
+        pub finding_next : t ≡ false → Finding s word place m spans.expression.end stop
         finding_next z = record {
           bytes = w.bytes;
           here = w.here;
           fuel = w.fuel - 1;
           enough = omega (arith, finding_forward);
-          is = in_front ∙ tested s at x o a b c d e f g h q word place t k (rules_between (w.fuel - 1) s h stop) ∙ pick_false _ _ _ z;
+          is = in_front ∙ tested s at x o spans q word place t k (rules_between (w.fuel - 1) s spans.expression.end stop) ∙ pick_false _ _ _ z;
         }
 
-        pub finding_found : (step : ℕ) → t ≡ true → step ≡ max 1 (b - a) → MatchIs s word place m (By step g h)
-        finding_found step z y = rw in_front (rule_found s at x o a b c d e f g h q word place t k w.bytes w.here _ step z y)
+        pub finding_found : (step : ℕ) → t ≡ true → step ≡ max 1 (spans.pattern.end - spans.pattern.start) → MatchIs s word place m (Some (matched step spans.expression))
+        finding_found step z y = rw in_front (rule_found s at x o spans q word place t k w.bytes w.here _ step z y)
 
 pub ruleset finding_laws = (finding_start, finding_done, finding_cut, finding_less, finding_next, finding_found, pattern_order, pattern_fits, left_order, left_fits, right_order, right_fits, rules)
 
 -- ---- one rule, by its place and by its number
 
-module _ (s : List ℕ) (bytes : (i : ℕ) → Fits w8 (get_or s i 0)) (word : List ℕ) (place at : ℕ) (x : RuleAt) (o : x ≡ rule_stands_at s at) where
-  pub one_cut : x ≡ rules.Cut → MatchIs s word place (first_match (rule_in (read_rule (drop at s))) word place) Nothing
+module _ (s : List ℕ) (bytes : (i : ℕ) → Fits w8 (get_or s i 0)) (word : List ℕ) (place at : ℕ) (x : Option RuleAt) (o : x ≡ rule_stands_at s at) where
+  pub one_cut : x ≡ None → MatchIs s word place (first_match (rule_in (read_rule (drop at s))) word place) None
   unfolding rule_in
   one_cut q = nothing_left s word place _ (ap rule_in (rule_cut s at x o q))
 
-  module _ (a b c d e f g h : ℕ) (q : x ≡ rules.At a b c d e f g h) (t : Bool)
-      (k : t ≡ rule_matches (take (b - a) (drop a s)) (take (d - c) (drop c s)) (take (f - e) (drop e s)) word place) where
-    one_is : rule_in (read_rule (drop at s)) ≡ (rule_here s at x o a b c d e f g h q).value ∷ []
+  module _ (spans : RuleAt) (q : x ≡ Some spans) (t : Bool)
+      (k : t ≡ rule_matches (take (spans.pattern.end - spans.pattern.start) (drop spans.pattern.start s)) (take (spans.left.end - spans.left.start) (drop spans.left.start s)) (take (spans.right.end - spans.right.start) (drop spans.right.start s)) word place) where
+    one_is : rule_in (read_rule (drop at s)) ≡ (rule_here s at x o spans q).value ∷ []
     unfolding rule_in
-    one_is = ap rule_in (rule_here s at x o a b c d e f g h q).reads
+    one_is = ap rule_in (rule_here s at x o spans q).reads
 
-    pub one_missed : t ≡ false → MatchIs s word place (first_match (rule_in (read_rule (drop at s))) word place) Nothing
+    pub one_missed : t ≡ false → MatchIs s word place (first_match (rule_in (read_rule (drop at s))) word place) None
     unfolding first_match MatchIs
-    one_missed z = rw (one_is, tested s at x o a b c d e f g h q word place t k [], pick_false t (by (rule_here s at x o a b c d e f g h q).value) none z) tt
+    one_missed z = rw (one_is, tested s at x o spans q word place t k [], pick_false t (by (rule_here s at x o spans q).value) none z) tt
 
-    pub one_found : place < length word → (step : ℕ) → t ≡ true → step ≡ max 1 (b - a) → MatchIs s word place (first_match (rule_in (read_rule (drop at s))) word place) (By step g h)
-    one_found here step z y = rw one_is (rule_found s at x o a b c d e f g h q word place t k bytes here [] step z y)
+    pub one_found : place < length word → (step : ℕ) → t ≡ true → step ≡ max 1 (spans.pattern.end - spans.pattern.start) → MatchIs s word place (first_match (rule_in (read_rule (drop at s))) word place) (Some (matched step spans.expression))
+    one_found here step z y = rw one_is (rule_found s at x o spans q word place t k bytes here [] step z y)
 
 pub ruleset one_laws = (one_cut, one_missed, one_found, pattern_order, pattern_fits, left_order, left_fits, right_order, right_fits, rules)
 
@@ -186,11 +186,11 @@ module _ (s : List ℕ) (table : List (List ℕ)) (number : ℕ) (word : List �
   tried : tried_at table number word place ≡ z
   tried = sym (rw (w.one, w.two, w.before, w.behind) at ez)
 
-  pub number_over : z ≡ false → MatchIs s word place (first_match (rule_of s table word place number) word place) Nothing
+  pub number_over : z ≡ false → MatchIs s word place (first_match (rule_of s table word place number) word place) None
   unfolding rule_of
   number_over e = nothing_left s word place _ (pick_false _ _ _ (tried ∙ e))
 
-  pub number_tried : (at : ℕ) (r : Matched) → z ≡ true → at ≡ noted_at table places_row number
+  pub number_tried : (at : ℕ) (r : Option Matched) → z ≡ true → at ≡ noted_at table places_row number
       → MatchIs s word place (first_match (rule_in (read_rule (drop at s))) word place) r → MatchIs s word place (first_match (rule_of s table word place number) word place) r
   unfolding rule_of
   number_tried at r e f v = rw (pick_true _ (rule_in (read_rule (drop (noted_at table places_row number) s))) [] (tried ∙ e), ← f) v
@@ -244,13 +244,13 @@ pub left_numbers_start : (s : List ℕ) (table : List (List ℕ)) (word : List �
 left_numbers_start s table word place start stop = record { is = refl }
 
 module _ {s : List ℕ} {table : List (List ℕ)} {word : List ℕ} {place : ℕ} {m : Match} {number stop : ℕ} (w : NumbersLeft s table word place m number stop) where
-  pub left_numbers_done : stop ≤ number → MatchIs s word place m Nothing
+  pub left_numbers_done : stop ≤ number → MatchIs s word place m None
   unfolding numbered
   left_numbers_done h =
       let none_more : stop - number ≡ 0 = omega arith in
       rw w.is (nothing_left s word place _ (ap (numbered s table word place number) none_more))
 
-  module _ (h : number < stop) (r : Matched) (v : MatchIs s word place (first_match (rule_of s table word place number) word place) r) where
+  module _ (h : number < stop) (r : Option Matched) (v : MatchIs s word place (first_match (rule_of s table word place number) word place) r) where
     one_more_lem : m ≡ or_else (first_match (rule_of s table word place number) word place) (first_match (numbered s table word place (number + 1) (stop - (number + 1))) word place)
     unfolding numbered
     one_more_lem =
@@ -259,17 +259,17 @@ module _ {s : List ℕ} {table : List (List ℕ)} {word : List ℕ} {place : ℕ
         ∙ first_append (rule_of s table word place number) _ word place
         ∙ rw add-one refl
 
-    pub left_numbers_found : (step start end : ℕ) → r ≡ By step start end → MatchIs s word place m (By step start end)
-    left_numbers_found step start end e = rw one_more_lem (found_first s word place _ _ step start end (rw e at v))
+    pub left_numbers_found : (found : Matched) → r ≡ Some found → MatchIs s word place m (Some found)
+    left_numbers_found found e = rw one_more_lem (found_first s word place _ _ found (rw e at v))
 
-    pub left_numbers_next : r ≡ Nothing → NumbersLeft s table word place m (number + 1) stop
+    pub left_numbers_next : r ≡ None → NumbersLeft s table word place m (number + 1) stop
     left_numbers_next e = record { is = one_more_lem ∙ missed_first s word place _ _ (rw e at v) }
 
 pub ruleset left_numbers_laws = (left_numbers_start, left_numbers_done, left_numbers_found, left_numbers_next, rules)
 
 -- ---- the look-up
 
-module _ (s : List ℕ) (table : List (List ℕ)) (start stop : ℕ) (word : List ℕ) (place : ℕ) (r : Matched) where
+module _ (s : List ℕ) (table : List (List ℕ)) (start stop : ℕ) (word : List ℕ) (place : ℕ) (r : Option Matched) where
   pub found_placed : NUMBERS < stop → (from to : ℕ) → from ≡ start - NUMBERS → to ≡ stop - NUMBERS
       → MatchIs s word place (first_match (rules_between to s from to) word place) r → MatchIs s word place (found_in s table start stop word place) r
   unfolding found_in
@@ -283,19 +283,19 @@ module _ (s : List ℕ) (table : List (List ℕ)) (start stop : ℕ) (word : Lis
 pub ruleset found_laws = (found_placed, found_numbered, rules)
 
 module _ (s : List ℕ) (table : List (List ℕ)) (list : ℕ) (word : List ℕ) (place : ℕ) where
-  no_match : matcher s table list word place ≡ none → MatchIs s word place (matcher s table list word place) Nothing
+  no_match : matcher s table list word place ≡ none → MatchIs s word place (matcher s table list word place) None
   unfolding MatchIs
-  no_match e = subst (λ (m : Match). MatchIs s word place m Nothing) (sym e) tt
+  no_match e = subst (λ (m : Match). MatchIs s word place m None) (sym e) tt
 
-  pub unlisted : 98 ≤ list → MatchIs s word place (matcher s table list word place) Nothing
+  pub unlisted : 98 ≤ list → MatchIs s word place (matcher s table list word place) None
   unfolding matcher
   unlisted h = no_match (pick_false _ _ _ (and_first _ _ (le-ltb _ _ h)))
 
-  pub unplaced : list < 98 → length word ≤ place → MatchIs s word place (matcher s table list word place) Nothing
+  pub unplaced : list < 98 → length word ≤ place → MatchIs s word place (matcher s table list word place) None
   unfolding matcher
   unplaced h k = no_match (pick_false _ _ _ (and_second _ _ (lt-ltb _ _ h) (le-ltb _ _ k)))
 
-  pub looked_up : (r : Matched) (b : ℕ) → list < 98 → place < length word → b ≡ get_or word place 0
+  pub looked_up : (r : Option Matched) (b : ℕ) → list < 98 → place < length word → b ≡ get_or word place 0
       → MatchIs s word place (found_in s table (get_or (get_or table list []) (b % 64) 0) (get_or (get_or table list []) (b % 64 + 64) 0) word place) r
       → MatchIs s word place (matcher s table list word place) r
   unfolding matcher
@@ -311,29 +311,29 @@ pub record Matching (s word : List ℕ) (place : ℕ) (m : Match) (step start en
   pub is : m ≡ by value
   pub placed : RuleIn s word place value step start end
 
-matched_at : (s word : List ℕ) (place : ℕ) (m : Match) (step start end : ℕ) → MatchIs s word place m (By step start end) → Matching s word place m step start end
+matched_at : (s word : List ℕ) (place : ℕ) (m : Match) (found : Matched) → MatchIs s word place m (Some found) → Matching s word place m found.step found.expression.start found.expression.end
 unfolding MatchIs
-matched_at s word place none step start end x = absurd x
-matched_at s word place (by r) step start end x = record { value = r; is = refl; placed = x }
+matched_at s word place none found x = absurd x
+matched_at s word place (by r) found x = record { value = r; is = refl; placed = x }
 
-unmatched_at : (s word : List ℕ) (place : ℕ) (m : Match) → MatchIs s word place m Nothing → m ≡ none
+unmatched_at : (s word : List ℕ) (place : ℕ) (m : Match) → MatchIs s word place m None → m ≡ none
 unfolding MatchIs
 unmatched_at s word place none x = refl
 unmatched_at s word place (by r) x = absurd x
 
-module _ (s word : List ℕ) (place : ℕ) (m : Match) (r : Matched) (e : MatchIs s word place m r) where
-  pub match_by : (step start end : ℕ) → r ≡ By step start end → Matching s word place m step start end
-  match_by step start end q = matched_at s word place m step start end (subst (MatchIs s word place m) q e)
+module _ (s word : List ℕ) (place : ℕ) (m : Match) (r : Option Matched) (e : MatchIs s word place m r) where
+  pub match_by : (found : Matched) → r ≡ Some found → Matching s word place m found.step found.expression.start found.expression.end
+  match_by found q = matched_at s word place m found (subst (MatchIs s word place m) q e)
 
-  pub match_none : r ≡ Nothing → m ≡ none
+  pub match_none : r ≡ None → m ≡ none
   match_none q = unmatched_at s word place m (subst (MatchIs s word place m) q e)
 
 -- the promise of `first_match` allows one answer, but for where an expression stands that stands twice
-pub match_one : (s word : List ℕ) (place : ℕ) (m : Match) (r r' : Matched) → MatchIs s word place m r → MatchIs s word place m r' → seen_in s r ≡ seen_in s r'
+pub match_one : (s word : List ℕ) (place : ℕ) (m : Match) (r r' : Option Matched) → MatchIs s word place m r → MatchIs s word place m r' → seen_in s r ≡ seen_in s r'
 unfolding MatchIs seen_in
-match_one s word place none Nothing Nothing x y = refl
-match_one s word place none Nothing (By a b c) x y = absurd y
-match_one s word place none (By a b c) r x y = absurd x
-match_one s word place (by v) Nothing r x y = absurd x
-match_one s word place (by v) (By a b c) Nothing x y = absurd y
-match_one s word place (by v) (By a b c) (By d e f) x y = ap₂ seen (x.passes ∙ sym y.passes) (x.expression ∙ sym y.expression)
+match_one s word place none None None x y = refl
+match_one s word place none None (Some found) x y = absurd y
+match_one s word place none (Some found) r x y = absurd x
+match_one s word place (by v) None r x y = absurd x
+match_one s word place (by v) (Some found) None x y = absurd y
+match_one s word place (by v) (Some found) (Some again) x y = ap₂ seen (x.passes ∙ sym y.passes) (x.expression ∙ sym y.expression)

@@ -1,5 +1,7 @@
 -- A row of the table: noting a rule, and the loops over a list. A rule whose pattern begins with a byte of another kind than the word's never
 -- matches, so the rules from the first to the last of a kind are enough; nor does one whose marks tell so. Assumes nothing.
+use Rattle.pack.specs.declared.rules.RuleAt.{RuleAt}
+use Rattle.std.specs.Prelude.{Option, Some, None}
 use borrow.Author.Rules.{rules}
 use mathlib.Core.Path.{◌≡◌, refl, sym, ap, ap₂, subst, ◌∙◌}
 use mathlib.Core.Bool.{Bool, true, false}
@@ -26,8 +28,6 @@ use Rattle.pack.specs.Packs.{read_rule, strings_length}
 use Rattle.rule_lines.specs.Rules.{Rule}
 use Rattle.pack.specs.PlaceContracts.{rule_stands_at, rule_count, list_at, NUMBERS, noted_in, placed_in, row_from, row_at}
 use Rattle.strings.specs.InnerContracts.{ByteIs, behind}
-use Rattle.pack.specs.declared.rules.RuleAt.{RuleAt}
-use Rattle.pack.specs.declared.rules.RuleAt.TheVariants as rules
 use Rattle.strings.proofs.Readers.{place_drop}
 use Rattle.pack.proofs.RuleLaws.{RuleIs, rule_is, pattern_order, pattern_fits, left_order, left_fits, right_order, right_fits, row_next}
 use Rattle.pack.proofs.Laws.{RulesAt, one_rule, ListIs, good_rule, held_by, held_whole, list_held, list_told}
@@ -393,53 +393,53 @@ none_left (x ∷ l) h = let no_way : ⊥ = omega arith in absurd no_way
 midway_done : {s : List ℕ} {whole before : List Rule} {at left : ℕ} → Midway s whole before at left → left ≤ 0 → before ≡ whole
 midway_done {before = before} w h = sym (ap (λ (l : List Rule). before ++ l) (none_left w.rest (omega (arith, w.counted))) ∙ append-nil before) ∙ w.are
 
-module _ {s : List ℕ} {whole before : List Rule} {at left : ℕ} (w : Midway s whole before at left) (h : 0 < left) (x : RuleAt) (o : x ≡ rule_stands_at s at) where
+module _ {s : List ℕ} {whole before : List Rule} {at left : ℕ} (w : Midway s whole before at left) (h : 0 < left) (x : Option RuleAt) (o : x ≡ rule_stands_at s at) where
   here : Next s w.names at left w.rest
   here = next_by s w.names at left w.rest w.counted h w.held
 
-  cut_by : Next s w.names at left w.rest → x ≡ rules.Cut → ⊥
+  cut_by : Next s w.names at left w.rest → x ≡ None → ⊥
   cut_by (next r rs n l) q = held_whole s w.names at r rs x l o q
 
   -- none is cut
-  midway_cut : x ≡ rules.Cut → ⊥
+  midway_cut : x ≡ None → ⊥
   midway_cut = cut_by here
 
-  module _ (pattern b c d e f g end : ℕ) (q : x ≡ rules.At pattern b c d e f g end) where
-    rule_here : RuleIs s at pattern b c d e f g end
-    rule_here = rule_is s at x o pattern b c d e f g end q
+  module _ (spans : RuleAt) (q : x ≡ Some spans) where
+    rule_here : RuleIs s at spans.pattern.start spans.pattern.end spans.left.start spans.left.end spans.right.start spans.right.end spans.expression.start spans.expression.end
+    rule_here = rule_is s at x o spans q
 
-    some_by : Next s w.names at left w.rest → 0 < length (take (b - pattern) (drop pattern s))
+    some_by : Next s w.names at left w.rest → 0 < length (take (spans.pattern.end - spans.pattern.start) (drop spans.pattern.start s))
     some_by (next r rs n l) =
-        let k = held_by s w.names at pattern b c d e f g end r rs (sym q ∙ o) l in
+        let k = held_by s w.names at spans r rs (sym q ∙ o) l in
         rw k.pattern (good_rule w.names r k.good).pattern_some
 
-    some_bytes : 0 < length (take (b - pattern) (drop pattern s))
+    some_bytes : 0 < length (take (spans.pattern.end - spans.pattern.start) (drop spans.pattern.start s))
     some_bytes = some_by here
 
     some_pattern : 0 < length rule_here.value.pattern
     some_pattern = rw (← rule_here.pattern) some_bytes
 
-    first_byte_lem : get_or rule_here.value.pattern 0 0 ≡ get_or s pattern 0
+    first_byte_lem : get_or rule_here.value.pattern 0 0 ≡ get_or s spans.pattern.start 0
     first_byte_lem =
         sym (ap (λ (l : List ℕ). get_or l 0 0) rule_here.pattern)
-        ∙ get_or-take (b - pattern) (drop pattern s) 0 0 (omega (arith, some_bytes, length-take (b - pattern) (drop pattern s)))
-        ∙ get_or-drop pattern s 0 0 ∙ ap (λ (n : ℕ). get_or s n 0) (add-zero pattern)
+        ∙ get_or-take (spans.pattern.end - spans.pattern.start) (drop spans.pattern.start s) 0 0 (omega (arith, some_bytes, length-take (spans.pattern.end - spans.pattern.start) (drop spans.pattern.start s)))
+        ∙ get_or-drop spans.pattern.start s 0 0 ∙ ap (λ (n : ℕ). get_or s n 0) (add-zero spans.pattern.start)
 
-    forward : at < end
+    forward : at < spans.expression.end
     forward = omega (arith, rule_here.begins, rule_here.one, rule_here.two, rule_here.three, rule_here.four, rule_here.five, rule_here.six, rule_here.seven)
 
-    next_by_rule : Next s w.names at left w.rest → Midway s whole (before ++ rule_here.value ∷ []) end (left - 1)
+    next_by_rule : Next s w.names at left w.rest → Midway s whole (before ++ rule_here.value ∷ []) spans.expression.end (left - 1)
     next_by_rule (next r rs n l) =
-        let same : rule_here.value ≡ r = held_reads s w.names at pattern b c d e f g end r rs rule_here l in
+        let same : rule_here.value ≡ r = held_reads s w.names at spans.pattern.start spans.pattern.end spans.left.start spans.left.end spans.right.start spans.right.end spans.expression.start spans.expression.end r rs rule_here l in
         record {
           rest = rs;
           are = append_assoc before (rule_here.value ∷ []) rs ∙ ap (λ (v : Rule). before ++ v ∷ rs) same ∙ ap (λ (l : List Rule). before ++ l) (sym n) ∙ w.are;
           names = w.names;
-          held = (held_by s w.names at pattern b c d e f g end r rs (sym q ∙ o) l).rest;
+          held = (held_by s w.names at spans r rs (sym q ∙ o) l).rest;
           counted = omega (arith, ap length n, w.counted);
         }
 
-    midway_next : Midway s whole (before ++ rule_here.value ∷ []) end (left - 1)
+    midway_next : Midway s whole (before ++ rule_here.value ∷ []) spans.expression.end (left - 1)
     midway_next = next_by_rule here
 
 -- ---- by places
@@ -467,36 +467,36 @@ module _ {s row : List ℕ} {whole : List Rule} {at left : ℕ} (w : Placing s w
         ∙ ap (λ (l : List Rule). first_match l word place) (midway_done w.midway h);
   }
 
-  module _ (h : 0 < left) (x : RuleAt) (o : x ≡ rule_stands_at s at) (pattern b c d e f g end : ℕ) (q : x ≡ rules.At pattern b c d e f g end) where
-    placing_turn : Placing s whole (placed_in s row at end) end (left - 1)
+  module _ (h : 0 < left) (x : Option RuleAt) (o : x ≡ rule_stands_at s at) (spans : RuleAt) (q : x ≡ Some spans) where
+    placing_turn : Placing s whole (placed_in s row at spans.expression.end) spans.expression.end (left - 1)
     placing_turn =
-        let v = rule_here w.midway h x o pattern b c d e f g end q in
-        let ahead = forward w.midway h x o pattern b c d e f g end q in
+        let v = rule_here w.midway h x o spans q in
+        let ahead = forward w.midway h x o spans q in
         let kind : ℕ = get_or s (at + 1) 0 % 64 in
         let room : kind + 64 < length row = omega (arith, w.long) in
         let byte : kind ≡ get_or v.value.pattern 0 0 % 64 =
-        ap (λ (m : ℕ). m % 64) (ap (λ (m : ℕ). get_or s m 0) (sym v.begins) ∙ sym (first_byte_lem w.midway h x o pattern b c d e f g end q)) in
+        ap (λ (m : ℕ). m % 64) (ap (λ (m : ℕ). get_or s m 0) (sym v.begins) ∙ sym (first_byte_lem w.midway h x o spans q)) in
         let here_at : NUMBERS + at - NUMBERS ≡ at = omega arith in
-        let there : NUMBERS + end - NUMBERS ≡ end = omega arith in
+        let there : NUMBERS + spans.expression.end - NUMBERS ≡ spans.expression.end = omega arith in
         record {
-          long = note_long row _ kind (NUMBERS + at) (NUMBERS + end) room refl ∙ w.long;
+          long = note_long row _ kind (NUMBERS + at) (NUMBERS + spans.expression.end) room refl ∙ w.long;
           before = _;
-          midway = midway_next w.midway h x o pattern b c d e f g end q;
-          notes = λ u. row_notes row _ kind (NUMBERS + at) (NUMBERS + end) room refl (placed_found s u)
+          midway = midway_next w.midway h x o spans q;
+          notes = λ u. row_notes row _ kind (NUMBERS + at) (NUMBERS + spans.expression.end) room refl (placed_found s u)
               (record { reads = rw (here_at, there) v.reads; forward = omega arith; low = omega arith; fits = rw there v.fits })
-              (λ n. omega arith) (some_pattern w.midway h x o pattern b c d e f g end q) byte (w.notes u);
+              (λ n. omega arith) (some_pattern w.midway h x o spans q) byte (w.notes u);
         }
 
 -- the rules that are left, each noted
 placing_rule : {s row : List ℕ} {whole : List Rule} {at : ℕ} (n : ℕ) → ((row' : List ℕ) (at' : ℕ) → Placing s whole row' at' n → RowPlaces s (row_from s n at' row') whole)
-    → Placing s whole row at (suc n) → (x : RuleAt) → x ≡ rule_stands_at s at → RowPlaces s (row_from s (suc n) at row) whole
-placing_rule n more w rules.Cut o = absurd (midway_cut w.midway (omega arith) _ o refl)
-placing_rule {s} {row} {whole} {at} n more w (rules.At a b c d e f g end) o =
+    → Placing s whole row at (suc n) → (x : Option RuleAt) → x ≡ rule_stands_at s at → RowPlaces s (row_from s (suc n) at row) whole
+placing_rule n more w None o = absurd (midway_cut w.midway (omega arith) _ o refl)
+placing_rule {s} {row} {whole} {at} n more w (Some spans) o =
     let some : 0 < suc n = omega arith in
-    let v = rule_here w.midway some _ o a b c d e f g end refl in
+    let v = rule_here w.midway some _ o spans refl in
     let m : suc n - 1 ≡ n = omega arith in
-    subst (λ (l : List ℕ). RowPlaces s l whole) (sym (row_next s (suc n) at end row v.value some v.reads v.fits ∙ ap (λ (k : ℕ). row_from s k end (placed_in s row at end)) m))
-    (more _ _ (subst (Placing s whole (placed_in s row at end) end) m (placing_turn w some _ o a b c d e f g end refl)))
+    subst (λ (l : List ℕ). RowPlaces s l whole) (sym (row_next s (suc n) at spans.expression.end row v.value some v.reads v.fits ∙ ap (λ (k : ℕ). row_from s k spans.expression.end (placed_in s row at spans.expression.end)) m))
+    (more _ _ (subst (Placing s whole (placed_in s row at spans.expression.end) spans.expression.end) m (placing_turn w some _ o spans refl)))
 
 placing_all : {s row : List ℕ} {whole : List Rule} {at : ℕ} (n : ℕ) → Placing s whole row at n → RowPlaces s (row_from s n at row) whole
 unfolding row_from
@@ -555,8 +555,8 @@ module _ {s : List ℕ} {t table : List (List ℕ)} {list place first at left nu
     few = omega (arith, w.room);
   }
 
-  module _ (h : 0 < left) (x : RuleAt) (o : x ≡ rule_stands_at s at) where
-    pub numbering_cut : x ≡ rules.Cut → ListIndexed s t table list place first number
+  module _ (h : 0 < left) (x : Option RuleAt) (o : x ≡ rule_stands_at s at) where
+    pub numbering_cut : x ≡ None → ListIndexed s t table list place first number
     numbering_cut q = absurd (midway_cut w.midway h x o q)
 
     pub numbering_free : number < NUMBERS
@@ -565,8 +565,8 @@ module _ {s : List ℕ} {t table : List (List ℕ)} {list place first at left nu
     pub numbering_row : list < rows
     numbering_row = omega (arith, w.row)
 
-    module _ (pattern b c d e f g end : ℕ) (q : x ≡ rules.At pattern b c d e f g end) where
-      module _ (byte : ℕ) (eb : ByteIs s pattern byte) {y : Marks} (my : MarksAre (take (b - pattern) (drop pattern s)) (take (d - c) (drop c s)) (take (f - e) (drop e s)) y)
+    module _ (spans : RuleAt) (q : x ≡ Some spans) where
+      module _ (byte : ℕ) (eb : ByteIs s spans.pattern.start byte) {y : Marks} (my : MarksAre (take (spans.pattern.end - spans.pattern.start) (drop spans.pattern.start s)) (take (spans.left.end - spans.left.start) (drop spans.left.start s)) (take (spans.right.end - spans.right.start) (drop spans.right.start s)) y)
           (t₁ : List (List ℕ)) (et : t₁ ≡ numbered_in table number at y) where
         roomy₁ : Roomy t₁
         roomy₁ = rw et (numbered_room w.roomy number numbering_free at y)
@@ -596,29 +596,29 @@ module _ {s : List ℕ} {t table : List (List ℕ)} {list place first at left nu
                 a.same number j (omega arith) l ∙ (agree₂ {n = number + 1}).same number j (omega arith) l
                 ∙ ap (λ (v : List (List ℕ)). noted_at v (places_row + 32 * j) number) et ∙ numbered_here w.roomy number numbering_free at y j l
 
-            turn_notes : RowNotes (NumberedAt s u) (found_in s u) (w.before ++ (rule_here w.midway h x o pattern b c d e f g end q).value ∷ []) (number + 1) (get_or (set t₁ list row') list [])
+            turn_notes : RowNotes (NumberedAt s u) (found_in s u) (w.before ++ (rule_here w.midway h x o spans q).value ∷ []) (number + 1) (get_or (set t₁ list row') list [])
             turn_notes =
-                let v = rule_here w.midway h x o pattern b c d e f g end q in
+                let v = rule_here w.midway h x o spans q in
                 rw (set_here roomy₁ list numbering_row row')
                 (row_notes (get_or t₁ list []) row' (byte % 64) number (number + 1) kind_fits er (numbered_found s u) {before = w.before} {r = v.value}
                 (record {
-                  rest = drop end s;
+                  rest = drop spans.expression.end s;
                   reads = rw (noted_here 0 (omega arith)) v.reads;
                   lead = noted_here 1 (omega arith) ∙ my.lead ∙ ap (λ (l : List ℕ). lead_of l) v.pattern;
                   before = noted_here 2 (omega arith) ∙ my.before ∙ ap left_bits v.left;
                   behind = noted_here 3 (omega arith) ∙ my.behind ∙ ap₂ behind_bits v.pattern v.right;
-                  some = some_pattern w.midway h x o pattern b c d e f g end q;
+                  some = some_pattern w.midway h x o spans q;
                   forward = omega arith;
                   few = numbering_free;
                 })
-                (λ n. omega arith) (some_pattern w.midway h x o pattern b c d e f g end q)
-                (ap (λ (m : ℕ). m % 64) (eb.is ∙ sym (first_byte_lem w.midway h x o pattern b c d e f g end q)))
+                (λ n. omega arith) (some_pattern w.midway h x o spans q)
+                (ap (λ (m : ℕ). m % 64) (eb.is ∙ sym (first_byte_lem w.midway h x o spans q)))
                 (rw (row₁ list w.row) (w.notes u (agree_then (omega arith) (agree_then (omega arith) agree₁ (agree₂ {n = number})) a))))
 
-          pub numbering_turn : Numbering s t list place first (set t₁ list row') end (left - 1) (number + 1)
-          numbering_turn = record {
-            before = w.before ++ (rule_here w.midway h x o pattern b c d e f g end q).value ∷ [];
-            midway = midway_next w.midway h x o pattern b c d e f g end q;
+          pub numbering_turn : (left' : ℕ) → left ≡ left' + 1 → Numbering s t list place first (set t₁ list row') spans.expression.end left' (number + 1)
+          numbering_turn left' turned = let fewer : left - 1 ≡ left' = omega arith in rw (← fewer) (record {
+            before = w.before ++ (rule_here w.midway h x o spans q).value ∷ [];
+            midway = midway_next w.midway h x o spans q;
             row = w.row;
             roomy = set_room roomy₁ list numbering_row row' long_row;
             others = λ k l n. get_or-set_other t₁ list k row' [] n ∙ row₁ k l ∙ w.others k l n;
@@ -627,6 +627,6 @@ module _ {s : List ℕ} {t table : List (List ℕ)} {list place first at left nu
             more = omega (arith, w.more);
             room = omega (arith, w.room);
             notes = turn_notes;
-          }
+          })
 
 pub ruleset numbering_laws = (numbering_within, numbering_start, numbering_done, numbering_cut, numbering_free, numbering_row, numbering_turn, pattern_order, pattern_fits, left_order, left_fits, right_order, right_fits, rules)

@@ -1,7 +1,8 @@
 -- The table by which the rules of a pack's lists are looked up: a row for each of 98 lists, which has for each of 64 kinds of byte the number of
 -- the first rule to try, and behind those the number behind the last one; and of each number its rule's place and its marks, by which it is passed over.
 -- What is over 4,096 is no number but a place of the pack, put behind the numbers.
-use Rattle.std.specs.Prelude.{ℕ, zero, suc, ◌+◌, ◌-◌, ◌*◌, ◌%◌, ◌≤◌, ◌<◌, max, ◌≡◌, Bool, true, List, [], ◌∷◌, ◌++◌, eqb, ltb, length, get_or, take, drop}
+use Rattle.rule_index.specs.declared.matching.Matched.{Matched}
+use Rattle.std.specs.Prelude.{ℕ, zero, suc, ◌+◌, ◌-◌, ◌*◌, ◌%◌, ◌≤◌, ◌<◌, max, ◌≡◌, Bool, true, List, [], ◌∷◌, ◌++◌, eqb, ltb, length, get_or, take, drop, Option, Some, None}
 use Rattle.base.specs.Pick.{pick, and}
 use Rattle.pack.specs.Packs.{Pack, Verdict, accepted, refused, read_rule, pack_of, list_count}
 use Rattle.rule_lines.specs.Rules.{Rule}
@@ -20,8 +21,6 @@ use Rattle.rule_index.specs.GuessContracts.{guesser, guesser_by}
 use Rattle.rule_index.specs.Matching.{Match, none, by, Matcher, first_match}
 use Rattle.rule_index.specs.declared.numbers.Front.{Front}
 use Rattle.rule_index.specs.declared.numbers.Marks.{Marks}
-use Rattle.rule_index.specs.declared.matching.Matched.{Matched}
-use Rattle.rule_index.specs.declared.matching.Matched.TheVariants.{By, Nothing}
 
 -- ---- the pack
 
@@ -97,21 +96,21 @@ pub record RuleIn (s word : List ℕ) (place : ℕ) (r : Rule) (step start end :
   pub expression : take (end - start) (drop start s) ≡ r.expression
   pub short : end - start < 256
 
-unfoldable pub MatchIs : List ℕ → List ℕ → ℕ → Match → Matched → Type 0
-MatchIs s word place none (By step start end) = ⊥
-MatchIs s word place none Nothing = Unit {0}
-MatchIs s word place (by r) (By step start end) = RuleIn s word place r step start end
-MatchIs s word place (by r) Nothing = ⊥
+unfoldable pub MatchIs : List ℕ → List ℕ → ℕ → Match → Option Matched → Type 0
+MatchIs s word place none (Some found) = ⊥
+MatchIs s word place none None = Unit {0}
+MatchIs s word place (by r) (Some found) = RuleIn s word place r found.step found.expression.start found.expression.end
+MatchIs s word place (by r) None = ⊥
 
 -- the first that matches of the rules between two places
-abbrev pub FirstBetween : List ℕ → ℕ → ℕ → List ℕ → ℕ → Matched → Type 0
+abbrev pub FirstBetween : List ℕ → ℕ → ℕ → List ℕ → ℕ → Option Matched → Type 0
 FirstBetween s start stop word place r = MatchIs s word place (first_match (rules_between stop s start stop) word place) r
 
 -- the rule at a place, where it matches; that of a number; and the first that matches of those from one number to another
-abbrev pub OneMatch : List ℕ → ℕ → List ℕ → ℕ → Matched → Type 0
+abbrev pub OneMatch : List ℕ → ℕ → List ℕ → ℕ → Option Matched → Type 0
 OneMatch s at word place r = MatchIs s word place (first_match (rule_in (read_rule (drop at s))) word place) r
 
-abbrev pub NumberMatch : List ℕ → List (List ℕ) → ℕ → List ℕ → ℕ → Matched → Type 0
+abbrev pub NumberMatch : List ℕ → List (List ℕ) → ℕ → List ℕ → ℕ → Option Matched → Type 0
 NumberMatch s table e word place r = MatchIs s word place (first_match (rule_of s table word place e) word place) r
 
 -- what a word has at a place
@@ -121,15 +120,15 @@ pub record FrontIs (word : List ℕ) (place : ℕ) (front : Front) : Type 0 wher
   pub before : front.before ≡ bit_of (last_byte (take place word))
   pub behind : front.behind ≡ bit_of (first_byte (drop (place + 1) word))
 
-abbrev pub FirstNumbered : List ℕ → List (List ℕ) → ℕ → ℕ → List ℕ → ℕ → Matched → Type 0
+abbrev pub FirstNumbered : List ℕ → List (List ℕ) → ℕ → ℕ → List ℕ → ℕ → Option Matched → Type 0
 FirstNumbered s table start stop word place r = MatchIs s word place (first_match (numbered s table word place start (stop - start)) word place) r
 
 -- the first that matches of those that a row has between two numbers or places
-abbrev pub FirstFound : List ℕ → List (List ℕ) → ℕ → ℕ → List ℕ → ℕ → Matched → Type 0
+abbrev pub FirstFound : List ℕ → List (List ℕ) → ℕ → ℕ → List ℕ → ℕ → Option Matched → Type 0
 FirstFound s table start stop word place r = MatchIs s word place (found_in s table start stop word place) r
 
 -- the promise of `first_match`
-abbrev pub FirstMatch : List ℕ → List (List ℕ) → ℕ → List ℕ → ℕ → Matched → Type 0
+abbrev pub FirstMatch : List ℕ → List (List ℕ) → ℕ → List ℕ → ℕ → Option Matched → Type 0
 FirstMatch s table list word place r = MatchIs s word place (matcher s table list word place) r
 
 -- what is seen of an answer: the step, and the expression that stands at its place
@@ -137,9 +136,9 @@ pub data Seen : Type 0 where
   nothing : Seen
   seen : ℕ → List ℕ → Seen
 
-unfoldable pub seen_in : List ℕ → Matched → Seen
-seen_in s Nothing = nothing
-seen_in s (By step start end) = seen step (take (end - start) (drop start s))
+unfoldable pub seen_in : List ℕ → Option Matched → Seen
+seen_in s None = nothing
+seen_in s (Some found) = seen found.step (take (found.expression.end - found.expression.start) (drop found.expression.start s))
 
 -- ---- a row
 

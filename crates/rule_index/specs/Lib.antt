@@ -1,3 +1,4 @@
+pub mod Places
 pub mod Matching
 pub mod Rows
 pub mod GuessContracts

@@ -14,7 +14,8 @@ ghost use Rattle.rule_index.specs.GuessContracts.{narrowed_in, has_required, nar
 
 use crate::rows::{GUESSES, PAIRS, REQUIRED, Table, noted_at, put_at};
 use languages::LanguageSet;
-use pack::{GuessAt, NUMBERS};
+use pack::NUMBERS;
+use strings::Span;
 
 // The i-th guessing rule noted: what it requires, and its place.
 #[tactic(auto, using(crate::proofs::CellLaws::put_laws))]
@@ -46,27 +47,17 @@ pub(crate) fn note_guesses(pack: &[u8], guesses: usize, table: &mut Table, many:
     requires { GuessesReady pack.now guesses table.old }
     ensures { GuessesNoted pack.now guesses table.old table.new }
 {
-    let count = pack::rule_count(pack, guesses) as usize;
-    let mut i: usize = 0;
+    let count = pack::rule_count(pack, guesses);
     let mut at = guesses + 2;
-    while i < count {
-        match pack::guess_at(pack, at) {
-            GuessAt::At {
-                accept: _,
-                mask: _,
-                start,
-                end,
-            } => {
-                let pattern = &pack[start..end];
-                let pairs = pairs_asked(many, pattern);
-                note_guess(table, i, lang::required_bits(pattern), pairs, at);
-                at = end;
-                i += 1;
-            }
-            GuessAt::Cut => {
-                return;
-            }
-        }
+    for i in 0..count {
+        let Some(guess) = pack::guess_at(pack, at) else {
+            return;
+        };
+        let Span { start, end } = guess.pattern;
+        let pattern = &pack[start..end];
+        let pairs = pairs_asked(many, pattern);
+        note_guess(table, i, lang::required_bits(pattern), pairs, at);
+        at = end;
     }
 }
 
@@ -88,10 +79,7 @@ fn narrow(left: u32, accept: u32, mask: u32, pattern: &[u8], name: &[u8]) -> u32
     ensures { result ≡ narrowed_by name.now (guess accept mask pattern.now) left }
 {
     let less = left_by(left, accept, mask);
-    if less == left {
-        return left;
-    }
-    if lang::matches(pattern, name) {
+    if less != left && lang::matches(pattern, name) {
         less
     } else {
         left
@@ -104,13 +92,11 @@ fn narrow_at(pack: &[u8], at: usize, left: u32, name: &[u8]) -> u32
     ensures { result ≡ narrowed_in name.now (read_guess (drop at pack.now)) left }
 {
     match pack::guess_at(pack, at) {
-        GuessAt::At {
-            accept,
-            mask,
-            start,
-            end,
-        } => narrow(left, accept, mask, &pack[start..end], name),
-        GuessAt::Cut => left,
+        Some(guess) => {
+            let pattern = &pack[guess.pattern.start..guess.pattern.end];
+            narrow(left, guess.accept, guess.mask, pattern, name)
+        }
+        None => left,
     }
 }
 
@@ -120,11 +106,8 @@ fn has_required(table: &Table, i: usize, signature: u64, pairs: u64) -> bool
     requires { i < 4096 }
     ensures { result ≡ has_required table.now i signature pairs }
 {
-    if texts::has_bits(signature, noted_at(table, REQUIRED, i) as u64) {
-        texts::has_bits(pairs, noted_at(table, PAIRS, i) as u64)
-    } else {
-        false
-    }
+    texts::has_bits(signature, noted_at(table, REQUIRED, i) as u64)
+        && texts::has_bits(pairs, noted_at(table, PAIRS, i) as u64)
 }
 
 // The same by the i-th guessing rule, for a name of this signature and these pairs: it is not read where they lack what it requires.
@@ -158,10 +141,8 @@ fn narrow_all(pack: &[u8], table: &Table, count: usize, all: u32, name: &[u8]) -
     let signature = texts::signature(name);
     let pairs = lang::find_pairs(name);
     let mut left = all;
-    let mut i: usize = 0;
-    while i < count {
+    for i in 0..count {
         left = narrow_noted(pack, table, i, left, name, signature, pairs);
-        i += 1;
     }
     left
 }
@@ -170,8 +151,7 @@ fn narrow_all(pack: &[u8], table: &Table, count: usize, all: u32, name: &[u8]) -
 fn noted_count(pack: &[u8], guesses: usize) -> usize
     ensures { result ≡ min 4096 (rule_count pack.now guesses) }
 {
-    let count = pack::rule_count(pack, guesses) as usize;
-    if count < NUMBERS { count } else { NUMBERS }
+    pack::rule_count(pack, guesses).min(NUMBERS)
 }
 
 // The set of what is left; "nothing left means Any".

@@ -6,7 +6,7 @@ ghost use Rattle.pack.specs.PlaceContracts.{rule_count};
 use crate::guessing::note_guesses;
 use crate::numbers::{marks_of, number_rule};
 use crate::rows::{COLUMNS, LISTS, Table, clear_rows, see_rows};
-use pack::{NUMBERS, RuleAt, Surveyed};
+use pack::{NUMBERS, Surveyed};
 
 // The rules of the list at a place numbered from `first` on and noted in its row. Returns the number behind the last one.
 #[tactic(auto, using(crate::proofs::RowLaws::numbering_laws))]
@@ -15,37 +15,23 @@ fn number_list(pack: &[u8], table: &mut Table, list: usize, place: usize, first:
     requires place_bound { rule_count pack.now place ≤ 4096 - first }
     ensures { ListIndexed pack.now table.old table.new list place first result }
 {
-    let mut left = pack::rule_count(pack, place);
+    let count = pack::rule_count(pack, place);
     let mut at = place + 2;
     let mut number = first;
-    while 0 < left {
-        match pack::rule_at(pack, at) {
-            RuleAt::At {
-                pattern,
-                pattern_end,
-                left: before,
-                left_end: before_end,
-                right: behind,
-                right_end: behind_end,
-                expression: _,
-                end,
-            } => {
-                let byte = strings::byte_at(pack, pattern);
-                let marks = marks_of(
-                    &pack[pattern..pattern_end],
-                    &pack[before..before_end],
-                    &pack[behind..behind_end],
-                );
-                number_rule(table, number, at, marks);
-                pack::note_rule(&mut table[list], byte, number, number + 1);
-                at = end;
-                number += 1;
-                left -= 1;
-            }
-            RuleAt::Cut => {
-                return number;
-            }
-        }
+    for _ in 0..count {
+        let Some(rule) = pack::rule_at(pack, at) else {
+            return number;
+        };
+        let marks = marks_of(
+            &pack[rule.pattern.start..rule.pattern.end],
+            &pack[rule.left.start..rule.left.end],
+            &pack[rule.right.start..rule.right.end],
+        );
+        number_rule(table, number, at, marks);
+        let byte = strings::byte_at(pack, rule.pattern.start);
+        pack::note_rule(&mut table[list], byte, number, number + 1);
+        at = rule.expression.end;
+        number += 1;
     }
     number
 }
@@ -72,19 +58,10 @@ fn index_lists(pack: &[u8], places: &[usize], lists: usize, table: &mut Table, f
     requires first_bound { first ≤ 4096 }
     ensures { ListsFound pack.now table.old table.new }
 {
-    let mut k: usize = 0;
     let mut free = first;
-    while k < lists {
+    for k in 0..lists {
         free = index_list(pack, table, k, places[k], free);
-        k += 1;
     }
-}
-
-// The first number that is free: none is where a single name is spelled, for which rules are not numbered.
-fn first_free(many: bool) -> usize
-    ensures { result ≤ 4096 }
-{
-    if many { 0 } else { NUMBERS }
 }
 
 // The table of an accepted pack, in which its survey noted its lists: the rows behind are made blank, its guessing rules noted and its
@@ -105,7 +82,8 @@ fn index_accepted(
     see_rows(table);
     clear_rows(table, lists);
     note_guesses(pack, guesses, table, many);
-    index_lists(pack, places, lists, table, first_free(many));
+    // Rules are not numbered where a single name is spelled.
+    index_lists(pack, places, lists, table, if many { 0 } else { NUMBERS });
 }
 
 // The verdict on a pack, and the table by which its rules are found, whatever the table held before. A refused pack has none.

@@ -4,109 +4,69 @@ ghost use Rattle.rule_index.specs.InnerContracts.{FrontIs, OneMatch, NumberMatch
 
 use crate::numbers::{Front, front_of, is_tried};
 use crate::rows::{LISTS, PLACES, Table, noted_at};
-use pack::{KINDS, NUMBERS, RuleAt};
+use pack::{KINDS, NUMBERS};
+use strings::Span;
 
-// The rule that matches: how far its pattern reaches, and where its expression stands in the pack.
+// A rule that matches: how far its pattern reaches, and where its expression stands in the pack.
 #[derive(Clone, Copy)]
-pub enum Matched {
-    By {
-        step: usize,
-        expression: usize,
-        end: usize,
-    },
-    Nothing,
-}
-
-fn wide(x: u8) -> usize
-    ensures { result ≡ x }
-{
-    x as usize
-}
-
-// At least one byte is passed.
-fn step_of(from: usize, to: usize) -> usize
-    requires { from ≤ to }
-    ensures { result ≡ max 1 (to - from) }
-{
-    if from < to { to - from } else { 1 }
+pub struct Matched {
+    pub step: usize,
+    pub expression: Span,
 }
 
 // The first rule that matches, of those that stand from one place to another.
 #[tactic(auto, using(crate::proofs::MatchLaws::finding_laws))]
-fn first_between(pack: &[u8], start: usize, stop: usize, word: &[u8], place: usize) -> Matched
+fn first_between(
+    pack: &[u8],
+    start: usize,
+    stop: usize,
+    word: &[u8],
+    place: usize,
+) -> Option<Matched>
     requires { place < length word.now }
     ensures { FirstBetween pack.now start stop word.now place result }
 {
+    // Stays a loop by hand: where the next rule stands is known once this one is read.
     let mut at = start;
     while at < stop {
-        match pack::rule_at(pack, at) {
-            RuleAt::At {
-                pattern,
-                pattern_end,
-                left,
-                left_end,
-                right,
-                right_end,
-                expression,
-                end,
-            } => {
-                if rule::rule_matches(
-                    &pack[pattern..pattern_end],
-                    &pack[left..left_end],
-                    &pack[right..right_end],
-                    word,
-                    place,
-                ) {
-                    return Matched::By {
-                        step: step_of(pattern, pattern_end),
-                        expression,
-                        end,
-                    };
-                }
-                at = end;
-            }
-            RuleAt::Cut => {
-                return Matched::Nothing;
-            }
+        let rule = pack::rule_at(pack, at)?;
+        if rule::rule_matches(
+            &pack[rule.pattern.start..rule.pattern.end],
+            &pack[rule.left.start..rule.left.end],
+            &pack[rule.right.start..rule.right.end],
+            word,
+            place,
+        ) {
+            return Some(Matched {
+                step: (rule.pattern.end - rule.pattern.start).max(1),
+                expression: rule.expression,
+            });
         }
+        at = rule.expression.end;
     }
-    Matched::Nothing
+    None
 }
 
 // The rule at a place of the pack, where it matches at a place of a word.
 #[tactic(auto, using(crate::proofs::MatchLaws::one_laws))]
-fn match_one(pack: &[u8], at: usize, word: &[u8], place: usize) -> Matched
+fn match_one(pack: &[u8], at: usize, word: &[u8], place: usize) -> Option<Matched>
     requires { place < length word.now }
     ensures { OneMatch pack.now at word.now place result }
 {
-    match pack::rule_at(pack, at) {
-        RuleAt::At {
-            pattern,
-            pattern_end,
-            left,
-            left_end,
-            right,
-            right_end,
-            expression,
-            end,
-        } => {
-            if rule::rule_matches(
-                &pack[pattern..pattern_end],
-                &pack[left..left_end],
-                &pack[right..right_end],
-                word,
-                place,
-            ) {
-                Matched::By {
-                    step: step_of(pattern, pattern_end),
-                    expression,
-                    end,
-                }
-            } else {
-                Matched::Nothing
-            }
-        }
-        RuleAt::Cut => Matched::Nothing,
+    let rule = pack::rule_at(pack, at)?;
+    if rule::rule_matches(
+        &pack[rule.pattern.start..rule.pattern.end],
+        &pack[rule.left.start..rule.left.end],
+        &pack[rule.right.start..rule.right.end],
+        word,
+        place,
+    ) {
+        Some(Matched {
+            step: (rule.pattern.end - rule.pattern.start).max(1),
+            expression: rule.expression,
+        })
+    } else {
+        None
     }
 }
 
@@ -119,14 +79,14 @@ fn try_number(
     front: Front,
     word: &[u8],
     place: usize,
-) -> Matched
+) -> Option<Matched>
     requires { (number < 4096) × (place < length word.now) × FrontIs word.now place front }
     ensures { NumberMatch pack.now table.now number word.now place result }
 {
     if is_tried(table, number, front) {
         match_one(pack, noted_at(table, PLACES, number), word, place)
     } else {
-        Matched::Nothing
+        None
     }
 }
 
@@ -139,42 +99,18 @@ fn first_numbered(
     stop: usize,
     word: &[u8],
     place: usize,
-) -> Matched
+) -> Option<Matched>
     requires { (stop ≤ 4096) × (place < length word.now) }
     ensures { FirstNumbered pack.now table.now start stop word.now place result }
 {
     let front = front_of(word, place);
-    let mut number = start;
-    while number < stop {
-        match try_number(pack, table, number, front, word, place) {
-            Matched::By {
-                step,
-                expression,
-                end,
-            } => {
-                return Matched::By {
-                    step,
-                    expression,
-                    end,
-                };
-            }
-            Matched::Nothing => {
-                number += 1;
-            }
+    for number in start..stop {
+        let matched = try_number(pack, table, number, front, word, place);
+        if matched.is_some() {
+            return matched;
         }
     }
-    Matched::Nothing
-}
-
-// The place that stands for a number over NUMBERS.
-fn place_of(number: usize) -> usize
-    ensures { result ≡ number - 4096 }
-{
-    if number < NUMBERS {
-        0
-    } else {
-        number - NUMBERS
-    }
+    None
 }
 
 // The first rule that matches, of those that a row has for a kind of byte.
@@ -186,12 +122,18 @@ fn first_found(
     stop: usize,
     word: &[u8],
     place: usize,
-) -> Matched
+) -> Option<Matched>
     requires { place < length word.now }
     ensures { FirstFound pack.now table.now start stop word.now place result }
 {
     if NUMBERS < stop {
-        first_between(pack, place_of(start), place_of(stop), word, place)
+        first_between(
+            pack,
+            start.saturating_sub(NUMBERS),
+            stop - NUMBERS,
+            word,
+            place,
+        )
     } else {
         first_numbered(pack, table, start, stop, word, place)
     }
@@ -199,16 +141,19 @@ fn first_found(
 
 // The first rule of a list that matches at a place of a word; none where there is no such list or no such place.
 #[tactic(auto, using(crate::proofs::MatchLaws::look_laws))]
-pub fn first_match(pack: &[u8], table: &Table, list: usize, word: &[u8], place: usize) -> Matched
+pub fn first_match(
+    pack: &[u8],
+    table: &Table,
+    list: usize,
+    word: &[u8],
+    place: usize,
+) -> Option<Matched>
     ensures { FirstMatch pack.now table.now list word.now place result }
 {
-    if LISTS <= list {
-        return Matched::Nothing;
+    if LISTS <= list || word.len() <= place {
+        return None;
     }
-    if word.len() <= place {
-        return Matched::Nothing;
-    }
-    let kind = wide(word[place]) % KINDS;
+    let kind = usize::from(word[place]) % KINDS;
     first_found(
         pack,
         table,

@@ -71,12 +71,12 @@ pub(crate) fn front_of(word: &[u8], place: usize) -> Front
     requires { place < length word.now }
     ensures { FrontIs word.now place result }
 {
-    let rest = &word[place..word.len()];
+    let rest = &word[place..];
     Front {
         one: strings::byte_at(rest, 0) as usize,
         two: lead_of(rest),
-        before: texts::bit_of(texts::last_byte(&word[0..place])),
-        behind: texts::bit_of(texts::first_byte(&word[place + 1..word.len()])),
+        before: texts::bit_of(texts::last_byte(&word[..place])),
+        behind: texts::bit_of(texts::first_byte(&word[place + 1..])),
     }
 }
 
@@ -85,11 +85,7 @@ pub(crate) fn front_of(word: &[u8], place: usize) -> Front
 fn may_lead(lead: usize, front: Front) -> bool
     ensures { result ≡ pick (eqb lead front.one) true (eqb lead front.two) }
 {
-    if lead == front.one {
-        true
-    } else {
-        lead == front.two
-    }
+    lead == front.one || lead == front.two
 }
 
 // Whether the rule of a number is tried there: most are passed over by their marks.
@@ -98,13 +94,7 @@ pub(crate) fn is_tried(table: &Table, number: usize, front: Front) -> bool
     requires { number < 4096 }
     ensures { result ≡ tried_by table.now number front.one front.two front.before front.behind }
 {
-    if may_lead(noted_at(table, LEADS, number), front) {
-        if texts::has_bits(noted_at(table, BEFORE, number) as u64, front.before) {
-            texts::has_bits(noted_at(table, BEHIND, number) as u64, front.behind)
-        } else {
-            false
-        }
-    } else {
-        false
-    }
+    may_lead(noted_at(table, LEADS, number), front)
+        && texts::has_bits(noted_at(table, BEFORE, number) as u64, front.before)
+        && texts::has_bits(noted_at(table, BEHIND, number) as u64, front.behind)
 }

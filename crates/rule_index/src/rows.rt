@@ -64,10 +64,8 @@ fn numbers_in(row: &[usize]) -> usize
 pub(crate) fn see_rows(table: &Table)
     ensures { Roomy table.now }
 {
-    let mut k: usize = 0;
-    while k < ROWS {
+    for k in 0..ROWS {
         numbers_in(&table[k]);
-        k += 1;
     }
 }
 
@@ -77,9 +75,7 @@ pub(crate) fn clear_rows(table: &mut Table, from: usize)
     requires { Roomy table.old }
     ensures { Cleared from table.old table.new }
 {
-    let mut k = from;
-    while k < LISTS {
+    for k in from..LISTS {
         table[k] = [0usize; COLUMNS];
-        k += 1;
     }
 }

@@ -1,13 +1,13 @@
-use Rattle.languages.proofs.NumberLaws.{set_one}
-use Rattle.engine.proofs.CallLaws.{start_laws}
 use borrow.Author.Rules.{rules}
+use Rattle.base.proofs.PickLaws.{cases}
+use Rattle.engine.proofs.CallLaws.{set_given}
 use Rattle.engine.proofs.call.set_of.Goals as goal
 
-pub returns-then-kind-eq0 : goal.returns-then-kind-eq0
-returns-then-kind-eq0 c = search (set_one, start_laws, rules)
+pub returns-in-0 : goal.returns-in-0
+returns-in-0 c = set_given _ _ _ _ _ c.in-Given.is (search (cases, rules))
 
-pub returns-then-kind-eq1 : goal.returns-then-kind-eq1
-returns-then-kind-eq1 c = search (set_one, start_laws, rules)
+pub returns-in-1 : goal.returns-in-1
+returns-in-1 c = set_given _ _ _ _ _ c.in-Given.is (search (cases, rules))
 
-pub returns-else-kind-eq1 : goal.returns-else-kind-eq1
-returns-else-kind-eq1 c = search (set_one, start_laws, rules)
+pub returns-in_default : goal.returns-in_default
+returns-in_default c = set_given _ _ _ _ _ c.in-Given.is (search (cases, rules))

@@ -1,6 +1,5 @@
 use Rattle.engine.proofs.LineLaws.{head_is}
-use borrow.Author.Rules.{rules}
 use Rattle.engine.proofs.lines.put_head.Goals as goal
 
 pub returns : goal.returns
-returns c = search (head_is, rules)
+returns c = head_is _ (rw c.from.ensures at c.copy.ensures)

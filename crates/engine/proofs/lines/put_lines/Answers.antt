@@ -4,5 +4,5 @@ use Rattle.engine.proofs.lines.put_lines.Goals as goal
 pub returns-then-rest-n : goal.returns-then-rest-n
 returns-then-rest-n c = search going_laws
 
-pub returns-in-Over : goal.returns-in-Over
-returns-in-Over c = search going_laws
+pub returns-in-Err : goal.returns-in-Err
+returns-in-Err c = search going_laws

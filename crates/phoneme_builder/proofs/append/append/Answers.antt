@@ -1,3 +1,4 @@
+use Rattle.std.proofs.lemmas.Result.{err_from_is_err_and}
 use Rattle.phoneme_builder.proofs.AppendLaws.{appending_laws}
 use Rattle.phoneme_builder.proofs.append.append.Goals as goal
 
@@ -7,11 +8,13 @@ loop-i-init c = search appending_laws
 pub lengthen-requires : goal.lengthen-requires
 lengthen-requires c = search appending_laws
 
-pub loop-i-preserved : goal.loop-i-preserved
-loop-i-preserved c = search appending_laws
-
-pub returns-in-TooLong : goal.returns-in-TooLong
-returns-in-TooLong c = search appending_laws
-
 pub returns : goal.returns
 returns c = search appending_laws
+
+pub loop-i-preserved : goal.loop-i-preserved
+loop-i-preserved c = search (appending_laws, c.in_ok-count.was)
+
+pub returns-in_err-count : goal.returns-in_err-count
+returns-in_err-count c =
+    let p = err_from_is_err_and c.from_residual.result c.from_residual.ensures.1 in
+    rw (p.1, p.2) (search (appending_laws, c.in_err-count.was))

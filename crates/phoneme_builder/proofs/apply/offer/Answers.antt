@@ -10,5 +10,5 @@ add_to-requires c = search offer_laws
 pub returns-else-text-more-gt-ROW : goal.returns-else-text-more-gt-ROW
 returns-else-text-more-gt-ROW c = search offer_laws
 
-pub returns-in-Nothing : goal.returns-in-Nothing
-returns-in-Nothing c = search offer_laws
+pub returns-in-None : goal.returns-in-None
+returns-in-None c = search offer_laws

@@ -1,6 +1,5 @@
 use Rattle.phoneme_builder.proofs.FinalLaws.{text_ran}
-use borrow.Author.Rules.{rules}
 use Rattle.phoneme_builder.proofs.finals.run_text.Goals as goal
 
 pub returns : goal.returns
-returns c = search (text_ran, rules)
+returns c = text_ran c.requires _ c.begin-count.ensures _ _ _ _ _ c.copy_text-e.ensures c.langs_at-langs.ensures _ c.run.ensures

@@ -1,9 +1,5 @@
 use Rattle.rule_index.proofs.GuessLaws.{Narrowing}
-use Prim.Native.Nat.{◌-◌}
 use Rattle.rule_index.proofs.guessing.narrow_all.Given as goal
 
 abbrev pub invariant-loop-i : goal.invariant-loop-i
 invariant-loop-i l = Narrowing l.pack l.table l.name l.count l.all l.i l.left
-
-abbrev pub decreases-loop-i : goal.decreases-loop-i
-decreases-loop-i l = l.count - l.i

@@ -8,8 +8,8 @@ overflow_add-at c = omega (arith, section_within c.requires)
 pub loop-i-init : goal.loop-i-init
 loop-i-init c = search noting_laws
 
-pub returns-in-Cut : goal.returns-in-Cut
-returns-in-Cut c = search noting_laws
+pub returns-in_default : goal.returns-in_default
+returns-in_default c = search noting_laws
 
 pub returns : goal.returns
 returns c = search noting_laws

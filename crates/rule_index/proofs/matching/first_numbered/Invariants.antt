@@ -6,6 +6,3 @@ use Rattle.rule_index.proofs.matching.first_numbered.Given as goal
 
 abbrev pub invariant-loop-number : goal.invariant-loop-number
 invariant-loop-number l = NumbersLeft l.pack l.table l.word l.place (first_match (numbered l.pack l.table l.word l.place l.start (l.stop - l.start)) l.word l.place) l.number l.stop
-
-abbrev pub decreases-loop-number : goal.decreases-loop-number
-decreases-loop-number l = l.stop - l.number
