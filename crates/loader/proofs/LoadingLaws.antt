@@ -36,39 +36,38 @@ use rule_lists.declared.list_writing.Written.TheVariants as wrote
 use Rattle.loader.specs as specs
 use specs.Languages.{languages_of}
 use specs.Loading.{on_type, languages_part, on_listed, names_of, guess_file, lists_in, pack_from, on_bundle, load_of, written, done_at, refused_at, loaded_numbers, answer, filled, AnswerIs, lang_part}
-use specs.InnerContracts.{NamesRead, type_numbered, guesses_bytes, packed_of, GuessesWritten, GuessesAre}
+use specs.InnerContracts.{name_list, guess_part, NamesRead, type_numbered, guesses_bytes, packed_of, GuessesWritten, GuessesAre}
 use Rattle.loader.proofs.NameLaws.{strings_names}
 use Rattle.loader.proofs.LanguageLaws.{languages_good}
-use specs.declared.loading.Kind.{Kind}
-use specs.declared.loading.Kind.TheVariants as kinds
+use Rattle.std.specs.Prelude.{Option, Some, None, Result, Ok, Err}
+use Rattle.rule_lists.specs.declared.refused.Refused as why
+use Rattle.rule_lists.specs.InnerContracts.{refusal_at}
 use specs.declared.loading.Loaded.{Loaded}
 use specs.declared.loading.Loaded.TheVariants as loaded
-use specs.declared.language_list.Names.{Names}
-use specs.declared.language_list.Names.TheVariants as names
+use specs.declared.language_list.NameList.{NameList}
 use Rattle.base.proofs.PickLaws.{pick_true, pick_false, and_inv, tests}
 use Rattle.held.specs.Met.{bytes_of_all}
 use bundles.InnerContracts.{files_of}
-use rule_lists.InnerContracts.{WrittenIs}
+use rule_lists.InnerContracts.{WritesTo, WrittenIs}
 use lib.Seq.{sets, set-set, set_comm}
 use specs.Guesses.{guesses_in, counted_guesses, guesses_of}
-use specs.declared.guesses.Guessed.{Guessed}
-use specs.declared.guesses.Guessed.TheVariants.{Done, Refused}
+use specs.declared.guesses.GuessPart.{GuessPart}
 
 -- ---- the type's number
 
-pub kind_ashkenazi : (n : ℕ) → n ≡ 0 → kinds.Is Ashkenazi ≡ type_numbered n
+pub kind_ashkenazi : (n : ℕ) → n ≡ 0 → Some Ashkenazi ≡ type_numbered n
 unfolding type_numbered on_type
 kind_ashkenazi n e = rw e refl
 
-pub kind_generic : (n : ℕ) → n ≡ 1 → kinds.Is Generic ≡ type_numbered n
+pub kind_generic : (n : ℕ) → n ≡ 1 → Some Generic ≡ type_numbered n
 unfolding type_numbered on_type
 kind_generic n e = rw e refl
 
-pub kind_sephardic : (n : ℕ) → n ≡ 2 → kinds.Is Sephardic ≡ type_numbered n
+pub kind_sephardic : (n : ℕ) → n ≡ 2 → Some Sephardic ≡ type_numbered n
 unfolding type_numbered on_type
 kind_sephardic n e = rw e refl
 
-pub kind_unknown : (n : ℕ) → (n ≡ 0 → ⊥) → (n ≡ 1 → ⊥) → (n ≡ 2 → ⊥) → kinds.Unknown ≡ type_numbered n
+pub kind_unknown : (n : ℕ) → (n ≡ 0 → ⊥) → (n ≡ 1 → ⊥) → (n ≡ 2 → ⊥) → None ≡ type_numbered n
 unfolding type_numbered on_type
 kind_unknown zero a b c = absurd (a refl)
 kind_unknown (suc zero) a b c = absurd (b refl)
@@ -109,40 +108,43 @@ put_over {o} {at = at} {t = t} {u = u} {v = v} x y z h =
     record { wrote = z.wrote ∙ rw w.wrote (sets_over v t u o at h); ends = omega (arith, w.ends, length-append t u, length-append v u); room = x.room }
 
 module _ (o o₁ o₂ : List ℕ) (at i n p : ℕ) where
-  counted_done : (x : Loading (List Guess)) (o₃ : List ℕ) (r : ℕ) → Put o o₁ at i (count_bytes 0) → GuessesWritten 0 x o₁ i (Done n p) o₂ → n ≤ 4096
-      → Put o₂ o₃ at r (count_bytes n) → WrittenIs guesses_bytes (and_load x counted_guesses) o o₃ at (wrote.Done p)
-  unfolding GuessesWritten and_load counted_guesses WrittenIs guesses_bytes count_bytes
+  counted_done : (x : Loading (List Guess)) (o₃ : List ℕ) (r : ℕ) → Put o o₁ at i (count_bytes 0) → GuessesWritten 0 x o₁ i (Ok (guess_part n p)) o₂ → n ≤ 4096
+      → Put o₂ o₃ at r (count_bytes n) → WritesTo guesses_bytes (and_load x counted_guesses) o o₃ at (Ok p)
+  unfolding GuessesWritten and_load counted_guesses WritesTo guesses_bytes count_bytes
   counted_done (fine gs) o₃ r c (q, e, w) h d =
-      let same : n ≡ 0 + length gs = cc in
-      let size : n ≡ length gs = omega arith in
-      let place : q ≡ p = cc in
+      let is : guess_part n p ≡ guess_part (0 + length gs) q = cc in
+      let size : n ≡ length gs = omega (arith, ap (λ (g : GuessPart). g.count) is) in
+      let place : q ≡ p = sym (ap (λ (g : GuessPart). g.end) is) in
       rw (pick_true _ (fine gs) (not_loaded TooMuch 0 0) (le-leb _ _ (rw size at h))) (p, refl, put_over c (rw place at w) (rw size at d) refl)
   counted_done (not_loaded c l f) o₃ r x e h d = clash (cc)
 
-  counted_many : (x : Loading (List Guess)) → GuessesWritten 0 x o₁ i (Done n p) o₂ → 4096 < n
-      → WrittenIs guesses_bytes (and_load x counted_guesses) o o₂ at (wrote.Refused TooMuch 0 0)
-  unfolding GuessesWritten and_load counted_guesses WrittenIs
+  counted_many : (x : Loading (List Guess)) → GuessesWritten 0 x o₁ i (Ok (guess_part n p)) o₂ → 4096 < n
+      → WritesTo guesses_bytes (and_load x counted_guesses) o o₂ at (Err (refusal_at TooMuch 0 0))
+  unfolding GuessesWritten and_load counted_guesses WritesTo
   counted_many (fine gs) (q, e, w) h =
-      let same : n ≡ 0 + length gs = cc in
+      let is : guess_part n p ≡ guess_part (0 + length gs) q = cc in
+      let same : n ≡ 0 + length gs = ap (λ (g : GuessPart). g.count) is in
       rw (pick_false _ (fine gs) (not_loaded TooMuch 0 0) (lt-leb (length gs) 4096 (omega arith))) refl
   counted_many (not_loaded c l f) e h = clash (cc)
 
-  counted_refused : (x : Loading (List Guess)) (c : Refusal) → GuessesWritten 0 x o₁ i (Refused c n p) o₂
-      → WrittenIs guesses_bytes (and_load x counted_guesses) o o₂ at (wrote.Refused c n p)
-  unfolding GuessesWritten and_load WrittenIs
+  counted_refused : (x : Loading (List Guess)) (c : Refusal) → GuessesWritten 0 x o₁ i (Err (refusal_at c n p)) o₂
+      → WritesTo guesses_bytes (and_load x counted_guesses) o o₂ at (Err (refusal_at c n p))
+  unfolding GuessesWritten and_load WritesTo
   counted_refused (fine gs) c (q, e, w) = clash (cc)
-  counted_refused (not_loaded d m g) c e = cc
+  counted_refused (not_loaded d m g) c e =
+      let is : refusal_at c n p ≡ refusal_at d m g = cc in
+      ap (λ (r : why.Refused). Err r) is
 
 module _ (kind : NameType) (s : List ℕ) (x : FileAt) (e : file_numbers x ≡ file_at s (type_prefix kind ++ lang_part)) (names o : List ℕ) (at : ℕ) where
-  abbrev Wrote : List ℕ → Written → Type 0
-  Wrote o' r = WrittenIs guesses_bytes (guess_file kind (files_of s) names) o o' at r
+  abbrev Wrote : List ℕ → Result ℕ why.Refused → Type 0
+  Wrote o' r = WritesTo guesses_bytes (guess_file kind (files_of s) names) o o' at r
 
-  pub load_missing : x ≡ file-at.Missing → Wrote o (wrote.Refused FileMissing 0 0)
-  unfolding guess_file on_listed WrittenIs
+  pub load_missing : x ≡ file-at.Missing → Wrote o (Err (refusal_at FileMissing 0 0))
+  unfolding guess_file on_listed WritesTo
   load_missing q = rw (missing_is s _ x e q) refl
 
   module _ (k a b : ℕ) (q : x ≡ file-at.At k a b) where
-    module _ (o₁ o₂ : List ℕ) (i : ℕ) (g : Guessed) (c : Put o o₁ at i (count_bytes 0)) (w : GuessesAre names (take (b - a) (drop a s)) k o₁ i g o₂) where
+    module _ (o₁ o₂ : List ℕ) (i : ℕ) (g : Result GuessPart why.Refused) (c : Put o o₁ at i (count_bytes 0)) (w : GuessesAre names (take (b - a) (drop a s)) k o₁ i g o₂) where
       abbrev in_file : Loading (List Guess)
       in_file = guesses_in names k (take (b - a) (drop a s))
 
@@ -150,31 +152,31 @@ module _ (kind : NameType) (s : List ℕ) (x : FileAt) (e : file_numbers x ≡ f
       unfolding guess_file on_listed guesses_of
       is_file = rw (found_is s _ x e k a b q) refl
 
-      comes : (y : Guessed) → g ≡ y → GuessesWritten 0 in_file o₁ i y o₂
+      comes : (y : Result GuessPart why.Refused) → g ≡ y → GuessesWritten 0 in_file o₁ i y o₂
       unfolding GuessesAre
       comes y z = rw z at w
 
-      pub load_refused : (c : Refusal) (l f : ℕ) → g ≡ Refused c l f → Wrote o₂ (wrote.Refused c l f)
-      load_refused c l f z = rw (← is_file) (counted_refused o o₁ o₂ at i l f in_file c (comes _ z))
+      pub load_refused : (c : why.Refused) → g ≡ Err c → Wrote o₂ (Err c)
+      load_refused c z = rw (← is_file) (counted_refused o o₁ o₂ at i c.line c.file in_file c.why (comes _ z))
 
-      module _ (n p : ℕ) (z : g ≡ Done n p) where
-        pub load_many : 4096 < n → Wrote o₂ (wrote.Refused TooMuch 0 0)
-        load_many h = rw (← is_file) (counted_many o o₁ o₂ at i n p in_file (comes _ z) h)
+      module _ (part : GuessPart) (z : g ≡ Ok part) where
+        pub load_many : 4096 < part.count → Wrote o₂ (Err (refusal_at TooMuch 0 0))
+        load_many h = rw (← is_file) (counted_many o o₁ o₂ at i part.count part.end in_file (comes _ z) h)
 
-        pub load_done : (o₃ : List ℕ) (r : ℕ) → n ≤ 4096 → Put o₂ o₃ at r (count_bytes n) → Wrote o₃ (wrote.Done p)
-        load_done o₃ r h d = rw (← is_file) (counted_done o o₁ o₂ at i n p in_file o₃ r c (comes _ z) h d)
+        pub load_done : (o₃ : List ℕ) (r : ℕ) → part.count ≤ 4096 → Put o₂ o₃ at r (count_bytes part.count) → Wrote o₃ (Ok part.end)
+        load_done o₃ r h d = rw (← is_file) (counted_done o o₁ o₂ at i part.count part.end in_file o₃ r c (comes _ z) h d)
 
 pub ruleset guessed_laws = (load_missing, found_order, found_within, load_refused, load_done, load_many, put_place, rules)
 
 -- ---- the language list
 
 module _ (kind : NameType) (s : List ℕ) (e : FileAt) (w : file_numbers e ≡ file_at s (type_prefix kind ++ languages_part)) where
-  pub names_found : (k a b : ℕ) (out' : List ℕ) (r : Names) → e ≡ file-at.At k a b → NamesRead (languages_of k (take (b - a) (drop a s))) r out'
+  pub names_found : (k a b : ℕ) (out' : List ℕ) (r : Result NameList why.Refused) → e ≡ file-at.At k a b → NamesRead (languages_of k (take (b - a) (drop a s))) r out'
       → NamesRead (names_of kind (files_of s)) r out'
   unfolding names_of on_listed
   names_found k a b out' r h x = rw (found_is s _ e w k a b h) x
 
-  pub names_missing : (out' : List ℕ) → e ≡ file-at.Missing → NamesRead (names_of kind (files_of s)) (names.Refused FileMissing 0 0) out'
+  pub names_missing : (out' : List ℕ) → e ≡ file-at.Missing → NamesRead (names_of kind (files_of s)) (Err (refusal_at FileMissing 0 0)) out'
   unfolding NamesRead names_of on_listed
   names_missing out' h = rw (missing_is s _ e w h) refl
 
@@ -186,22 +188,24 @@ pub record WasFine {A : Type 0} (bytes : A → List ℕ) (x : Loading A) (o o' :
   pub is : x ≡ fine it
   pub put : Put o o' at p (bytes it)
 
-module _ {A : Type 0} (bytes : A → List ℕ) (o o' : List ℕ) (at : ℕ) (r : Written) where
-  pub was_fine : (x : Loading A) (p : ℕ) → WrittenIs bytes x o o' at r → r ≡ wrote.Done p → WasFine bytes x o o' at p
-  unfolding WrittenIs
+module _ {A : Type 0} (bytes : A → List ℕ) (o o' : List ℕ) (at : ℕ) (r : Result ℕ why.Refused) where
+  pub was_fine : (x : Loading A) (p : ℕ) → WritesTo bytes x o o' at r → r ≡ Ok p → WasFine bytes x o o' at p
+  unfolding WritesTo
   was_fine (fine a) p (q, e, w) h = let i : q ≡ p = cc in record { it = a; is = refl; put = rw (← i) w }
   was_fine (not_loaded c l f) p e h = clash (cc)
 
   -- what is fine is written
-  is_written : (x : Loading A) (a : A) → x ≡ fine a → WrittenIs bytes x o o' at r → (p : ℕ) × Put o o' at p (bytes a)
-  unfolding WrittenIs
+  is_written : (x : Loading A) (a : A) → x ≡ fine a → WritesTo bytes x o o' at r → (p : ℕ) × Put o o' at p (bytes a)
+  unfolding WritesTo
   is_written (fine b) a h (p, e, w) = let i : b ≡ a = cc in (p, rw (← i) w)
   is_written (not_loaded c l f) a h e = clash (cc)
 
-  pub was_refused : (x : Loading A) (c : Refusal) (l f : ℕ) → WrittenIs bytes x o o' at r → r ≡ wrote.Refused c l f → x ≡ not_loaded c l f
-  unfolding WrittenIs
+  pub was_refused : (x : Loading A) (c : Refusal) (l f : ℕ) → WritesTo bytes x o o' at r → r ≡ Err (refusal_at c l f) → x ≡ not_loaded c l f
+  unfolding WritesTo
   was_refused (fine a) c l f (q, e, w) h = clash (cc)
-  was_refused (not_loaded a b d) c l f e h = cc
+  was_refused (not_loaded a b d) c l f e h =
+      let is : refusal_at a b d ≡ refusal_at c l f = cc in
+      ap (λ (r : why.Refused). not_loaded r.why r.line r.file) is
 
 -- the same for names
 pub record WasNamed (x : Loading (List (List ℕ))) (out' : List ℕ) (n len : ℕ) : Type 0 where
@@ -211,18 +215,21 @@ pub record WasNamed (x : Loading (List (List ℕ))) (out' : List ℕ) (n len : �
   pub size : len ≡ length (names_bytes it)
   pub front : take len out' ≡ names_bytes it
 
-module _ (out' : List ℕ) (r : Names) where
-  was_named : (x : Loading (List (List ℕ))) (n len : ℕ) → NamesRead x r out' → r ≡ names.Done n len → WasNamed x out' n len
+module _ (out' : List ℕ) (r : Result NameList why.Refused) where
+  was_named : (x : Loading (List (List ℕ))) (n len : ℕ) → NamesRead x r out' → r ≡ Ok (name_list n len) → WasNamed x out' n len
   unfolding NamesRead
   was_named (fine xs) n len (e, w) h =
-      let i : len ≡ length (names_bytes xs) = cc in
-      record { it = xs; is = refl; count = cc; size = i; front = rw i w }
+      let is : name_list n len ≡ name_list (length xs) (length (names_bytes xs)) = cc in
+      let i : len ≡ length (names_bytes xs) = ap (λ (l : NameList). l.len) is in
+      record { it = xs; is = refl; count = ap (λ (l : NameList). l.count) is; size = i; front = rw i w }
   was_named (not_loaded c l f) n len e h = clash (cc)
 
-  not_named : (x : Loading (List (List ℕ))) (c : Refusal) (l f : ℕ) → NamesRead x r out' → r ≡ names.Refused c l f → x ≡ not_loaded c l f
+  not_named : (x : Loading (List (List ℕ))) (c : Refusal) (l f : ℕ) → NamesRead x r out' → r ≡ Err (refusal_at c l f) → x ≡ not_loaded c l f
   unfolding NamesRead
   not_named (fine xs) c l f (e, w) h = clash (cc)
-  not_named (not_loaded a b d) c l f e h = cc
+  not_named (not_loaded a b d) c l f e h =
+      let is : refusal_at a b d ≡ refusal_at c l f = cc in
+      ap (λ (r : why.Refused). not_loaded r.why r.line r.file) is
 
 -- ---- the pack, written one part after the other
 
@@ -235,29 +242,51 @@ module _ (kind : NameType) (fs : List File) (names : List ℕ) (n : ℕ) where
 
   lists_then : (o o₁ o₂ o₃ : List ℕ) (q at t : ℕ) (gs : List Guess) → Put o o₁ 0 q (n ∷ names) → Put o₁ o₂ q at (guesses_bytes gs) → (o₄ : List ℕ)
       → Put o₂ o₄ at t ((3 * n + 2) ∷ [])
-      → (x : Loading (List (List Rule))) (r : Written) → WrittenIs (bytes_of_all list_bytes) x o₄ o₃ t r
-      → WrittenIs Same (and_load x (λ ls. fine ((n ∷ names) ++ (guesses_bytes gs ++ ((3 * n + 2) ∷ bytes_of_all list_bytes ls))))) o o₃ 0 r
-  unfolding WrittenIs and_load
+      → (x : Loading (List (List Rule))) (r : Result ℕ why.Refused) → WritesTo (bytes_of_all list_bytes) x o₄ o₃ t r
+      → WritesTo Same (and_load x (λ ls. fine ((n ∷ names) ++ (guesses_bytes gs ++ ((3 * n + 2) ∷ bytes_of_all list_bytes ls))))) o o₃ 0 r
+  unfolding WritesTo and_load
   lists_then o o₁ o₂ o₃ q at t gs a b o₄ c (fine ls) r (p, e, w) = (p, e, put_then a (put_then b (put_then c w)))
   lists_then o o₁ o₂ o₃ q at t gs a b o₄ c (not_loaded w l f) r e = e
 
-  module _ (o o₁ o₂ o₃ : List ℕ) (q : ℕ) (x : Written) (told : WrittenIs guesses_bytes (guess_file kind fs names) o₂ o₃ q x) where
-    pub packed_lists : (p at t : ℕ) (o₄ o₅ : List ℕ) (r : Written) → Put o o₁ 0 p (n ∷ []) → Put o₁ o₂ p q names → x ≡ wrote.Done at
-        → Put o₃ o₄ at t ((3 * n + 2) ∷ [])
-        → WrittenIs (bytes_of_all list_bytes) Lists o₄ o₅ t r → WrittenIs Same (packed_of kind fs names n) o o₅ 0 r
-    unfolding packed_of and_load
-    packed_lists p at t o₄ o₅ r a b h c lists =
-        let w = was_fine guesses_bytes o₂ o₃ q x (guess_file kind fs names) at told h in
-        rw w.is (lists_then o o₂ o₃ o₅ q at t w.it (put_then a b) w.put o₄ c Lists r lists)
+  -- the lists, as the public function tells them
+  by_done : (x : Loading (List (List Rule))) (o o' : List ℕ) (t at : ℕ) → WrittenIs (bytes_of_all list_bytes) x o o' t (wrote.Done at) → WritesTo (bytes_of_all list_bytes) x o o' t (Ok at)
+  unfolding WritesTo WrittenIs
+  by_done (fine ls) o o' t at (p, e, w) = let i : at ≡ p = cc in (p, ap (λ (k : ℕ). Ok k) i, w)
+  by_done (not_loaded c l f) o o' t at e = clash (cc)
 
-    pub packed_refused : (c : Refusal) (l f : ℕ) → x ≡ wrote.Refused c l f → WrittenIs Same (packed_of kind fs names n) o o₃ 0 (wrote.Refused c l f)
-    unfolding packed_of and_load WrittenIs
-    packed_refused c l f h = rw (was_refused guesses_bytes o₂ o₃ q x (guess_file kind fs names) c l f told h) refl
+  by_refused : (x : Loading (List (List Rule))) (o o' : List ℕ) (t : ℕ) (c : Refusal) (l f : ℕ) → WrittenIs (bytes_of_all list_bytes) x o o' t (wrote.Refused c l f)
+      → WritesTo (bytes_of_all list_bytes) x o o' t (Err (refusal_at c l f))
+  unfolding WritesTo WrittenIs
+  by_refused (fine ls) o o' t c l f (p, e, w) = clash (cc)
+  by_refused (not_loaded d m g) o o' t c l f e =
+      let i : c ≡ d = cc in
+      let j : l ≡ m = cc in
+      let k : f ≡ g = cc in
+      rw (i, j, k) refl
+
+  module _ (o o₁ o₂ o₃ : List ℕ) (q : ℕ) (x : Result ℕ why.Refused) (told : WritesTo guesses_bytes (guess_file kind fs names) o₂ o₃ q x) where
+    module _ (p at t : ℕ) (o₄ o₅ : List ℕ) (r : Written) (a : Put o o₁ 0 p (n ∷ [])) (b : Put o₁ o₂ p q names) (h : x ≡ Ok at) (c : Put o₃ o₄ at t ((3 * n + 2) ∷ []))
+        (lists : WrittenIs (bytes_of_all list_bytes) Lists o₄ o₅ t r) where
+      packed_by : (y : Result ℕ why.Refused) → WritesTo (bytes_of_all list_bytes) Lists o₄ o₅ t y → WritesTo Same (packed_of kind fs names n) o o₅ 0 y
+      unfolding packed_of and_load
+      packed_by y v =
+          let w = was_fine guesses_bytes o₂ o₃ q x (guess_file kind fs names) at told h in
+          rw w.is (lists_then o o₂ o₃ o₅ q at t w.it (put_then a b) w.put o₄ c Lists y v)
+
+      pub packed_lists : (e : ℕ) → r ≡ wrote.Done e → WritesTo Same (packed_of kind fs names n) o o₅ 0 (Ok e)
+      packed_lists e i = packed_by _ (by_done Lists o₄ o₅ t e (rw i at lists))
+
+      pub packed_stop : (d : Refusal) (l f : ℕ) → r ≡ wrote.Refused d l f → WritesTo Same (packed_of kind fs names n) o o₅ 0 (Err (refusal_at d l f))
+      packed_stop d l f i = packed_by _ (by_refused Lists o₄ o₅ t d l f (rw i at lists))
+
+    pub packed_refused : (c : why.Refused) → x ≡ Err c → WritesTo Same (packed_of kind fs names n) o o₃ 0 (Err c)
+    unfolding packed_of and_load WritesTo
+    packed_refused c h = rw (was_refused guesses_bytes o₂ o₃ q x (guess_file kind fs names) c.why c.line c.file told h) refl
 
 -- ---- measured, and then written
 
-module _ (x : Loading (List ℕ)) (o o' : List ℕ) (w : Written) (m : WrittenIs Same x o o' 0 w) where
-  pub answer_long : (n k : ℕ) (out : List ℕ) → w ≡ wrote.Done n → length out < n → k ≡ min 4294967295 n
+module _ (x : Loading (List ℕ)) (o o' : List ℕ) (w : Result ℕ why.Refused) (m : WritesTo Same x o o' 0 w) where
+  pub answer_long : (n k : ℕ) (out : List ℕ) → w ≡ Ok n → length out < n → k ≡ min n 4294967295
       → AnswerIs x out (loaded.Refused NoRoom k 0) out
   unfolding answer filled loaded_numbers
   answer_long n k out h l e =
@@ -269,12 +298,12 @@ module _ (x : Loading (List ℕ)) (o o' : List ℕ) (w : Written) (m : WrittenIs
         buffer = rw v.is (sym (pick_false _ _ _ t));
       }
 
-  pub answer_refused : (c : Refusal) (l f : ℕ) (out : List ℕ) → w ≡ wrote.Refused c l f → AnswerIs x out (loaded.Refused c l f) out
+  pub answer_refused : (c : why.Refused) (out : List ℕ) → w ≡ Err c → AnswerIs x out (loaded.Refused c.why c.line c.file) out
   unfolding answer filled loaded_numbers
-  answer_refused c l f out h = rw (was_refused Same o o' 0 w x c l f m h) (record { result = refl; buffer = refl })
+  answer_refused c out h = rw (was_refused Same o o' 0 w x c.why c.line c.file m h) (record { result = refl; buffer = refl })
 
   -- the bytes of the pack, put where they fit
-  module _ (n : ℕ) (out out' : List ℕ) (h : w ≡ wrote.Done n) (l : n ≤ length out) where
+  module _ (n : ℕ) (out out' : List ℕ) (h : w ≡ Ok n) (l : n ≤ length out) where
     fine_is : WasFine Same x o o' 0 n
     fine_is = was_fine Same o o' 0 w x n m h
 
@@ -289,7 +318,7 @@ module _ (x : Loading (List ℕ)) (o o' : List ℕ) (w : Written) (m : WrittenIs
           buffer = rw v.is (u.wrote ∙ sym (pick_true _ _ _ t));
         }
 
-    pub answer_done : (w' : Written) → WrittenIs Same x out out' 0 w' → AnswerIs x out (loaded.Done n) out'
+    pub answer_done : (w' : Result ℕ why.Refused) → WritesTo Same x out out' 0 w' → AnswerIs x out (loaded.Done n) out'
     answer_done w' told = let v = fine_is in done_by _ (is_written Same out out' 0 w' x v.it v.is told).1
 
     pub answer_copied : (e : ℕ) → n ≤ length o' → Put out out' 0 e (take (n - 0) (drop 0 o')) → AnswerIs x out (loaded.Done n) out'
@@ -346,31 +375,33 @@ unfolding packed_of pack_from lists_in and_load
 packed_is kind fs xs bytes n h e c =
     rw (e, c, h, strings_names xs) (parts_packed xs (guess_file kind fs (names_bytes xs)) (lists_of (names_bytes xs) fs (list_files (type_prefix kind) xs)) (lists_counted kind fs xs))
 
-module _ (kind : NameType) (fs : List File) (nm : List ℕ) (r : Names) (w : NamesRead (names_of kind fs) r nm) where
-  pub files_no_names : (c : Refusal) (l f : ℕ) (out : List ℕ) → r ≡ names.Refused c l f
-      → AnswerIs (written (pack_from kind fs)) out (loaded.Refused c l f) out
+module _ (kind : NameType) (fs : List File) (nm : List ℕ) (r : Result NameList why.Refused) (w : NamesRead (names_of kind fs) r nm) where
+  pub files_no_names : (c : why.Refused) (out : List ℕ) → r ≡ Err c → AnswerIs (written (pack_from kind fs)) out (loaded.Refused c.why c.line c.file) out
   unfolding pack_from and_load
-  files_no_names c l f out h = refused_is (pack_from kind fs) c l f out (rw (not_named nm r _ c l f w h) refl)
+  files_no_names c out h = refused_is (pack_from kind fs) c.why c.line c.file out (rw (not_named nm r _ c.why c.line c.file w h) refl)
 
-  module _ (n len : ℕ) (h : r ≡ names.Done n len) where
-    pub files_slice : len ≤ length nm
-    files_slice = let v = was_named nm r _ n len w h in omega (arith, v.size, ap length v.front, length-take len nm)
+  module _ (list : NameList) (h : r ≡ Ok list) where
+    named : WasNamed (names_of kind fs) nm list.count list.len
+    named = was_named nm r _ list.count list.len w h
 
-    pub files_languages : n ≤ 32
-    files_languages = let v = was_named nm r _ n len w h in rw v.count (names_few kind fs v.it v.is)
+    pub files_slice : list.len ≤ length nm
+    files_slice = let v = named in omega (arith, v.size, ap length v.front, length-take list.len nm)
 
-    pub files_done : (out out' : List ℕ) (z : Loaded) → AnswerIs (packed_of kind fs (take (len - 0) (drop 0 nm)) n) out z out'
+    pub files_languages : list.count ≤ 32
+    files_languages = let v = named in rw v.count (names_few kind fs v.it v.is)
+
+    pub files_done : (out out' : List ℕ) (z : Loaded) → AnswerIs (packed_of kind fs (take (list.len - 0) (drop 0 nm)) list.count) out z out'
         → AnswerIs (written (pack_from kind fs)) out z out'
     files_done out out' z a =
-        let v = was_named nm r _ n len w h in
-        rw (← packed_is kind fs v.it _ n v.is (ap (λ (k : ℕ). take k nm) (sub-zero len) ∙ v.front) v.count) a
+        let v = named in
+        rw (← packed_is kind fs v.it _ list.count v.is (ap (λ (k : ℕ). take k nm) (sub-zero list.len) ∙ v.front) v.count) a
 
 -- ---- any bytes
 
 -- what goes on with a type's number goes on with its kind
-on_kind : {A : Type 0} → Kind → A → (NameType → A) → A
-on_kind (kinds.Is kind) x k = k kind
-on_kind kinds.Unknown x k = x
+on_kind : {A : Type 0} → Option NameType → A → (NameType → A) → A
+on_kind (Some kind) x k = k kind
+on_kind None x k = x
 
 kind_on : {A : Type 0} (ty : ℕ) (x : A) (k : NameType → A) → on_type ty x k ≡ on_kind (type_numbered ty) x k
 unfolding type_numbered on_type on_kind
@@ -391,12 +422,12 @@ unfolding on_bundle well_formed
 bundle_good s cut k e b = clash (cc)
 bundle_good s (got fs r) k e b = pick_true _ _ _ b ∙ ap k (sym (files_read s fs r e))
 
-module _ (ty : ℕ) (s out : List ℕ) (x : Kind) (e : x ≡ type_numbered ty) where
-  pub load_unknown : x ≡ kinds.Unknown → AnswerIs (written (load_of ty s)) out (loaded.Refused SettingUnknown 0 0) out
+module _ (ty : ℕ) (s out : List ℕ) (x : Option NameType) (e : x ≡ type_numbered ty) where
+  pub load_unknown : x ≡ None → AnswerIs (written (load_of ty s)) out (loaded.Refused SettingUnknown 0 0) out
   unfolding load_of on_kind
   load_unknown h = refused_is (load_of ty s) SettingUnknown 0 0 out (kind_on ty _ _ ∙ rw (← e, h) refl)
 
-  module _ (kind : NameType) (h : x ≡ kinds.Is kind) where
+  module _ (kind : NameType) (h : x ≡ Some kind) where
     known_is : load_of ty s ≡ on_bundle (read_bundle s) (pack_from kind)
     unfolding load_of on_kind
     known_is = kind_on ty _ _ ∙ rw (← e, h) refl
@@ -410,7 +441,7 @@ module _ (ty : ℕ) (s out : List ℕ) (x : Kind) (e : x ≡ type_numbered ty) w
 
 pub ruleset names_loaded = (rules, names_found, found_order, found_within, names_missing)
 
-pub ruleset packs = (rules, packed_lists, packed_refused)
+pub ruleset packs = (rules, packed_lists, packed_stop, packed_refused)
 
 pub ruleset answers = (rules, answer_long, answer_refused, answer_done, answer_copied)
 

@@ -1,9 +1,7 @@
 -- The guessing file (01, Rule files and includes: "Guessing lines").
-use Rattle.std.specs.Prelude.{ℕ, Bool, true, false, List, leb, ltb, length}
+use Rattle.std.specs.Prelude.{ℕ, Bool, true, false, List, leb, ltb, length, Option, Some, None}
 use Rattle.base.specs.Pick.{pick}
 use Rattle.refusals.specs.declared.Refusal.TheVariants.{LineUnreadable, OutsideForms, NameUnlisted, TooMuch}
-use Rattle.languages.specs.declared.names.Listed.{Listed}
-use Rattle.languages.specs.declared.names.Listed.TheVariants.{Bit, Unlisted}
 use Rattle.phonemes.specs.Expressions.{cut_at, plus, names_mask}
 use Rattle.lang.specs.Patterns.{in_forms}
 use Rattle.pack.specs.Packs as packs
@@ -21,9 +19,9 @@ accept_of true = 1
 accept_of false = 0
 
 -- "an unlisted name in a rule or guessing line, an empty one too, is 16"
-unfoldable pub with_mask : Bool → List ℕ → Listed → Kept packs.Guess
-with_mask v pattern (Bit m) = keeps (packs.guess (accept_of v) m pattern)
-with_mask v pattern Unlisted = fault NameUnlisted
+unfoldable pub with_mask : Bool → List ℕ → Option ℕ → Kept packs.Guess
+with_mask v pattern (Some m) = keeps (packs.guess (accept_of v) m pattern)
+with_mask v pattern None = fault NameUnlisted
 
 -- "in a line 12, 13, 18, 15 .., 16"
 unfoldable pub judged_guess : List ℕ → Bool → List ℕ → List ℕ → Kept packs.Guess

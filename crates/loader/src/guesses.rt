@@ -3,53 +3,29 @@ ghost use Rattle.std.specs.Prelude.{◌≡◌, ◌≤◌};
 ghost use Rattle.writing.specs.InnerContracts.{Put, cap};
 ghost use Rattle.loader.specs.InnerContracts.{guess_put, judged_as, GuessesAre};
 
-use languages::Listed;
 use refusals::Refusal;
+use rule_lists::Refused;
 use rules_parser::{Clause, FileKind, Item, Text};
 
-// The mask of a guessing rule, or its fault.
+// How many guessing rules were written, and where they end.
 #[derive(Clone, Copy)]
-pub(crate) enum Judged {
-    Mask { mask: u32 },
-    Fault { why: Refusal },
+pub(crate) struct GuessPart {
+    pub(crate) count: usize,
+    pub(crate) end: usize,
 }
 
-// How many rules were written and where they end, or the refusal.
-#[derive(Clone, Copy)]
-pub(crate) enum Guessed {
-    Done {
-        count: usize,
-        at: usize,
-    },
-    Refused {
-        why: Refusal,
-        line: usize,
-        file: usize,
-    },
-}
-
-// In the order 18, 15, 16.
+// The mask of a guessing rule, or its fault, in the order 18, 15, 16.
 #[tactic(auto, using(crate::proofs::GuessLaws::judges))]
-fn judge(names: &[u8], pattern: &[u8], joined: &[u8]) -> Judged
+fn judge(names: &[u8], pattern: &[u8], joined: &[u8]) -> Result<u32, Refusal>
     ensures { result ≡ judged_as names.now pattern.now joined.now }
 {
     if 255 < pattern.len() {
-        return Judged::Fault {
-            why: Refusal::TooMuch,
-        };
+        return Err(Refusal::TooMuch);
     }
-    if lang::check_pattern(pattern) {
-        match phonemes::names_mask(names, joined) {
-            Listed::Bit(mask) => Judged::Mask { mask },
-            Listed::Unlisted => Judged::Fault {
-                why: Refusal::NameUnlisted,
-            },
-        }
-    } else {
-        Judged::Fault {
-            why: Refusal::OutsideForms,
-        }
+    if !lang::check_pattern(pattern) {
+        return Err(Refusal::OutsideForms);
     }
+    phonemes::names_mask(names, joined).ok_or(Refusal::NameUnlisted)
 }
 
 // Writes a guessing rule.
@@ -57,7 +33,7 @@ fn judge(names: &[u8], pattern: &[u8], joined: &[u8]) -> Judged
 fn put_guess(accept: bool, mask: u32, pattern: &[u8], out: &mut [u8], at: usize) -> usize
     ensures { Put out.old out.new at result (guess_put accept mask pattern.now) }
 {
-    let p = writing::push(out, at, accept as u8);
+    let p = writing::push(out, at, u8::from(accept));
     let q = pack_bytes::put_mask(mask, out, p);
     pack_bytes::put_text(pattern, out, q)
 }
@@ -70,7 +46,7 @@ pub(crate) fn write_guesses(
     names: &[u8],
     out: &mut [u8],
     at: usize,
-) -> Guessed
+) -> Result<GuessPart, Refused>
     requires { at ≤ cap }
     ensures { GuessesAre names.now s.now file out.old at result out.new }
 {
@@ -78,6 +54,7 @@ pub(crate) fn write_guesses(
     let mut count: usize = 0;
     let mut p: usize = 0;
     let mut line: usize = 1;
+    // Stays a loop by hand: what was read says where the next line begins, and a refusal tells the line.
     while p < s.len() {
         match rules_parser::read_item(FileKind::Guesses, s, p) {
             Item::Passed { lines, next } => {
@@ -92,33 +69,33 @@ pub(crate) fn write_guesses(
                 } => {
                     let text = rules_parser::part(s, pattern);
                     match judge(names, text, rules_parser::part(s, joined)) {
-                        Judged::Mask { mask } => {
+                        Ok(mask) => {
                             place = put_guess(accept, mask, text, out, place);
                             count += 1;
                             line += 1;
                             p = next;
                         }
-                        Judged::Fault { why } => {
-                            return Guessed::Refused { why, line, file };
+                        Err(why) => {
+                            return Err(Refused { why, line, file });
                         }
                     }
                 }
                 _ => {
-                    return Guessed::Refused {
+                    return Err(Refused {
                         why: Refusal::LineUnreadable,
                         line,
                         file,
-                    };
+                    });
                 }
             },
             Item::Wrong => {
-                return Guessed::Refused {
+                return Err(Refused {
                     why: Refusal::LineUnreadable,
                     line,
                     file,
-                };
+                });
             }
         }
     }
-    Guessed::Done { count, at: place }
+    Ok(GuessPart { count, end: place })
 }

@@ -5,14 +5,13 @@ ghost use Rattle.rule_lists.specs.Lists.{type_prefix};
 ghost use Rattle.loader.specs.Loading.{languages_part, lang_part, names_of, guess_file, pack_from, written, AnswerIs, LoadIs};
 ghost use Rattle.loader.specs.InnerContracts.{type_numbered, NamesRead, guesses_bytes, packed_of};
 ghost use Rattle.bundles.specs.InnerContracts.{files_of};
-ghost use Rattle.rule_lists.specs.InnerContracts.{WrittenIs};
+ghost use Rattle.rule_lists.specs.InnerContracts.{WritesTo};
 
-use crate::guesses::Guessed;
-use crate::language_list::Names;
+use crate::language_list::NameList;
 use bundles::FileAt;
 use prefixes::NameType;
 use refusals::Refusal;
-use rule_lists::Written;
+use rule_lists::{Refused, Written};
 
 // The length of the buffer that a pack is made in; that of the real rules takes half of it.
 const OWN: usize = 65536;
@@ -30,31 +29,16 @@ pub enum Loaded {
     },
 }
 
-// The name type of a setting's number.
-#[derive(Clone, Copy)]
-pub(crate) enum Kind {
-    Is { kind: NameType },
-    Unknown,
-}
-
+// The name type of a setting's number, where it is known.
 #[tactic(auto, using(crate::proofs::LoadingLaws::types))]
-fn kind_of(name_type: u32) -> Kind
+fn kind_of(name_type: u32) -> Option<NameType>
     ensures { result ≡ type_numbered name_type }
 {
-    if name_type == 0 {
-        Kind::Is {
-            kind: NameType::Ashkenazi,
-        }
-    } else if name_type == 1 {
-        Kind::Is {
-            kind: NameType::Generic,
-        }
-    } else if name_type == 2 {
-        Kind::Is {
-            kind: NameType::Sephardic,
-        }
-    } else {
-        Kind::Unknown
+    match name_type {
+        0 => Some(NameType::Ashkenazi),
+        1 => Some(NameType::Generic),
+        2 => Some(NameType::Sephardic),
+        _ => None,
     }
 }
 
@@ -84,7 +68,7 @@ fn guessing_file(kind: NameType, bundle: &[u8]) -> FileAt
 
 // The names of a type's languages, each behind its length byte.
 #[tactic(auto, using(crate::proofs::LoadingLaws::names_loaded))]
-fn load_names(kind: NameType, bundle: &[u8], names: &mut [u8]) -> Names
+fn load_names(kind: NameType, bundle: &[u8], names: &mut [u8]) -> Result<NameList, Refused>
     requires { length names.old ≡ 832 }
     ensures { NamesRead (names_of kind (files_of bundle.now)) result names.new }
 {
@@ -92,42 +76,44 @@ fn load_names(kind: NameType, bundle: &[u8], names: &mut [u8]) -> Names
         FileAt::At { number, start, end } => {
             crate::language_list::read_names(&bundle[start..end], number, names)
         }
-        FileAt::Missing => Names::Refused {
+        FileAt::Missing => Err(Refused {
             why: Refusal::FileMissing,
             line: 0,
             file: 0,
-        },
+        }),
     }
 }
 
 // Writes what fits of a type's guessing rules, at most 4,096, behind their count, which is known and written last.
 #[tactic(auto, using(crate::proofs::LoadingLaws::guessed_laws))]
-fn load_guesses(kind: NameType, bundle: &[u8], names: &[u8], out: &mut [u8], at: usize) -> Written
-    ensures { WrittenIs guesses_bytes (guess_file kind (files_of bundle.now) names.now) out.old out.new at result }
+fn load_guesses(
+    kind: NameType,
+    bundle: &[u8],
+    names: &[u8],
+    out: &mut [u8],
+    at: usize,
+) -> Result<usize, Refused>
+    ensures { WritesTo guesses_bytes (guess_file kind (files_of bundle.now) names.now) out.old out.new at result }
 {
     match guessing_file(kind, bundle) {
         FileAt::At { number, start, end } => {
             let p = pack_bytes::put_count(0, out, at);
-            match crate::guesses::write_guesses(&bundle[start..end], number, names, out, p) {
-                Guessed::Done { count, at: end } => {
-                    if 4096 < count {
-                        return Written::Refused {
-                            why: Refusal::TooMuch,
-                            line: 0,
-                            file: 0,
-                        };
-                    }
-                    pack_bytes::put_count(count as u16, out, at);
-                    Written::Done { at: end }
-                }
-                Guessed::Refused { why, line, file } => Written::Refused { why, line, file },
+            let part = crate::guesses::write_guesses(&bundle[start..end], number, names, out, p)?;
+            if 4096 < part.count {
+                return Err(Refused {
+                    why: Refusal::TooMuch,
+                    line: 0,
+                    file: 0,
+                });
             }
+            pack_bytes::put_count(part.count as u16, out, at);
+            Ok(part.end)
         }
-        FileAt::Missing => Written::Refused {
+        FileAt::Missing => Err(Refused {
             why: Refusal::FileMissing,
             line: 0,
             file: 0,
-        },
+        }),
     }
 }
 
@@ -139,30 +125,18 @@ fn write_pack(
     names: &[u8],
     languages: usize,
     out: &mut [u8],
-) -> Written
+) -> Result<usize, Refused>
     requires { languages ≤ 32 }
-    ensures { WrittenIs (λ (bytes : List ℕ). bytes) (packed_of kind (files_of bundle.now) names.now languages)
+    ensures { WritesTo (λ (bytes : List ℕ). bytes) (packed_of kind (files_of bundle.now) names.now languages)
         out.old out.new 0 result }
 {
     let p = writing::push(out, 0, languages as u8);
     let q = writing::copy(names, out, p);
-    match load_guesses(kind, bundle, names, out, q) {
-        Written::Done { at } => {
-            let lists = writing::push(out, at, (3 * languages + 2) as u8);
-            rule_lists::write_lists(kind, bundle, names, out, lists)
-        }
-        Written::Refused { why, line, file } => Written::Refused { why, line, file },
-    }
-}
-
-// The length needed, 4294967295 if more.
-fn needed(length: usize) -> usize
-    ensures { result ≡ min 4294967295 length }
-{
-    if length < 4294967295 {
-        length
-    } else {
-        4294967295
+    let end = load_guesses(kind, bundle, names, out, q)?;
+    let lists = writing::push(out, end, (3 * languages + 2) as u8);
+    match rule_lists::write_lists(kind, bundle, names, out, lists) {
+        Written::Done { at } => Ok(at),
+        Written::Refused { why, line, file } => Err(Refused { why, line, file }),
     }
 }
 
@@ -181,11 +155,11 @@ fn load_pack(
 {
     let mut own = [0u8; OWN];
     match write_pack(kind, bundle, names, languages, &mut own) {
-        Written::Done { at: length } => {
+        Ok(length) => {
             if out.len() < length {
                 return Loaded::Refused {
                     why: Refusal::NoRoom,
-                    place: needed(length),
+                    place: length.min(4294967295),
                     file: 0,
                 };
             }
@@ -193,10 +167,10 @@ fn load_pack(
                 writing::copy(&own[0..length], out, 0);
                 return Loaded::Done { length };
             }
-            write_pack(kind, bundle, names, languages, out);
+            let _ = write_pack(kind, bundle, names, languages, out);
             Loaded::Done { length }
         }
-        Written::Refused { why, line, file } => Loaded::Refused {
+        Err(Refused { why, line, file }) => Loaded::Refused {
             why,
             place: line,
             file,
@@ -211,11 +185,8 @@ fn load_files(kind: NameType, bundle: &[u8], out: &mut [u8]) -> Loaded
 {
     let mut names = [0u8; 832];
     match load_names(kind, bundle, &mut names) {
-        Names::Done {
-            count: languages,
-            len,
-        } => load_pack(kind, bundle, &names[0..len], languages, out),
-        Names::Refused { why, line, file } => Loaded::Refused {
+        Ok(list) => load_pack(kind, bundle, &names[0..list.len], list.count, out),
+        Err(Refused { why, line, file }) => Loaded::Refused {
             why,
             place: line,
             file,
@@ -229,7 +200,7 @@ pub fn load(name_type: u32, bundle: &[u8], out: &mut [u8]) -> Loaded
     ensures { LoadIs name_type bundle.now out.old result out.new }
 {
     match kind_of(name_type) {
-        Kind::Is { kind } => {
+        Some(kind) => {
             if bundles::check_bundle(bundle) {
                 load_files(kind, bundle, out)
             } else {
@@ -240,7 +211,7 @@ pub fn load(name_type: u32, bundle: &[u8], out: &mut [u8]) -> Loaded
                 }
             }
         }
-        Kind::Unknown => Loaded::Refused {
+        None => Loaded::Refused {
             why: Refusal::SettingUnknown,
             place: 0,
             file: 0,

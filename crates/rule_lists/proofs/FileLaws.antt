@@ -8,7 +8,6 @@ use native.Mathlib.Omega.{arith}
 use borrow.Author.Rules.{rules}
 use lib.ListN.{length, take, drop}
 use borrow.Author.Tests.{leb-true, le-leb}
-use Rattle.refusals.specs.declared.Refusal.{Refusal}
 use Rattle.refusals.specs.declared.Refusal.TheVariants.{FileMissing, TooMuch}
 use Rattle.base.proofs.Arms.{clash}
 use Rattle.pack.specs.Packs.{ordered_by_code}
@@ -28,14 +27,14 @@ use Rattle.held.proofs.Finished.{From, finished_from, finished_all, length_kept}
 use Rattle.held.proofs.Keys.{finished_keys}
 use Rattle.rule_lists.specs.Outcomes.{Loading, fine, not_loaded, and_load}
 use Rattle.rule_lists.specs.Lines.{lines_of}
+use Rattle.rule_lists.specs.declared.tables.Spot.{Spot}
 use Rattle.rule_lists.specs.TableContracts.{KeptIs, keys_of}
 use Rattle.rule_lists.specs.InnerContracts as collects
-use Rattle.rule_lists.specs.InnerContracts.{read_from, kept_as, CollectIs, WrittenIs}
+use Rattle.rule_lists.specs.InnerContracts.{refusal_at, read_from, kept_as, CollectIs, WritesTo}
 use Rattle.rule_lists.specs.WritingContracts.{rule_put, SomeKept, RowsPut}
 use Rattle.rule_lists.specs.Lists.{list_in, list_named, first_code_of, files_for, counted_rules}
-use Rattle.rule_lists.specs.declared.walk.Collected.{Collected}
-use Rattle.rule_lists.specs.declared.walk.Collected.TheVariants as collected
-use Rattle.rule_lists.specs.declared.list_writing.Written.TheVariants.{Done, Refused}
+use Rattle.std.specs.Prelude.{Result, Ok, Err}
+use Rattle.rule_lists.specs.declared.refused.Refused as why
 use Rattle.rule_lists.proofs.TableLaws.{kept_rows, keys_from_lem}
 use Rattle.rule_lines.proofs.Laws.{good_short}
 use Rattle.rule_lists.proofs.FollowLaws.{found_stands}
@@ -74,7 +73,7 @@ counted_fine (was_read u) t e = ⊎_elim (λ w. let q : u ≡ t = cc w.1 in (ap 
 counted_fine (files.not_read c l f) t e = clash (cc)
 
 -- what was collected
-pub record Collects (bundle : List ℕ) (x : Loading (Met Rule)) (rows : List ℕ) (n : ℕ) : Type 0 where
+pub record Collects (bundle : List ℕ) (x : Loading (Met Rule)) (rows : List Spot) (n : ℕ) : Type 0 where
   pub what : Met Rule
   pub is : x ≡ fine what
   pub short : entries what ≤ 256
@@ -82,15 +81,15 @@ pub record Collects (bundle : List ℕ) (x : Loading (Met Rule)) (rows : List �
   pub kept : KeptIs bundle rows n (kept_as what)
 
 module _ {bundle : List ℕ} where
-  collect_done : {x : Loading (Met Rule)} {g : Collected} {rows : List ℕ} {n : ℕ} → CollectIs bundle x g rows → g ≡ collected.Rules n → Collects bundle x rows n
+  collect_done : {x : Loading (Met Rule)} {g : Result ℕ why.Refused} {rows : List Spot} {n : ℕ} → CollectIs bundle x g rows → g ≡ Ok n → Collects bundle x rows n
   collect_done {n = n} (collects.all {t} {n = m} short few h) e = let q : m ≡ n = cc in record { what = t; is = refl; short = short; few = rw q at few; kept = rw q at h }
   collect_done collects.refused e = clash (cc)
 
-  collect_stop : {x : Loading (Met Rule)} {g : Collected} {rows : List ℕ} {c : Refusal} {l f : ℕ} → CollectIs bundle x g rows → g ≡ collected.Refused c l f → x ≡ not_loaded c l f
+  collect_stop : {x : Loading (Met Rule)} {g : Result ℕ why.Refused} {rows : List Spot} {r : why.Refused} → CollectIs bundle x g rows → g ≡ Err r → x ≡ not_loaded r.why r.line r.file
   collect_stop (collects.all short few h) e = clash (cc)
-  collect_stop collects.refused e = cc
+  collect_stop {r = r} (collects.refused {c} {l} {f}) e = let z : refusal_at c l f ≡ r = cc in ap (λ (r : why.Refused). not_loaded r.why r.line r.file) z
 
-  module _ {x : Loading (Met Rule)} {g : Collected} {rows : List ℕ} {n : ℕ} (v : CollectIs bundle x g rows) (e : g ≡ collected.Rules n) where
+  module _ {x : Loading (Met Rule)} {g : Result ℕ why.Refused} {rows : List Spot} {n : ℕ} (v : CollectIs bundle x g rows) (e : g ≡ Ok n) where
     pub list_few : n ≤ 4096
     list_few = (collect_done v e).few
 
@@ -112,7 +111,7 @@ module _ (names : List ℕ) (fs : List File) (k : ℕ) (s : List ℕ) (t : Met R
   good_finished = each_all _ (finished_all first_code_of (GoodRead names) t (each_read names fs k s t read))
 
   -- rows that are kept, written by their keys, are the finished list
-  list_bytes_lem : (bundle rows : List ℕ) (n : ℕ) → entries t ≤ 256 → KeptIs bundle rows n (kept_as t) → count_bytes n ++ key_bytes rule_put (kept_as t) (keys_of rows n 0 []) ≡ list_bytes (finished first_code_of t)
+  list_bytes_lem : (bundle : List ℕ) (rows : List Spot) (n : ℕ) → entries t ≤ 256 → KeptIs bundle rows n (kept_as t) → count_bytes n ++ key_bytes rule_put (kept_as t) (keys_of rows n 0 []) ≡ list_bytes (finished first_code_of t)
   unfolding list_bytes kept_as
   list_bytes_lem bundle rows n short h =
       let all = length_kept first_code_of t short (within_all t) in
@@ -124,8 +123,8 @@ module _ (names : List ℕ) (fs : List File) (k : ℕ) (s : List ℕ) (t : Met R
       ∙ finished_keys first_code_of rule_put t short (within_all t) (omega (arith, kept)) ∙ rules_short names (finished first_code_of t) good_finished)
 
 module _ (bundle names wanted : List ℕ) (f : FileAt) (w : file_numbers f ≡ file_at bundle wanted) where
-  pub list_missing : f ≡ Missing → (o : List ℕ) (at : ℕ) → WrittenIs list_bytes (list_named names (files_of bundle) wanted) o o at (Refused FileMissing 0 0)
-  unfolding list_named list_in WrittenIs
+  pub list_missing : f ≡ Missing → (o : List ℕ) (at : ℕ) → WritesTo list_bytes (list_named names (files_of bundle) wanted) o o at (Err (refusal_at FileMissing 0 0))
+  unfolding list_named list_in WritesTo
   list_missing q o at = rw (missing_is bundle wanted f w q) refl
 
   module _ (k a b : ℕ) (q : f ≡ At k a b) where
@@ -133,13 +132,13 @@ module _ (bundle names wanted : List ℕ) (f : FileAt) (w : file_numbers f ≡ f
     unfolding list_named list_in
     list_found = ap (list_in names (files_of bundle)) (found_is bundle wanted f w k a b q)
 
-    module _ (g : Collected) (rows : List ℕ) (v : CollectIs bundle (counted_rules (read_from bundle names (record { file = k; start = a; end = b; left = 8 }) 0)) g rows) where
-      pub list_refused : (c : Refusal) (l i : ℕ) → g ≡ collected.Refused c l i → (o o' : List ℕ) (at : ℕ) → WrittenIs list_bytes (list_named names (files_of bundle) wanted) o o' at (Refused c l i)
-      unfolding WrittenIs and_load read_from read_listed
-      list_refused c l i e o o' at = rw (list_found, collect_stop {c = c} v e) refl
+    module _ (g : Result ℕ why.Refused) (rows : List Spot) (v : CollectIs bundle (counted_rules (read_from bundle names (record { file = k; start = a; end = b; left = 8 }) 0)) g rows) where
+      pub list_refused : (r : why.Refused) → g ≡ Err r → (o o' : List ℕ) (at : ℕ) → WritesTo list_bytes (list_named names (files_of bundle) wanted) o o' at (Err r)
+      unfolding WritesTo and_load read_from read_listed
+      list_refused r e o o' at = rw (list_found, collect_stop v e) refl
 
-      pub list_told : (n : ℕ) → g ≡ collected.Rules n → (o o' : List ℕ) (at p : ℕ) → RowsPut bundle rows n o at p o' → WrittenIs list_bytes (list_named names (files_of bundle) wanted) o o' at (Done p)
-      unfolding WrittenIs and_load read_from read_listed
+      pub list_told : (n : ℕ) → g ≡ Ok n → (o o' : List ℕ) (at p : ℕ) → RowsPut bundle rows n o at p o' → WritesTo list_bytes (list_named names (files_of bundle) wanted) o o' at (Ok p)
+      unfolding WritesTo and_load read_from read_listed
       list_told n e o o' at p u =
           let w = collect_done v e in
           rw (list_found, w.is) (p, refl, rw (list_bytes_lem names (files_of bundle) k _ w.what w.is bundle rows n w.short w.kept) at (u.is _ w.kept))

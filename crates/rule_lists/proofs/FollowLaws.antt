@@ -18,15 +18,16 @@ use Rattle.bundles.specs.declared.FileAt.TheVariants.{At, Missing}
 use Rattle.bundles.proofs.Laws.{missing_is, found_is, found_order, found_within}
 use Rattle.held.specs.Files.{FileRead, not_read, on_content, read_lines, follow}
 use Rattle.rule_lists.specs.Lists.{content_in, files_for}
-use Rattle.rule_lists.specs.InnerContracts.{Ready, InBundle, read_from, read_included, one_more, stopped, Walks}
+use Rattle.rule_lists.specs.InnerContracts.{refusal_at, Ready, InBundle, read_from, read_included, one_more, stopped, Walks}
+use Rattle.rule_lists.specs.declared.tables.Spot.{Spot}
 use Rattle.rule_lists.specs.declared.walk.Task.{Task}
 use Rattle.rule_lists.specs.declared.walk.State.{State}
-use Rattle.rule_lists.specs.declared.walk.Walked.{Walked}
-use Rattle.rule_lists.specs.declared.walk.Walked.TheVariants.{Refused}
+use Rattle.std.specs.Prelude.{Result, Err}
+use Rattle.rule_lists.specs.declared.refused.Refused.{Refused}
 use Rattle.rule_lists.specs.declared.walk.IncludeAt.{IncludeAt}
 
-refused : {bundle : List ℕ} {task : Task} {st : State} {x : FileRead Rule} {lasts rows lasts' rows' : List ℕ} (c : Refusal) (l f : ℕ) → x ≡ not_read c l f
-    → Walks bundle task st x lasts rows (Refused c l f) lasts' rows'
+refused : {bundle : List ℕ} {task : Task} {st : State} {x : FileRead Rule} {lasts : List ℕ} {rows : List Spot} {lasts' : List ℕ} {rows' : List Spot} (c : Refusal) (l f : ℕ) → x ≡ not_read c l f
+    → Walks bundle task st x lasts rows (Err (refusal_at c l f)) lasts' rows'
 refused c l f e = record { told = λ a h. rw e stopped; followed = λ st' q. clash (cc); noted = λ st' q i. clash (cc) }
 
 -- where it may be nested
@@ -36,19 +37,19 @@ some_left z = omega arith
 pub follow_less : (n t : ℕ) → (n ≡ 0 → ⊥) → n * 2 ≡ t → (n - 1) * 2 + 1 < t
 follow_less n t z e = omega arith
 
-pub more_ready : {bundle : List ℕ} {task : Task} {st : State} {lasts rows : List ℕ} → st.followed < 256 → Ready bundle task st lasts rows → Ready bundle task (one_more st) lasts rows
+pub more_ready : {bundle : List ℕ} {task : Task} {st : State} {lasts : List ℕ} {rows : List Spot} → st.followed < 256 → Ready bundle task st lasts rows → Ready bundle task (one_more st) lasts rows
 more_ready h y = let u = y.some.1 in record { some = (y.some.0, record { noted = u.noted; kept = u.kept }); followed = omega arith; whole = y.whole }
 
-module _ (bundle names name : List ℕ) (at : IncludeAt) (task : Task) (st : State) (lasts rows : List ℕ) where
-  abbrev Reads : Walked → List ℕ → List ℕ → Type 0
+module _ (bundle names name : List ℕ) (at : IncludeAt) (task : Task) (st : State) (lasts : List ℕ) (rows : List Spot) where
+  abbrev Reads : Result State Refused → List ℕ → List Spot → Type 0
   Reads w lasts' rows' = Walks bundle task (one_more st) (read_included bundle names at name st.followed) lasts rows w lasts' rows'
 
-  pub follow_deep : at.left ≡ 0 → Reads (Refused IncludeTooDeep at.line at.file) lasts rows
+  pub follow_deep : at.left ≡ 0 → Reads (Err (refusal_at IncludeTooDeep at.line at.file)) lasts rows
   unfolding follow
   follow_deep z = refused _ _ _ (rw z refl)
 
   module _ (z : at.left ≡ 0 → ⊥) where
-    pub follow_many : 256 ≤ st.followed → Reads (Refused IncludeTooDeep at.line at.file) lasts rows
+    pub follow_many : 256 ≤ st.followed → Reads (Err (refusal_at IncludeTooDeep at.line at.file)) lasts rows
     unfolding follow
     follow_many h = refused _ _ _ (rw (some_left z) (pick_true _ _ _ (le-leb 256 st.followed h)))
 
@@ -59,11 +60,11 @@ module _ (bundle names name : List ℕ) (at : IncludeAt) (task : Task) (st : Sta
       unfolding follow files_for
       reads x e = rw (← e) (ap (λ (i : ℕ). follow (files_for names (files_of bundle)) i name at.file at.line st.followed) (some_left z) ∙ pick_false _ _ _ (lt-leb 256 st.followed h))
 
-      pub follow_missing : r ≡ Missing → Reads (Refused FileMissing at.line at.file) lasts rows
+      pub follow_missing : r ≡ Missing → Reads (Err (refusal_at FileMissing at.line at.file)) lasts rows
       unfolding content_in on_content
       follow_missing e = refused _ _ _ (reads _ (missing_is bundle name r f e))
 
-      pub follow_in : (k a b : ℕ) → r ≡ At k a b → (w : Walked) (lasts' rows' : List ℕ)
+      pub follow_in : (k a b : ℕ) → r ≡ At k a b → (w : Result State Refused) (lasts' : List ℕ) (rows' : List Spot)
           → Walks bundle task (one_more st) (read_from bundle names (record { file = k; start = a; end = b; left = at.left - 1 }) (st.followed + 1)) lasts rows w lasts' rows' → Reads w lasts' rows'
       unfolding content_in on_content read_from
       follow_in k a b e w lasts' rows' v = rw (reads _ (found_is bundle name r f k a b e)) v

@@ -16,6 +16,7 @@ use Rattle.rules_parser.specs.declared.files.Item.{Item}
 use Rattle.rules_parser.specs.declared.files.Item.TheVariants as item
 use Rattle.rule_lines.specs.declared.Fault.{Fault}
 use Rattle.rule_lines.specs.declared.Fault.TheVariants.{Is, Without}
+use Rattle.std.specs.Prelude.{Result, Ok, Err}
 use Rattle.rule_lists.specs.declared.lines.Row.{Row}
 use Rattle.rule_lists.specs.declared.lines.Row.TheVariants as row
 use Rattle.rule_lists.specs.InnerContracts.{row_by, row_told, row_in, row_at}
@@ -31,17 +32,17 @@ module _ (names s p l r e : List ℕ) (a b c d : Text) (n : ℕ) (fault : Fault)
   unfolding row_told
   row_by_lem x z = ap₂ (λ (y : Fault) (k : ℕ). row_by y k n) (sym z ∙ by) (ap first_code ep)
 
-  pub row_rule : (k : ℕ) → fault ≡ Without → k ≡ first_code p → row.Rule k n ≡ row_told names s a b c d n
+  pub row_rule : (k : ℕ) → fault ≡ Without → k ≡ first_code p → Ok (row.Rule k n) ≡ row_told names s a b c d n
   unfolding row_by
-  row_rule k z h = ap (λ (x : ℕ). row.Rule x n) h ∙ row_by_lem Without z
+  row_rule k z h = ap (λ (x : ℕ). Ok (row.Rule x n)) h ∙ row_by_lem Without z
 
-  pub row_fault : (w : Refusal) → fault ≡ Is w → row.Bad w ≡ row_told names s a b c d n
+  pub row_fault : (w : Refusal) → fault ≡ Is w → Err w ≡ row_told names s a b c d n
   unfolding row_by
   row_fault w z = row_by_lem (Is w) z
 
 -- ---- a line
 
-module _ (names s : List ℕ) (p : ℕ) (i : Item) (is : i ≡ item_at Rules s p) (r : Row) where
+module _ (names s : List ℕ) (p : ℕ) (i : Item) (is : i ≡ item_at Rules s p) (r : Result Row Refusal) where
   pub row_item : (j : Item) → i ≡ j → r ≡ row_in names s j → r ≡ row_at names s p
   unfolding row_at
   row_item j h e = e ∙ ap (row_in names s) (sym h ∙ is)

@@ -1,4 +1,5 @@
 -- A law for each way that the functions of `lists` can go. Assumes nothing.
+use Rattle.strings.specs.declared.Span.{Span}
 use mathlib.Core.Path.{◌≡◌, refl, ap, ◌∙◌}
 use mathlib.Core.List.{List, [], ◌∷◌, ◌++◌, append-nil}
 use Prim.Native.Nat.{ℕ, suc, ◌-◌, ◌≤◌}
@@ -7,13 +8,10 @@ use borrow.Author.Rules.{rules}
 use lib.ListN.{length, get_or, take, drop, length-take, length-append}
 use mir.Syntax.{w8}
 use mir.Val.{Fits}
-use Rattle.refusals.specs.declared.Refusal.{Refusal}
 use Rattle.writing.specs.InnerContracts.{Put}
 use Rattle.base.proofs.Arms.{clash}
 use Rattle.writing.proofs.Laws.{put_then, put_long, put_fits}
 use Rattle.strings.specs.Reading.{strings, strings_of}
-use Rattle.strings.specs.declared.Next.{Next}
-use Rattle.strings.specs.declared.Next.TheVariants as next
 use Rattle.strings.proofs.Laws.{string_whole, strings_all, none_left, one_left, part_order, part_fits, walk_less}
 use Rattle.prefixes.specs.declared.prefixes.NameType.{NameType}
 use Rattle.prefixes.specs.declared.prefixes.NameType.TheVariants.{Ashkenazi, Generic, Sephardic}
@@ -27,46 +25,63 @@ use Rattle.rule_lists.specs.WritingContracts.{list_part, list_name}
 use Rattle.rule_lists.specs.declared.lists.ListKind.{ListKind}
 use Rattle.rule_lists.specs.declared.lists.ListKind.TheVariants as list
 use Rattle.rule_lists.specs.declared.lists.ListName.{ListName}
-use Rattle.rule_lists.specs.declared.list_writing.Written.{Written}
-use Rattle.rule_lists.specs.declared.list_writing.Written.TheVariants.{Done, Refused}
+use Rattle.std.specs.Prelude.{Result, Ok, Err, Option, Some, None}
+use Rattle.rule_lists.specs.declared.refused.Refused.{Refused}
+use Rattle.rule_lists.specs.declared.list_writing.Written.TheVariants as wrote
 use Rattle.held.specs.Met.{bytes_of_all}
 use Rattle.strings.specs.InnerContracts.{string_at}
-use Rattle.rule_lists.specs.InnerContracts.{WrittenIs}
+use Rattle.rule_lists.specs.InnerContracts.{refusal_at, WritesTo, WrittenIs}
 
 -- ---- what an answer tells
 
-told_done : {A : Type 0} (f : A → List ℕ) (x : Loading A) (o o' : List ℕ) (at p : ℕ) (r : Written) → WrittenIs f x o o' at r → r ≡ Done p → (a : A) × (x ≡ fine a) × Put o o' at p (f a)
-unfolding WrittenIs
+told_done : {A : Type 0} (f : A → List ℕ) (x : Loading A) (o o' : List ℕ) (at p : ℕ) (r : Result ℕ Refused) → WritesTo f x o o' at r → r ≡ Ok p → (a : A) × (x ≡ fine a) × Put o o' at p (f a)
+unfolding WritesTo
 told_done f (fine a) o o' at p r w q =
     let e = w.1 in
     let same : w.0 ≡ p = cc in
     (a, refl, rw same at w.2)
 told_done f (not_loaded c l k) o o' at p r w q = clash (cc)
 
-told_refused : {A : Type 0} (f : A → List ℕ) (x : Loading A) (o o' : List ℕ) (at : ℕ) (c : Refusal) (l k : ℕ) (r : Written) → WrittenIs f x o o' at r → r ≡ Refused c l k → x ≡ not_loaded c l k
-unfolding WrittenIs
-told_refused f (fine a) o o' at c l k r w q = let e = w.1 in clash (cc)
-told_refused f (not_loaded d m j) o o' at c l k r w q = cc
+told_refused : {A : Type 0} (f : A → List ℕ) (x : Loading A) (o o' : List ℕ) (at : ℕ) (c : Refused) (r : Result ℕ Refused) → WritesTo f x o o' at r → r ≡ Err c → x ≡ not_loaded c.why c.line c.file
+unfolding WritesTo
+told_refused f (fine a) o o' at c r w q = let e = w.1 in clash (cc)
+told_refused f (not_loaded d m j) o o' at c r w q =
+    let is : refusal_at d m j ≡ c = cc in
+    ap (λ (e : Refused). not_loaded e.why e.line e.file) is
+
+-- and in the words of the public function
+module _ {A : Type 0} (f : A → List ℕ) (x : Loading A) (o o' : List ℕ) (at : ℕ) (r : Result ℕ Refused) (w : WritesTo f x o o' at r) where
+  pub public_done : (p : ℕ) → r ≡ Ok p → WrittenIs f x o o' at (wrote.Done p)
+  unfolding WrittenIs
+  public_done p q = let d = told_done f x o o' at p r w q in rw d.1 (p, refl, d.2)
+
+  pub public_refused : (c : Refused) → r ≡ Err c → WrittenIs f x o o' at (wrote.Refused c.why c.line c.file)
+  unfolding WrittenIs
+  public_refused c q = rw (told_refused f x o o' at c r w q) refl
+
+-- what is no whole string is cut
+pub cut_else : (r : Option Span) → ((part : Span) → r ≡ Some part → ⊥) → r ≡ None
+cut_else (Some w) h = absurd (h w refl)
+cut_else None h = refl
 
 -- ---- one part, and then another
 
 module _ {A B C : Type 0} (f : A → List ℕ) (g : B → List ℕ) (h : C → List ℕ) (k : A → B → C) (e : (a : A) (b : B) → h (k a b) ≡ f a ++ g b) where
-  then_done : (a : A) (y : Loading B) (o o₁ o₂ : List ℕ) (at p : ℕ) (s : Written) → Put o o₁ at p (f a) → WrittenIs g y o₁ o₂ p s → WrittenIs h (and_load y (λ b. fine (k a b))) o o₂ at s
-  unfolding WrittenIs and_load
+  then_done : (a : A) (y : Loading B) (o o₁ o₂ : List ℕ) (at p : ℕ) (s : Result ℕ Refused) → Put o o₁ at p (f a) → WritesTo g y o₁ o₂ p s → WritesTo h (and_load y (λ b. fine (k a b))) o o₂ at s
+  unfolding WritesTo and_load
   then_done a (fine b) o o₁ o₂ at p s v w = (w.0, w.1, rw (e a b) (put_then v w.2))
   then_done a (not_loaded c l i) o o₁ o₂ at p s v w = w
 
-  told_then : (x : Loading A) (y : Loading B) (o o₁ o₂ : List ℕ) (at p : ℕ) (r s : Written) → WrittenIs f x o o₁ at r → r ≡ Done p → WrittenIs g y o₁ o₂ p s
-      → WrittenIs h (and_load x (λ a. and_load y (λ b. fine (k a b)))) o o₂ at s
+  told_then : (x : Loading A) (y : Loading B) (o o₁ o₂ : List ℕ) (at p : ℕ) (r s : Result ℕ Refused) → WritesTo f x o o₁ at r → r ≡ Ok p → WritesTo g y o₁ o₂ p s
+      → WritesTo h (and_load x (λ a. and_load y (λ b. fine (k a b)))) o o₂ at s
   unfolding and_load
   told_then x y o o₁ o₂ at p r s v q w =
       let d = told_done f x o o₁ at p r v q in
       rw d.1 (then_done d.0 y o o₁ o₂ at p s d.2 w)
 
-told_stop : {A B : Type 0} (f : A → List ℕ) (h : B → List ℕ) (x : Loading A) (m : A → Loading B) (o o₁ : List ℕ) (at : ℕ) (r : Written) (c : Refusal) (l i : ℕ) → WrittenIs f x o o₁ at r → r ≡ Refused c l i
-    → WrittenIs h (and_load x m) o o₁ at (Refused c l i)
-unfolding WrittenIs and_load
-told_stop f h x m o o₁ at r c l i v q = rw (told_refused f x o o₁ at c l i r v q) refl
+told_stop : {A B : Type 0} (f : A → List ℕ) (h : B → List ℕ) (x : Loading A) (m : A → Loading B) (o o₁ : List ℕ) (at : ℕ) (r : Result ℕ Refused) (c : Refused) → WritesTo f x o o₁ at r → r ≡ Err c → WritesTo h (and_load x m) o o₁ at (Err c)
+unfolding WritesTo and_load
+told_stop f h x m o o₁ at r c v q = rw (told_refused f x o o₁ at c r v q) refl
 
 -- ---- a name of three parts
 
@@ -102,7 +117,7 @@ module _ (name : ListName) (lang w w₁ w₂ w₃ : List ℕ) (p q n : ℕ) (siz
   pub name_fits : n ≤ length w₃
   name_fits = omega (arith, (put_fits whole (omega (arith, long))).0, long, put_long w w₃ 0 n _ whole)
 
-  pub name_told_lem : (names : List ℕ) (fs : List File) (o o' : List ℕ) (at : ℕ) (r : Written) → WrittenIs list_bytes (list_named names fs (take (n - 0) w₃)) o o' at r → WrittenIs list_bytes (list_named names fs (list_name name lang)) o o' at r
+  pub name_told_lem : (names : List ℕ) (fs : List File) (o o' : List ℕ) (at : ℕ) (r : Result ℕ Refused) → WritesTo list_bytes (list_named names fs (take (n - 0) w₃)) o o' at r → WritesTo list_bytes (list_named names fs (list_name name lang)) o o' at r
   name_told_lem names fs o o' at r v = let all : n - 0 ≡ n = omega arith in rw (put_fits whole (omega (arith, long))).1 at (rw all at v)
 
 module _ (names : List ℕ) (fs : List File) where
@@ -135,74 +150,76 @@ module _ (names : List ℕ) (fs : List File) where
       by (fine rs) (not_loaded c l f) e h = clash (cc)
       by (not_loaded c l f) y e h = clash (cc)
 
-  abbrev Lists : List (List ℕ) → List ℕ → List ℕ → ℕ → Written → Type 0
-  Lists ws o o' at r = WrittenIs (bytes_of_all list_bytes) (lists_of names fs ws) o o' at r
+  abbrev Lists : List (List ℕ) → List ℕ → List ℕ → ℕ → Result ℕ Refused → Type 0
+  Lists ws o o' at r = WritesTo (bytes_of_all list_bytes) (lists_of names fs ws) o o' at r
 
-  abbrev One : List ℕ → List ℕ → List ℕ → ℕ → Written → Type 0
-  One w o o' at r = WrittenIs list_bytes (list_named names fs w) o o' at r
+  abbrev One : List ℕ → List ℕ → List ℕ → ℕ → Result ℕ Refused → Type 0
+  One w o o' at r = WritesTo list_bytes (list_named names fs w) o o' at r
 
-  pub list_then : (w : List ℕ) (ws : List (List ℕ)) (o o₁ o₂ : List ℕ) (at p : ℕ) (r s : Written) → One w o o₁ at r → r ≡ Done p → Lists ws o₁ o₂ p s → Lists (w ∷ ws) o o₂ at s
+  pub list_then : (w : List ℕ) (ws : List (List ℕ)) (o o₁ o₂ : List ℕ) (at p : ℕ) (r s : Result ℕ Refused) → One w o o₁ at r → r ≡ Ok p → Lists ws o₁ o₂ p s → Lists (w ∷ ws) o o₂ at s
   unfolding lists_of bytes_of_all
   list_then w ws o o₁ o₂ at p r s v q u = told_then list_bytes (bytes_of_all list_bytes) (bytes_of_all list_bytes) ◌∷◌ (λ rs ls. refl) (list_named names fs w) (lists_of names fs ws) o o₁ o₂ at p r s v q u
 
-  pub list_last : (w : List ℕ) (o o' : List ℕ) (at : ℕ) (r : Written) → One w o o' at r → Lists (w ∷ []) o o' at r
-  unfolding lists_of and_load WrittenIs bytes_of_all
+  pub list_last : (w : List ℕ) (o o' : List ℕ) (at : ℕ) (r : Result ℕ Refused) → One w o o' at r → Lists (w ∷ []) o o' at r
+  unfolding lists_of and_load WritesTo bytes_of_all
   list_last w o o' at r v = by (list_named names fs w) v
     where
-      by : (x : Loading (List Rule)) → WrittenIs list_bytes x o o' at r → WrittenIs (bytes_of_all list_bytes) (and_load x (λ rs. fine (rs ∷ []))) o o' at r
+      by : (x : Loading (List Rule)) → WritesTo list_bytes x o o' at r → WritesTo (bytes_of_all list_bytes) (and_load x (λ rs. fine (rs ∷ []))) o o' at r
       by (fine rs) v = (v.0, v.1, rw (append-nil (list_bytes rs)) v.2)
       by (not_loaded c l f) v = v
 
-  pub list_stop : (w : List ℕ) (ws : List (List ℕ)) (o o₁ : List ℕ) (at : ℕ) (r : Written) (c : Refusal) (l i : ℕ) → One w o o₁ at r → r ≡ Refused c l i → Lists (w ∷ ws) o o₁ at (Refused c l i)
+  pub list_stop : (w : List ℕ) (ws : List (List ℕ)) (o o₁ : List ℕ) (at : ℕ) (r : Result ℕ Refused) (c : Refused) → One w o o₁ at r → r ≡ Err c → Lists (w ∷ ws) o o₁ at (Err c)
   unfolding lists_of
-  list_stop w ws o o₁ at r c l i v q = told_stop list_bytes (bytes_of_all list_bytes) (list_named names fs w) _ o o₁ at r c l i v q
+  list_stop w ws o o₁ at r c v q = told_stop list_bytes (bytes_of_all list_bytes) (list_named names fs w) _ o o₁ at r c v q
 
-  lists_then : (ws us : List (List ℕ)) (o o₁ o₂ : List ℕ) (at p : ℕ) (r s : Written) → Lists ws o o₁ at r → r ≡ Done p → Lists us o₁ o₂ p s → Lists (ws ++ us) o o₂ at s
+  lists_then : (ws us : List (List ℕ)) (o o₁ o₂ : List ℕ) (at p : ℕ) (r s : Result ℕ Refused) → Lists ws o o₁ at r → r ≡ Ok p → Lists us o₁ o₂ p s → Lists (ws ++ us) o o₂ at s
   lists_then ws us o o₁ o₂ at p r s v q u = rw (lists_append ws us)
       (told_then (bytes_of_all list_bytes) (bytes_of_all list_bytes) (bytes_of_all list_bytes) ◌++◌ (bytes_append list_bytes) (lists_of names fs ws) (lists_of names fs us) o o₁ o₂ at p r s v q u)
 
-  lists_stop : (ws us : List (List ℕ)) (o o₁ : List ℕ) (at : ℕ) (r : Written) (c : Refusal) (l i : ℕ) → Lists ws o o₁ at r → r ≡ Refused c l i → Lists (ws ++ us) o o₁ at (Refused c l i)
-  lists_stop ws us o o₁ at r c l i v q = rw (lists_append ws us) (told_stop (bytes_of_all list_bytes) (bytes_of_all list_bytes) (lists_of names fs ws) _ o o₁ at r c l i v q)
+  lists_stop : (ws us : List (List ℕ)) (o o₁ : List ℕ) (at : ℕ) (r : Result ℕ Refused) (c : Refused) → Lists ws o o₁ at r → r ≡ Err c → Lists (ws ++ us) o o₁ at (Err c)
+  lists_stop ws us o o₁ at r c v q = rw (lists_append ws us) (told_stop (bytes_of_all list_bytes) (bytes_of_all list_bytes) (lists_of names fs ws) _ o o₁ at r c v q)
 
   -- ---- string by string: what is left of the names, from a place on, is written behind what was
 
   pub record Listing (pre o₀ : List ℕ) (at₀ from : ℕ) (o : List ℕ) (at : ℕ) : Type 0 where
     pub fuel : ℕ
     pub enough : length names - from ≤ fuel
-    pub is : (o' : List ℕ) (r : Written) → Lists (list_files pre (strings fuel (drop from names))) o o' at r → Lists (list_files pre (strings_of names)) o₀ o' at₀ r
+    pub is : (o' : List ℕ) (r : Result ℕ Refused) → Lists (list_files pre (strings fuel (drop from names))) o o' at r → Lists (list_files pre (strings_of names)) o₀ o' at₀ r
 
   pub listing_start : (pre o : List ℕ) (at : ℕ) → Listing pre o at 0 o at
   listing_start pre o at = record { fuel = length names; enough = omega arith; is = λ o' r v. rw (strings_all names) v }
 
-  module _ {pre o₀ : List ℕ} {at₀ from : ℕ} {o : List ℕ} {at : ℕ} (w : Listing pre o₀ at₀ from o at) (r : Next) (p : r ≡ string_at names from) where
-    module _ (a e : ℕ) (q : r ≡ next.Whole a e) (o₁ : List ℕ) (s : Written) (v : Lists (three_of pre (take (e - a) (drop a names))) o o₁ at s) where
-      files_one : (f : ℕ) → w.fuel ≡ suc f → list_files pre (strings w.fuel (drop from names)) ≡ three_of pre (take (e - a) (drop a names)) ++ list_files pre (strings f (drop e names))
+  module _ {pre o₀ : List ℕ} {at₀ from : ℕ} {o : List ℕ} {at : ℕ} (w : Listing pre o₀ at₀ from o at) (r : Option Span) (p : r ≡ string_at names from) where
+    module _ (part : Span) (q : r ≡ Some part) (o₁ : List ℕ) (s : Result ℕ Refused) (v : Lists (three_of pre (take (part.end - part.start) (drop part.start names))) o o₁ at s) where
+      files_one : (f : ℕ) → w.fuel ≡ suc f → list_files pre (strings w.fuel (drop from names)) ≡ three_of pre (take (part.end - part.start) (drop part.start names)) ++ list_files pre (strings f (drop part.end names))
       unfolding list_files
-      files_one f m = ap (λ (k : ℕ). list_files pre (strings k (drop from names))) m ∙ ap (list_files pre) (one_left names from a e r p q f)
+      files_one f m = ap (λ (k : ℕ). list_files pre (strings k (drop from names))) m ∙ ap (list_files pre) (one_left names from part r p q f)
 
       some_fuel : w.fuel ≡ suc (w.fuel - 1)
-      some_fuel = omega (arith, walk_less names from a e r p q, w.enough)
+      some_fuel = omega (arith, walk_less names from part r p q, w.enough)
 
-      pub listing_next : (z : ℕ) → s ≡ Done z → Listing pre o₀ at₀ e o₁ z
+      pub listing_next : (z : ℕ) → s ≡ Ok z → Listing pre o₀ at₀ part.end o₁ z
       listing_next z d = record {
         fuel = w.fuel - 1;
-        enough = omega (arith, walk_less names from a e r p q, w.enough);
+        enough = omega (arith, walk_less names from part r p q, w.enough);
         is = λ o' t u. w.is o' t (rw (files_one _ some_fuel) (lists_then _ _ o o₁ o' at z s t v d u));
       }
 
-      pub listing_stop : (c : Refusal) (l i : ℕ) → s ≡ Refused c l i → Lists (list_files pre (strings_of names)) o₀ o₁ at₀ (Refused c l i)
-      listing_stop c l i d = w.is o₁ _ (rw (files_one _ some_fuel) (lists_stop _ _ o o₁ at s c l i v d))
+      pub listing_stop : (c : Refused) → s ≡ Err c → Lists (list_files pre (strings_of names)) o₀ o₁ at₀ (Err c)
+      listing_stop c d = w.is o₁ _ (rw (files_one _ some_fuel) (lists_stop _ _ o o₁ at s c v d))
 
-    pub listing_done : r ≡ next.Cut → (o₁ : List ℕ) (s : Written) → Lists (two_of pre common_part) o o₁ at s → Lists (list_files pre (strings_of names)) o₀ o₁ at₀ s
+    pub listing_done : r ≡ None → (o₁ : List ℕ) (s : Result ℕ Refused) → Lists (two_of pre common_part) o o₁ at s → Lists (list_files pre (strings_of names)) o₀ o₁ at₀ s
     unfolding list_files
     listing_done q o₁ s v = w.is o₁ s (rw (none_left names from r p q w.fuel) v)
 
 -- a string's length is a byte
-pub string_short : (names : List ℕ) (from a e : ℕ) (r : Next) → r ≡ string_at names from → r ≡ next.Whole a e → ((i : ℕ) → Fits w8 (get_or names i 0)) → length (take (e - a) (drop a names)) ≤ 255
-string_short names from a e r p q b = omega (arith, (b from).fits, string_whole names from a e r p q, length-take (e - a) (drop a names))
+pub string_short : (names : List ℕ) (from : ℕ) (part : Span) (r : Option Span) → r ≡ string_at names from → r ≡ Some part → ((i : ℕ) → Fits w8 (get_or names i 0)) → length (take (part.end - part.start) (drop part.start names)) ≤ 255
+string_short names from part r p q b = omega (arith, (b from).fits, string_whole names from part r p q, length-take (part.end - part.start) (drop part.start names))
 
 pub ruleset name_laws = (put_as_type, put_as_list, name_fits, name_told_lem, rules)
 
 pub ruleset list_laws = (list_then, list_last, list_stop, rules)
+
+pub ruleset public_laws = (public_done, public_refused, rules)
 
 pub ruleset all_laws = (part_order, part_fits, walk_less, string_short, listing_start, listing_next, listing_stop, listing_done, rules)

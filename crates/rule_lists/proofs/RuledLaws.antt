@@ -17,11 +17,11 @@ use Rattle.base.proofs.Arms.{clash}
 use Rattle.base.proofs.PickLaws.{pick_true, pick_false}
 use Rattle.rule_lists.specs.Lists.{first_code_of}
 
-pub ready_whole : {bundle : List ℕ} {task : Task} {st : State} {lasts rows : List ℕ} → Ready bundle task st lasts rows → task ≡ Collect → st.noted ≤ 4096
+pub ready_whole : {bundle : List ℕ} {task : Task} {st : State} {lasts : List ℕ} {rows : List Spot} → Ready bundle task st lasts rows → task ≡ Collect → st.noted ≤ 4096
 ready_whole y e = y.whole e
 
-module _ (bundle : List ℕ) (task : Task) (own : ℕ) (st : State) (spot : Spot) (lasts rows : List ℕ) where
-  pub ruled_survey : task ≡ Survey → (m k : ℕ) (lasts' rows' : List ℕ) → Notes lasts st.noted spot.code own m lasts' → AddsRow rows st.kept spot k rows'
+module _ (bundle : List ℕ) (task : Task) (own : ℕ) (st : State) (spot : Spot) (lasts : List ℕ) (rows : List Spot) where
+  pub ruled_survey : task ≡ Survey → (m k : ℕ) (lasts' : List ℕ) (rows' : List Spot) → Notes lasts st.noted spot.code own m lasts' → AddsRow rows st.kept spot k rows'
       → RuledIs bundle task own st spot lasts rows (state_of st.followed m k) lasts' rows'
   unfolding ruled first_code_of
   ruled_survey e m k lasts' rows' o p = record {
@@ -36,7 +36,7 @@ module _ (bundle : List ℕ) (task : Task) (own : ℕ) (st : State) (spot : Spot
     unfolding first_code_of
     stays_by a r h s = rw s.first at (y.is a.lasts h.noted)
 
-    pub ruled_kept : x ≡ true → (k : ℕ) (rows' : List ℕ) → AddsRow rows st.kept spot k rows'
+    pub ruled_kept : x ≡ true → (k : ℕ) (rows' : List Spot) → AddsRow rows st.kept spot k rows'
         → RuledIs bundle task own st spot lasts rows (state_of st.followed st.noted k) lasts rows'
     unfolding ruled
     ruled_kept t k rows' o = record {

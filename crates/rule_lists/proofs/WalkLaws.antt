@@ -24,7 +24,7 @@ use Rattle.held.proofs.Finished.{length_kept, length_noted, kept_plain, each_of}
 use Rattle.rule_lines.specs.declared.Fault.TheVariants.{Without}
 use Rattle.rule_lists.specs.Lines.{lines_of}
 use Rattle.rule_lists.specs.TableContracts.{RowReads, KeptIs}
-use Rattle.rule_lists.specs.InnerContracts.{Known, known, ruled, tally, state_of, Room, StateHolds, Ready, Walks, kept_as, Surveyed, SurveyIs, CountedAs, few, many, CollectIs, all, refused, row_at}
+use Rattle.rule_lists.specs.InnerContracts.{refusal_at, Known, known, ruled, tally, state_of, StateHolds, Ready, Walks, kept_as, Surveyed, SurveyIs, CountedAs, few, many, CollectIs, all, refused, row_at}
 use Rattle.rule_lists.proofs.CodeLaws.{first_under}
 use Rattle.rule_lists.proofs.TableLaws.{noted_none, kept_none}
 use Rattle.rule_lists.proofs.GoingLaws.{lines_at, Here, here, told_done, told_refused}
@@ -32,11 +32,10 @@ use Rattle.base.proofs.Arms.{clash}
 use Rattle.rule_lists.specs.declared.lines.Row.{Row}
 use Rattle.rule_lists.specs.declared.lines.Row.TheVariants as row
 use Rattle.rule_lists.specs.declared.walk.Task.TheVariants.{Survey, Collect}
+use Rattle.rule_lists.specs.declared.tables.Spot.{Spot}
 use Rattle.rule_lists.specs.declared.walk.State.{State}
-use Rattle.rule_lists.specs.declared.walk.Walked.{Walked}
-use Rattle.rule_lists.specs.declared.walk.Walked.TheVariants.{Done, Refused}
-use Rattle.rule_lists.specs.declared.walk.Collected.{Collected}
-use Rattle.rule_lists.specs.declared.walk.Collected.TheVariants as collected
+use Rattle.std.specs.Prelude.{Result, Ok, Err}
+use Rattle.rule_lists.specs.declared.refused.Refused.{Refused}
 use Rattle.rule_lists.specs.Lists.{first_code_of, content_in, files_for, counted_rules}
 
 -- ---- every rule that is read
@@ -69,11 +68,11 @@ lines_at_lem names s (suc k) p h = elim (dec_lt p (length s)) [
   | no l ↦ rw (items_end Rules s p (omega arith)) tt
 ]
   where
-    on : (r : Row) → Here names s p r → ((n : ℕ) → p < n → LinesGood names (lines_at names s n)) → LinesGood names (lines_at names s p)
-    on (row.Passed j n) w ih = rw w.left (ih n w.ahead)
-    on (row.Rule j n) w ih = rw w.goes.left (reads_good names s p w.is w.sound w.reads, ih n w.goes.ahead)
-    on (row.Include t n) w ih = rw w.left (ih n w.ahead)
-    on (row.Bad j) w ih = rw w.1 tt
+    on : (r : Result Row Refusal) → Here names s p r → ((n : ℕ) → p < n → LinesGood names (lines_at names s n)) → LinesGood names (lines_at names s p)
+    on (Ok (row.Passed j n)) w ih = rw w.left (ih n w.ahead)
+    on (Ok (row.Rule j n)) w ih = rw w.goes.left (reads_good names s p w.is w.sound w.reads, ih n w.goes.ahead)
+    on (Ok (row.Include t n)) w ih = rw w.left (ih n w.ahead)
+    on (Err j) w ih = rw w.1 tt
 
 lines_good : (names s : List ℕ) → LinesGood names (lines_of names s)
 unfolding lines_of
@@ -144,55 +143,55 @@ unfolding kept_as
 sizes t short = (length_noted first_code_of t short (within_all t), length_kept first_code_of t short (within_all t))
 
 module _ {bundle : List ℕ} where
-  pub ready_survey : {lasts rows : List ℕ} → Room lasts rows → Ready bundle Survey (state_of 0 0 0) lasts rows
-  ready_survey {lasts} {rows} r = record {
-    some = (known [] [], record { noted = noted_none lasts r.first; kept = kept_none bundle rows r.second });
+  pub ready_survey : {lasts : List ℕ} {rows : List Spot} → length lasts ≡ 4096 → length rows ≡ 4096 → Ready bundle Survey (state_of 0 0 0) lasts rows
+  ready_survey {lasts} {rows} l r = record {
+    some = (known [] [], record { noted = noted_none lasts l; kept = kept_none bundle rows r });
     followed = omega arith;
     whole = λ e. clash (cc);
   }
 
   -- a refusal says nothing of the rows
-  refuses : {x : FileRead Rule} (c : Refusal) (l g : ℕ) (rows' : List ℕ) → x ≡ not_read c l g → CollectIs bundle (counted_rules x) (collected.Refused c l g) rows'
+  refuses : {x : FileRead Rule} (c : Refusal) (l g : ℕ) (rows' : List Spot) → x ≡ not_read c l g → CollectIs bundle (counted_rules x) (Err (refusal_at c l g)) rows'
   unfolding counted_rules
   refuses c l g rows' e = rw e refused
 
-  too_many : {x : FileRead Rule} (t : Met Rule) (rows' : List ℕ) → x ≡ was_read t → 4096 < length (finished first_code_of t) → CollectIs bundle (counted_rules x) (collected.Refused TooMuch 0 0) rows'
+  too_many : {x : FileRead Rule} (t : Met Rule) (rows' : List Spot) → x ≡ was_read t → 4096 < length (finished first_code_of t) → CollectIs bundle (counted_rules x) (Err (refusal_at TooMuch 0 0)) rows'
   unfolding counted_rules pick
   too_many t rows' e h = rw (e, lt-leb _ 4096 h) refused
 
   -- the rules that stay are counted
-  counts : {x : FileRead Rule} {n : ℕ} {rows : List ℕ} {r : Collected} (t : Met Rule) → x ≡ was_read t → entries t ≤ 256 → KeptIs bundle rows n (kept_as t) → CountedAs n r → CollectIs bundle (counted_rules x) r rows
+  counts : {x : FileRead Rule} {n : ℕ} {rows : List Spot} {r : Result ℕ Refused} (t : Met Rule) → x ≡ was_read t → entries t ≤ 256 → KeptIs bundle rows n (kept_as t) → CountedAs n r → CollectIs bundle (counted_rules x) r rows
   unfolding counted_rules pick
   counts t e short k (few h) = let l : length (finished first_code_of t) ≤ 4096 = omega (arith, k.count, sizes t short) in rw (e, le-leb _ 4096 l) (all short h k)
   counts t e short k (many h) = too_many t _ e (omega (arith, k.count, sizes t short))
 
   -- the first walk
-  pub survey_is : {x : FileRead Rule} {lasts rows lasts₁ rows₁ : List ℕ} {w : Walked} → Room lasts rows → Walks bundle Survey (state_of 0 0 0) x lasts rows w lasts₁ rows₁ → SurveyIs bundle x w lasts₁ rows₁
+  pub survey_is : {x : FileRead Rule} {lasts : List ℕ} {rows : List Spot} {lasts₁ : List ℕ} {rows₁ : List Spot} {w : Result State Refused} → length lasts ≡ 4096 → length rows ≡ 4096 → Walks bundle Survey (state_of 0 0 0) x lasts rows w lasts₁ rows₁ → SurveyIs bundle x w lasts₁ rows₁
   unfolding ready_survey
-  survey_is {w = w} room one =
-      let told = one.told (known [] []) (ready_survey room).some.1 in
+  survey_is {w = w} l r one =
+      let told = one.told (known [] []) (ready_survey l r).some.1 in
       record {
         done = λ st e.
             let t = told_done told e in
             let h = rw (tally_survey t.all 0 0 [] []) at t.holds in
             record { all = t.all; is = t.is; followed = omega (arith, t.followed); short = omega (arith, t.followed, one.followed st e); noted = h.noted; kept = h.kept };
-        stop = λ c l f e. told_refused told e;
+        stop = λ c e. told_refused told e;
       }
 
-  module _ {x : FileRead Rule} {lasts rows : List ℕ} {w : Walked} (v : SurveyIs bundle x w lasts rows) where
-    pub stop_first : {c : Refusal} {l g : ℕ} {rows' : List ℕ} → w ≡ Refused c l g → CollectIs bundle (counted_rules x) (collected.Refused c l g) rows'
-    stop_first {c} {l} {g} {rows'} e = refuses c l g rows' (v.stop c l g e)
+  module _ {x : FileRead Rule} {lasts : List ℕ} {rows : List Spot} {w : Result State Refused} (v : SurveyIs bundle x w lasts rows) where
+    pub stop_first : {c : Refused} {rows' : List Spot} → w ≡ Err c → CollectIs bundle (counted_rules x) (Err c) rows'
+    stop_first {c} {rows'} e = refuses c.why c.line c.file rows' (v.stop c e)
 
-    pub surveyed : {st : State} → w ≡ Done st → Surveyed bundle x st lasts rows
+    pub surveyed : {st : State} → w ≡ Ok st → Surveyed bundle x st lasts rows
     surveyed {st} e = v.done st e
 
   -- the second
-  module _ {x : FileRead Rule} {st : State} {lasts rows : List ℕ} (s : Surveyed bundle x st lasts rows) where
-    pub stop_noted : {rows' : List ℕ} → 4096 < st.noted → CollectIs bundle (counted_rules x) (collected.Refused TooMuch 0 0) rows'
+  module _ {x : FileRead Rule} {st : State} {lasts : List ℕ} {rows : List Spot} (s : Surveyed bundle x st lasts rows) where
+    pub stop_noted : {rows' : List Spot} → 4096 < st.noted → CollectIs bundle (counted_rules x) (Err (refusal_at TooMuch 0 0)) rows'
     stop_noted {rows'} h = too_many s.all rows' s.is (omega (arith, s.noted.count, sizes s.all s.short))
 
     -- no include was followed
-    pub collects_plain : {r : Collected} → st.followed ≡ 0 → CountedAs st.kept r → CollectIs bundle (counted_rules x) r rows
+    pub collects_plain : {r : Result ℕ Refused} → st.followed ≡ 0 → CountedAs st.kept r → CollectIs bundle (counted_rules x) r rows
     unfolding kept_as
     collects_plain z = counts s.all s.is s.short (rw (kept_plain first_code_of s.all (omega (arith, s.followed))) s.kept)
 
@@ -203,11 +202,11 @@ module _ {bundle : List ℕ} where
       pub ready_collect : Ready bundle Collect (state_of 0 st.noted 0) lasts rows
       ready_collect = record { some = (_, start_two); followed = omega arith; whole = λ c. l }
 
-      module _ {lasts' rows' : List ℕ} {w : Walked} (two : Walks bundle Collect (state_of 0 st.noted 0) x lasts rows w lasts' rows') where
-        pub stop_second : {c : Refusal} {l g : ℕ} {rows₂ : List ℕ} → w ≡ Refused c l g → CollectIs bundle (counted_rules x) (collected.Refused c l g) rows₂
-        stop_second {c} {l} {g} {rows₂} i = refuses c l g rows₂ (told_refused (two.told _ start_two) i)
+      module _ {lasts' : List ℕ} {rows' : List Spot} {w : Result State Refused} (two : Walks bundle Collect (state_of 0 st.noted 0) x lasts rows w lasts' rows') where
+        pub stop_second : {c : Refused} {rows₂ : List Spot} → w ≡ Err c → CollectIs bundle (counted_rules x) (Err c) rows₂
+        stop_second {c} {rows₂} i = refuses c.why c.line c.file rows₂ (told_refused (two.told _ start_two) i)
 
-        module _ {st₂ : State} (i : w ≡ Done st₂) where
+        module _ {st₂ : State} (i : w ≡ Ok st₂) where
           kept_is : KeptIs bundle rows' st₂.kept (kept_as s.all)
           unfolding kept_as
           kept_is =
@@ -215,7 +214,7 @@ module _ {bundle : List ℕ} where
               let q : u.all ≡ s.all = cc (u.is, s.is) in
               (rw q at (rw (tally_collect u.all 0 0 (lasts_of s.all) []) at u.holds)).kept
 
-          pub collects : {r : Collected} → CountedAs st₂.kept r → CollectIs bundle (counted_rules x) r rows'
+          pub collects : {r : Result ℕ Refused} → CountedAs st₂.kept r → CollectIs bundle (counted_rules x) r rows'
           collects c = counts s.all s.is s.short kept_is c
 
 pub ruleset collect_laws = (ready_survey, survey_is, stop_first, surveyed, rules)

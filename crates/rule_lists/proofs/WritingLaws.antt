@@ -18,6 +18,7 @@ use Rattle.rules_parser.specs.InnerContracts.{strings_from}
 use Rattle.rules_parser.specs.declared.fields.Text.{Text}
 use Rattle.rules_parser.specs.declared.known.Strings.{Strings}
 use Rattle.rules_parser.proofs.RuleStrings.{rule_strings}
+use Rattle.rule_lists.specs.declared.tables.Spot.{Spot}
 use Rattle.rule_lists.specs.Lines.{rule_in}
 use Rattle.rule_lists.specs.TableContracts.{RowReads, KeptIs, keys_of, Low}
 use Rattle.rule_lists.specs.WritingContracts.{rule_put, row_put, SomeKept, RowFits, row_at_put, RowsPut}
@@ -45,11 +46,11 @@ unfolding row_put
 reads_put s place r w = rw (← rule_strings s place _ _ _ _ _ w.says) (ap rule_put w.is)
 
 -- the rules of the first i keys are written
-pub record Putting (bundle rows keys : List ℕ) (n i : ℕ) (o₀ : List ℕ) (at₀ : ℕ) (o : List ℕ) (at : ℕ) : Type 0 where
+pub record Putting (bundle : List ℕ) (rows : List Spot) (keys : List ℕ) (n i : ℕ) (o₀ : List ℕ) (at₀ : ℕ) (o : List ℕ) (at : ℕ) : Type 0 where
   pub within : i ≤ n
   pub is : (rs : List Rule) → KeptIs bundle rows n rs → Put o₀ o at₀ at (key_bytes rule_put rs (take i keys))
 
-module _ (bundle rows keys : List ℕ) (n : ℕ) (few : n ≤ 4096) (sorted : take n keys ≡ keys_of rows n 0 []) (size : length keys ≡ 4096) where
+module _ (bundle : List ℕ) (rows : List Spot) (keys : List ℕ) (n : ℕ) (few : n ≤ 4096) (sorted : take n keys ≡ keys_of rows n 0 []) (size : length keys ≡ 4096) where
   key_row : (i : ℕ) → i < n → get_or keys i 0 % 4096 < n
   key_row i h =
       let e : get_or (keys_of rows n 0 []) i 0 ≡ get_or keys i 0 = ap (λ (l : List ℕ). get_or l i 0) (sym sorted) ∙ get_or-take n keys i 0 h in
@@ -82,13 +83,13 @@ module _ (bundle rows keys : List ℕ) (n : ℕ) (few : n ≤ 4096) (sorted : ta
         record { is = λ rs k. rw (← l) (put_then v (w.is rs k)) }
 
 -- behind the count
-pub putting_start : (bundle rows keys : List ℕ) (n : ℕ) (o o₀ : List ℕ) (at at₀ : ℕ) → Put o o₀ at at₀ (count_bytes n) → Putting bundle rows keys n 0 o₀ at₀ o₀ at₀
+pub putting_start : (bundle : List ℕ) (rows : List Spot) (keys : List ℕ) (n : ℕ) (o o₀ : List ℕ) (at at₀ : ℕ) → Put o o₀ at at₀ (count_bytes n) → Putting bundle rows keys n 0 o₀ at₀ o₀ at₀
 unfolding key_bytes
 putting_start bundle rows keys n o o₀ at at₀ v =
     record { within = omega arith; is = λ rs k. put_none o₀ at₀ (omega (arith, v.room, put_long _ _ _ _ _ v)) (put_place _ _ _ _ _ v) }
 
 -- rows of some rules can be sorted
-pub some_low : (bundle rows : List ℕ) (n : ℕ) → SomeKept bundle rows n → n ≤ 4096 → Low rows n
+pub some_low : (bundle : List ℕ) (rows : List Spot) (n : ℕ) → SomeKept bundle rows n → n ≤ 4096 → Low rows n
 some_low bundle rows n w few = kept_low bundle rows n _ w.some.1 few
 
 pub ruleset writing_laws = (rule_put_lem, row_put_lem, rules)

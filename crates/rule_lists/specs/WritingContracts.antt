@@ -10,6 +10,7 @@ use Rattle.rule_lists.specs.Lines.{rule_in}
 use Rattle.rule_lists.specs.TableContracts.{file_around, spot_at, KeptIs, keys_of}
 use Rattle.pack_bytes.specs.InnerContracts.{text_put}
 use Rattle.rule_lists.specs.Lists.{type_prefix, rules_part, approx_part, exact_part}
+use Rattle.rule_lists.specs.declared.tables.Spot.{Spot}
 use Rattle.rule_lists.specs.declared.lists.ListKind.{ListKind}
 use Rattle.rule_lists.specs.declared.lists.ListKind.TheVariants as list
 use Rattle.rule_lists.specs.declared.lists.ListName.{ListName}
@@ -25,21 +26,21 @@ row_put s place = of (strings_from s place)
     of t = rule_put (rule_in s t.pattern t.left t.right t.expression)
 
 -- the rows are those of some rules
-pub record SomeKept (bundle rows : List ℕ) (n : ℕ) : Type 0 where
+pub record SomeKept (bundle : List ℕ) (rows : List Spot) (n : ℕ) : Type 0 where
   pub some : (rs : List Rule) × KeptIs bundle rows n rs
 
 -- row j lies within the rows, and its file within the bundle
-pub record RowFits (bundle rows : List ℕ) (j : ℕ) : Type 0 where
-  pub size : length rows ≡ 16384
+pub record RowFits (bundle : List ℕ) (rows : List Spot) (j : ℕ) : Type 0 where
+  pub size : length rows ≡ 4096
   pub order : (spot_at rows j).start ≤ (spot_at rows j).end
   pub within : (spot_at rows j).end ≤ length bundle
 
 -- the rule of row j
-abbrev pub row_at_put : List ℕ → List ℕ → ℕ → List ℕ
+abbrev pub row_at_put : List ℕ → List Spot → ℕ → List ℕ
 row_at_put bundle rows j = row_put (file_around bundle (spot_at rows j)) (spot_at rows j).place
 
 -- the rules of n rows in order, behind their count
-pub record RowsPut (bundle rows : List ℕ) (n : ℕ) (out : List ℕ) (at r : ℕ) (out' : List ℕ) : Type 0 where
+pub record RowsPut (bundle : List ℕ) (rows : List Spot) (n : ℕ) (out : List ℕ) (at r : ℕ) (out' : List ℕ) : Type 0 where
   pub is : (rs : List Rule) → KeptIs bundle rows n rs → Put out out' at r (count_bytes n ++ key_bytes rule_put rs (keys_of rows n 0 []))
 
 -- ---- the name of a list's file

@@ -6,13 +6,12 @@ use refusals::Refusal;
 use rule_lines::Fault;
 use rules_parser::{Clause, FileKind, Item, Text};
 
-// What stands at the beginning of a line.
+// What stands at the beginning of a line that is good.
 #[derive(Clone, Copy)]
 pub(crate) enum Row {
     Passed { lines: usize, next: usize },
     Rule { code: u32, next: usize },
     Include { name: Text, next: usize },
-    Bad { why: Refusal },
 }
 
 // The rule of these texts of s, whose line ends at `next`.
@@ -25,7 +24,7 @@ fn row_of(
     right: Text,
     expression: Text,
     next: usize,
-) -> Row
+) -> Result<Row, Refusal>
     ensures { result ≡ row_told names.now s.now pattern left right expression next }
 {
     let first = rules_parser::part(s, pattern);
@@ -36,21 +35,21 @@ fn row_of(
         rules_parser::part(s, right),
         rules_parser::part(s, expression),
     ) {
-        Fault::Without => Row::Rule {
+        Fault::Without => Ok(Row::Rule {
             code: rule::first_code(first),
             next,
-        },
-        Fault::Is { why } => Row::Bad { why },
+        }),
+        Fault::Is { why } => Err(why),
     }
 }
 
 // What begins at p, the beginning of a line of s.
 #[tactic(auto, using(crate::proofs::LineLaws::row_laws), unfolding(crate::specs::InnerContracts::row_in))]
-pub(crate) fn row_at(names: &[u8], s: &[u8], p: usize) -> Row
+pub(crate) fn row_at(names: &[u8], s: &[u8], p: usize) -> Result<Row, Refusal>
     ensures { result ≡ row_at names.now s.now p }
 {
     match rules_parser::read_item(FileKind::Rules, s, p) {
-        Item::Passed { lines, next } => Row::Passed { lines, next },
+        Item::Passed { lines, next } => Ok(Row::Passed { lines, next }),
         Item::Tells { told, next } => match told {
             Clause::Rule {
                 pattern,
@@ -58,20 +57,10 @@ pub(crate) fn row_at(names: &[u8], s: &[u8], p: usize) -> Row
                 right,
                 expression,
             } => row_of(names, s, pattern, left, right, expression, next),
-            Clause::Include { name } => Row::Include { name, next },
-            Clause::Guess {
-                pattern: _,
-                names: _,
-                accept: _,
-            } => Row::Bad {
-                why: Refusal::LineUnreadable,
-            },
-            Clause::Name { name: _ } => Row::Bad {
-                why: Refusal::LineUnreadable,
-            },
+            Clause::Include { name } => Ok(Row::Include { name, next }),
+            Clause::Guess { .. } => Err(Refusal::LineUnreadable),
+            Clause::Name { .. } => Err(Refusal::LineUnreadable),
         },
-        Item::Wrong => Row::Bad {
-            why: Refusal::LineUnreadable,
-        },
+        Item::Wrong => Err(Refusal::LineUnreadable),
     }
 }

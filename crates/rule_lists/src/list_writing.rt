@@ -6,7 +6,7 @@ ghost use Rattle.rule_lists.specs.Lines.{rule_in};
 ghost use Rattle.rule_lists.specs.TableContracts.{keys_of};
 ghost use Rattle.rule_lists.specs.WritingContracts.{rule_put, row_put, SomeKept, RowFits, row_at_put, RowsPut};
 
-use crate::tables::{PLACES, SPOT};
+use crate::tables::{MOST_RULES, PLACES, Spot};
 use refusals::Refusal;
 use rules_parser::Text;
 
@@ -56,35 +56,31 @@ fn put_row(s: &[u8], place: usize, out: &mut [u8], at: usize) -> usize
 }
 
 // Writes the rule of row j.
-fn put_at(bundle: &[u8], rows: &[usize], j: usize, out: &mut [u8], at: usize) -> usize
+fn put_at(bundle: &[u8], rows: &[Spot; MOST_RULES], j: usize, out: &mut [u8], at: usize) -> usize
     requires { (j < 4096) × RowFits bundle.now rows.now j }
     ensures { Put out.old out.new at result (row_at_put bundle.now rows.now j) }
 {
-    let row = SPOT * j;
-    let start = rows[row + 1];
-    let end = rows[row + 2];
-    put_row(&bundle[start..end], rows[row + 3], out, at)
+    let spot = rows[j];
+    put_row(&bundle[spot.start..spot.end], spot.place, out, at)
 }
 
 // Writes the count, and the rules of the first n keys.
 #[tactic(auto, using(crate::proofs::WritingLaws::rows_laws))]
 fn put_rows(
     bundle: &[u8],
-    rows: &[usize],
-    keys: &[u64],
+    rows: &[Spot; MOST_RULES],
+    keys: &[u64; MOST_RULES],
     n: usize,
     out: &mut [u8],
     at: usize,
 ) -> usize
-    requires n_bound { (n ≤ 4096) × (take n keys.now ≡ keys_of rows.now n 0 List.[]) × (length keys.now ≡ 4096) }
+    requires n_bound { (n ≤ 4096) × (take n keys.now ≡ keys_of rows.now n 0 List.[]) }
     requires some_kept { SomeKept bundle.now rows.now n }
     ensures { RowsPut bundle.now rows.now n out.old at result out.new }
 {
     let mut place = pack_bytes::put_count(n as u16, out, at);
-    let mut i: usize = 0;
-    while i < n {
+    for i in 0..n {
         place = put_at(bundle, rows, (keys[i] % PLACES) as usize, out, place);
-        i += 1;
     }
     place
 }
@@ -92,13 +88,13 @@ fn put_rows(
 // Writes a list: the rules of n rows by first character, and by place under each.
 pub(crate) fn put_sorted(
     bundle: &[u8],
-    rows: &[usize],
+    rows: &[Spot; MOST_RULES],
     n: usize,
-    keys: &mut [u64],
+    keys: &mut [u64; MOST_RULES],
     out: &mut [u8],
     at: usize,
 ) -> usize
-    requires { (n ≤ 4096) × (length keys.old ≡ 4096) × SomeKept bundle.now rows.now n }
+    requires { (n ≤ 4096) × SomeKept bundle.now rows.now n }
     ensures { RowsPut bundle.now rows.now n out.old at result out.new }
 {
     crate::tables::sort(rows, n, keys);

@@ -4,17 +4,19 @@ ghost use Rattle.writing.specs.InnerContracts.{Put};
 ghost use Rattle.strings.specs.Reading.{strings_of};
 ghost use Rattle.pack_bytes.specs.Bytes.{list_bytes};
 ghost use Rattle.rule_lists.specs.Lists.{list_named, lists_of, two_of, three_of, list_files, type_prefix, common_part};
-ghost use Rattle.rule_lists.specs.InnerContracts.{Room, WrittenIs};
+ghost use Rattle.rule_lists.specs.InnerContracts.{WritesTo, WrittenIs};
 ghost use Rattle.rule_lists.specs.WritingContracts.{list_part, list_name};
 ghost use Rattle.held.specs.Met.{bytes_of_all};
 ghost use Rattle.bundles.specs.InnerContracts.{files_of};
 
 use crate::list_writing::Written;
-use crate::walk::{Collected, Source};
+use crate::refused::Refused;
+use crate::tables::{MOST_RULES, Spot};
+use crate::walk::Source;
 use bundles::FileAt;
 use prefixes::NameType;
 use refusals::Refusal;
-use strings::Next;
+use strings::Span;
 
 // The lists of a language.
 #[derive(Clone, Copy)]
@@ -31,6 +33,14 @@ pub(crate) struct ListName {
     pub(crate) list: ListKind,
 }
 
+// What a table of spots begins with.
+const NOWHERE: Spot = Spot {
+    code: 0,
+    start: 0,
+    end: 0,
+    place: 0,
+};
+
 // The most bytes of a name: those of a language's string, and 11.
 const NAME: usize = 320;
 
@@ -40,13 +50,12 @@ fn write_list(
     bundle: &[u8],
     names: &[u8],
     wanted: &[u8],
-    lasts: &mut [u64],
-    rows: &mut [usize],
+    lasts: &mut [u64; MOST_RULES],
+    rows: &mut [Spot; MOST_RULES],
     out: &mut [u8],
     at: usize,
-) -> Written
-    requires { Room lasts.old rows.old }
-    ensures { WrittenIs list_bytes (list_named names.now (files_of bundle.now) wanted.now) out.old
+) -> Result<usize, Refused>
+    ensures { WritesTo list_bytes (list_named names.now (files_of bundle.now) wanted.now) out.old
         out.new at result }
 {
     match bundles::find_file(bundle, wanted) {
@@ -57,18 +66,14 @@ fn write_list(
                 end,
                 left: crate::walk::MOST_NESTED,
             };
-            match crate::walk::collect(source, bundle, names, lasts, rows) {
-                Collected::Rules { n } => Written::Done {
-                    at: crate::list_writing::put_sorted(bundle, rows, n, lasts, out, at),
-                },
-                Collected::Refused { why, line, file } => Written::Refused { why, line, file },
-            }
+            let n = crate::walk::collect(source, bundle, names, lasts, rows)?;
+            Ok(crate::list_writing::put_sorted(bundle, rows, n, lasts, out, at))
         }
-        FileAt::Missing => Written::Refused {
+        FileAt::Missing => Err(Refused {
             why: Refusal::FileMissing,
             line: 0,
             file: 0,
-        },
+        }),
     }
 }
 
@@ -103,14 +108,13 @@ fn write_named(
     bundle: &[u8],
     names: &[u8],
     language: &[u8],
-    lasts: &mut [u64],
-    rows: &mut [usize],
+    lasts: &mut [u64; MOST_RULES],
+    rows: &mut [Spot; MOST_RULES],
     out: &mut [u8],
     at: usize,
-) -> Written
-    requires room { Room lasts.old rows.old }
-    requires language_len_bound { length language.now ≤ 255 }
-    ensures { WrittenIs list_bytes (list_named names.now (files_of bundle.now) (list_name name language.now))
+) -> Result<usize, Refused>
+    requires { length language.now ≤ 255 }
+    ensures { WritesTo list_bytes (list_named names.now (files_of bundle.now) (list_name name language.now))
         out.old out.new at result }
 {
     let kind = name.kind;
@@ -129,14 +133,13 @@ fn write_two(
     bundle: &[u8],
     names: &[u8],
     language: &[u8],
-    lasts: &mut [u64],
-    rows: &mut [usize],
+    lasts: &mut [u64; MOST_RULES],
+    rows: &mut [Spot; MOST_RULES],
     out: &mut [u8],
     at: usize,
-) -> Written
-    requires room { Room lasts.old rows.old }
-    requires language_len_bound { length language.now ≤ 255 }
-    ensures { WrittenIs (bytes_of_all list_bytes)
+) -> Result<usize, Refused>
+    requires { length language.now ≤ 255 }
+    ensures { WritesTo (bytes_of_all list_bytes)
         (lists_of names.now (files_of bundle.now) (two_of (type_prefix kind) language.now)) out.old
         out.new at result }
 {
@@ -144,16 +147,12 @@ fn write_two(
         kind,
         list: ListKind::Approx,
     };
-    match write_named(approx, bundle, names, language, lasts, rows, out, at) {
-        Written::Done { at: p } => {
-            let exact = ListName {
-                kind,
-                list: ListKind::Exact,
-            };
-            write_named(exact, bundle, names, language, lasts, rows, out, p)
-        }
-        Written::Refused { why, line, file } => Written::Refused { why, line, file },
-    }
+    let exact = ListName {
+        kind,
+        list: ListKind::Exact,
+    };
+    let p = write_named(approx, bundle, names, language, lasts, rows, out, at)?;
+    write_named(exact, bundle, names, language, lasts, rows, out, p)
 }
 
 // The three lists of a language.
@@ -163,14 +162,13 @@ fn write_three(
     bundle: &[u8],
     names: &[u8],
     language: &[u8],
-    lasts: &mut [u64],
-    rows: &mut [usize],
+    lasts: &mut [u64; MOST_RULES],
+    rows: &mut [Spot; MOST_RULES],
     out: &mut [u8],
     at: usize,
-) -> Written
-    requires room { Room lasts.old rows.old }
-    requires language_len_bound { length language.now ≤ 255 }
-    ensures { WrittenIs (bytes_of_all list_bytes)
+) -> Result<usize, Refused>
+    requires { length language.now ≤ 255 }
+    ensures { WritesTo (bytes_of_all list_bytes)
         (lists_of names.now (files_of bundle.now) (three_of (type_prefix kind) language.now)) out.old
         out.new at result }
 {
@@ -178,10 +176,8 @@ fn write_three(
         kind,
         list: ListKind::Rules,
     };
-    match write_named(rules, bundle, names, language, lasts, rows, out, at) {
-        Written::Done { at: p } => write_two(kind, bundle, names, language, lasts, rows, out, p),
-        Written::Refused { why, line, file } => Written::Refused { why, line, file },
-    }
+    let p = write_named(rules, bundle, names, language, lasts, rows, out, at)?;
+    write_two(kind, bundle, names, language, lasts, rows, out, p)
 }
 
 // The two common lists.
@@ -189,13 +185,12 @@ fn write_common(
     kind: NameType,
     bundle: &[u8],
     names: &[u8],
-    lasts: &mut [u64],
-    rows: &mut [usize],
+    lasts: &mut [u64; MOST_RULES],
+    rows: &mut [Spot; MOST_RULES],
     out: &mut [u8],
     at: usize,
-) -> Written
-    requires { Room lasts.old rows.old }
-    ensures { WrittenIs (bytes_of_all list_bytes)
+) -> Result<usize, Refused>
+    ensures { WritesTo (bytes_of_all list_bytes)
         (lists_of names.now (files_of bundle.now) (two_of (type_prefix kind) common_part)) out.old out.new at result }
 {
     write_two(kind, bundle, names, b"common", lasts, rows, out, at)
@@ -207,42 +202,29 @@ fn write_all(
     kind: NameType,
     bundle: &[u8],
     names: &[u8],
-    lasts: &mut [u64],
-    rows: &mut [usize],
+    lasts: &mut [u64; MOST_RULES],
+    rows: &mut [Spot; MOST_RULES],
     out: &mut [u8],
     at: usize,
-) -> Written
-    requires { Room lasts.old rows.old }
-    ensures { WrittenIs (bytes_of_all list_bytes)
+) -> Result<usize, Refused>
+    ensures { WritesTo (bytes_of_all list_bytes)
         (lists_of names.now (files_of bundle.now) (list_files (type_prefix kind) (strings_of names.now))) out.old
         out.new at result }
 {
     let mut from: usize = 0;
     let mut place = at;
-    loop {
-        match strings::string_at(names, from) {
-            Next::Whole { start, end } => {
-                let language = &names[start..end];
-                match write_three(kind, bundle, names, language, lasts, rows, out, place) {
-                    Written::Done { at: q } => {
-                        place = q;
-                        from = end;
-                    }
-                    Written::Refused { why, line, file } => {
-                        return Written::Refused { why, line, file };
-                    }
-                }
-            }
-            Next::Cut => {
-                return write_common(kind, bundle, names, lasts, rows, out, place);
-            }
-        }
+    while let Some(Span { start, end }) = strings::string_at(names, from) {
+        let language = &names[start..end];
+        place = write_three(kind, bundle, names, language, lasts, rows, out, place)?;
+        from = end;
     }
+    write_common(kind, bundle, names, lasts, rows, out, place)
 }
 
 // Writes what fits of the lists of a type from a place on: the rule files in `bundle`, for the languages of `names`, strings behind
 // their length bytes. The end is told, or the first refusal: then nothing is said of `out`, which may hold the lists before it. Public
 // for crate loader alone, which measures into a buffer of its own first, so that a refusal of `load` leaves its caller's as it was.
+#[tactic(auto, using(crate::proofs::ListLaws::public_laws))]
 pub fn write_lists(
     kind: NameType,
     bundle: &[u8],
@@ -254,7 +236,10 @@ pub fn write_lists(
         (lists_of names.now (files_of bundle.now) (list_files (Rattle.rule_lists.specs.Lists.type_prefix kind) (strings_of names.now)))
         out.old out.new at result }
 {
-    let mut lasts = [0u64; 4096];
-    let mut rows = [0usize; 16384];
-    write_all(kind, bundle, names, &mut lasts, &mut rows, out, at)
+    let mut lasts = [0u64; MOST_RULES];
+    let mut rows = [NOWHERE; MOST_RULES];
+    match write_all(kind, bundle, names, &mut lasts, &mut rows, out, at) {
+        Ok(at) => Written::Done { at },
+        Err(Refused { why, line, file }) => Written::Refused { why, line, file },
+    }
 }

@@ -1,11 +1,12 @@
 // The walk over a rule file and its includes. It keeps no rules, but where they stand: one walk notes the last entry for each first
 // character and keeps every rule, and a second keeps those that stay.
 ghost use Rattle.std.specs.Prelude.{◌≤◌};
-ghost use Rattle.rule_lists.specs.InnerContracts.{Room, InBundle, Ready, RuledIs, read_from, read_included, one_more, Walks};
+ghost use Rattle.rule_lists.specs.InnerContracts.{InBundle, Ready, RuledIs, read_from, read_included, one_more, Walks};
 ghost use Rattle.rule_lists.specs.InnerContracts.{SurveyIs, Surveyed, CountedAs, CollectIs};
 ghost use Rattle.rule_lists.specs.Lists.{counted_rules};
 
 use crate::lines::Row;
+use crate::refused::Refused;
 use crate::tables::{MOST_RULES, Spot};
 use bundles::FileAt;
 use refusals::Refusal;
@@ -47,18 +48,6 @@ pub(crate) struct IncludeAt {
     pub(crate) left: usize,
 }
 
-#[derive(Clone, Copy)]
-pub(crate) enum Walked {
-    Done {
-        state: State,
-    },
-    Refused {
-        why: Refusal,
-        line: usize,
-        file: usize,
-    },
-}
-
 // A rule is met in a file whose entry is `own`.
 #[tactic(auto, using(crate::proofs::RuledLaws::ruled_laws))]
 fn on_rule(
@@ -67,36 +56,28 @@ fn on_rule(
     own: usize,
     st: State,
     spot: Spot,
-    lasts: &mut [u64],
-    rows: &mut [usize],
+    lasts: &mut [u64; MOST_RULES],
+    rows: &mut [Spot; MOST_RULES],
 ) -> State
     requires ready { Ready bundle.now task st lasts.old rows.old }
     requires own_bound { own ≤ 256 }
     ensures { RuledIs bundle.now task own st spot lasts.old rows.old result lasts.new rows.new }
 {
-    let followed = st.followed;
-    let noted = st.noted;
-    let kept = st.kept;
     let code = spot.code;
     match task {
         Task::Survey => State {
-            followed,
-            noted: crate::tables::note(lasts, noted, code, own),
-            kept: crate::tables::add_row(rows, kept, spot),
+            followed: st.followed,
+            noted: crate::tables::note(lasts, st.noted, code, own),
+            kept: crate::tables::add_row(rows, st.kept, spot),
         },
         Task::Collect => {
-            if crate::tables::stays(lasts, noted, code, followed) {
+            if crate::tables::stays(lasts, st.noted, code, st.followed) {
                 State {
-                    followed,
-                    noted,
-                    kept: crate::tables::add_row(rows, kept, spot),
+                    kept: crate::tables::add_row(rows, st.kept, spot),
+                    ..st
                 }
             } else {
-                State {
-                    followed,
-                    noted,
-                    kept,
-                }
+                st
             }
         }
     }
@@ -112,9 +93,9 @@ fn follow(
     names: &[u8],
     name: &[u8],
     st: State,
-    lasts: &mut [u64],
-    rows: &mut [usize],
-) -> Walked
+    lasts: &mut [u64; MOST_RULES],
+    rows: &mut [Spot; MOST_RULES],
+) -> Result<State, Refused>
     requires { Ready bundle.now task st lasts.old rows.old }
     ensures { Walks bundle.now task (one_more st)
         (read_included bundle.now names.now at name.now st.followed)
@@ -122,19 +103,12 @@ fn follow(
 {
     let left = at.left;
     let followed = st.followed;
-    if left == 0 {
-        return Walked::Refused {
+    if left == 0 || MOST_FOLLOWED <= followed {
+        return Err(Refused {
             why: Refusal::IncludeTooDeep,
             line: at.line,
             file: at.file,
-        };
-    }
-    if MOST_FOLLOWED <= followed {
-        return Walked::Refused {
-            why: Refusal::IncludeTooDeep,
-            line: at.line,
-            file: at.file,
-        };
+        });
     }
     match bundles::find_file(bundle, name) {
         FileAt::At { number, start, end } => {
@@ -146,16 +120,15 @@ fn follow(
             };
             let more = State {
                 followed: followed + 1,
-                noted: st.noted,
-                kept: st.kept,
+                ..st
             };
             walk(source, task, bundle, names, more, lasts, rows)
         }
-        FileAt::Missing => Walked::Refused {
+        FileAt::Missing => Err(Refused {
             why: Refusal::FileMissing,
             line: at.line,
             file: at.file,
-        },
+        }),
     }
 }
 
@@ -168,9 +141,9 @@ fn walk(
     bundle: &[u8],
     names: &[u8],
     st0: State,
-    lasts: &mut [u64],
-    rows: &mut [usize],
-) -> Walked
+    lasts: &mut [u64; MOST_RULES],
+    rows: &mut [Spot; MOST_RULES],
+) -> Result<State, Refused>
     requires in_bundle { InBundle bundle.now source }
     requires ready { Ready bundle.now task st0 lasts.old rows.old }
     ensures { Walks bundle.now task st0 (read_from bundle.now names.now source st0.followed)
@@ -182,13 +155,14 @@ fn walk(
     let mut st = st0;
     let mut p: usize = 0;
     let mut line: usize = 1;
+    // Stays a loop by hand: what was read says where the next line begins, and a refusal tells the line.
     while p < s.len() {
         match crate::lines::row_at(names, s, p) {
-            Row::Passed { lines, next } => {
+            Ok(Row::Passed { lines, next }) => {
                 line += lines;
                 p = next;
             }
-            Row::Rule { code, next } => {
+            Ok(Row::Rule { code, next }) => {
                 let spot = Spot {
                     code,
                     start: source.start,
@@ -199,59 +173,42 @@ fn walk(
                 line += 1;
                 p = next;
             }
-            Row::Include { name, next } => {
+            Ok(Row::Include { name, next }) => {
                 let at = IncludeAt {
                     file: source.file,
                     line,
                     left: source.left,
                 };
                 let wanted = rules_parser::part(s, name);
-                match follow(at, task, bundle, names, wanted, st, lasts, rows) {
-                    Walked::Done { state } => {
-                        st = state;
-                        line += 1;
-                        p = next;
-                    }
-                    Walked::Refused { why, line, file } => {
-                        return Walked::Refused { why, line, file };
-                    }
-                }
+                st = follow(at, task, bundle, names, wanted, st, lasts, rows)?;
+                line += 1;
+                p = next;
             }
-            Row::Bad { why } => {
-                let file = source.file;
-                return Walked::Refused { why, line, file };
+            Err(why) => {
+                return Err(Refused {
+                    why,
+                    line,
+                    file: source.file,
+                });
             }
         }
     }
-    Walked::Done { state: st }
-}
-
-// How many rules a listed file holds, or the refusal.
-#[derive(Clone, Copy)]
-pub(crate) enum Collected {
-    Rules {
-        n: usize,
-    },
-    Refused {
-        why: Refusal,
-        line: usize,
-        file: usize,
-    },
+    Ok(st)
 }
 
 // A list of so many rules, or the refusal.
 #[tactic(auto, using(crate::specs::InnerContracts::few, crate::specs::InnerContracts::many))]
-fn counted(n: usize) -> Collected
+fn counted(n: usize) -> Result<usize, Refused>
     ensures { CountedAs n result }
 {
     if MOST_RULES < n {
-        Collected::Refused {
+        Err(Refused {
             why: Refusal::TooMuch,
             line: 0,
             file: 0,
-        }
+        })
     } else {
-        Collected::Rules { n }
+        Ok(n)
     }
 }
 
@@ -261,11 +218,10 @@ fn survey(
     source: Source,
     bundle: &[u8],
     names: &[u8],
-    lasts: &mut [u64],
-    rows: &mut [usize],
-) -> Walked
-    requires in_bundle { InBundle bundle.now source }
-    requires room { Room lasts.old rows.old }
+    lasts: &mut [u64; MOST_RULES],
+    rows: &mut [Spot; MOST_RULES],
+) -> Result<State, Refused>
+    requires { InBundle bundle.now source }
     ensures { SurveyIs bundle.now (read_from bundle.now names.now source 0) result lasts.new rows.new }
 {
     let fresh = State {
@@ -283,35 +239,32 @@ fn collect_surveyed(
     surveyed: State,
     bundle: &[u8],
     names: &[u8],
-    lasts: &mut [u64],
-    rows: &mut [usize],
-) -> Collected
+    lasts: &mut [u64; MOST_RULES],
+    rows: &mut [Spot; MOST_RULES],
+) -> Result<usize, Refused>
     requires in_bundle { InBundle bundle.now source }
     requires surveyed { Surveyed bundle.now (read_from bundle.now names.now source 0) surveyed lasts.old rows.old }
     ensures { CollectIs bundle.now (counted_rules (read_from bundle.now names.now source 0)) result rows.new }
 {
     let followed = surveyed.followed;
     let noted = surveyed.noted;
-    let met = surveyed.kept;
     if followed == 0 {
-        return counted(met);
+        return counted(surveyed.kept);
     }
     if MOST_RULES < noted {
-        return Collected::Refused {
+        return Err(Refused {
             why: Refusal::TooMuch,
             line: 0,
             file: 0,
-        };
+        });
     }
     let again = State {
         followed: 0,
         noted,
         kept: 0,
     };
-    match walk(source, Task::Collect, bundle, names, again, lasts, rows) {
-        Walked::Done { state } => counted(state.kept),
-        Walked::Refused { why, line, file } => Collected::Refused { why, line, file },
-    }
+    let state = walk(source, Task::Collect, bundle, names, again, lasts, rows)?;
+    counted(state.kept)
 }
 
 // Keeps where the rules of a listed file stand, in the order in which they are met. Where no include is followed every rule stays, and
@@ -321,15 +274,12 @@ pub(crate) fn collect(
     source: Source,
     bundle: &[u8],
     names: &[u8],
-    lasts: &mut [u64],
-    rows: &mut [usize],
-) -> Collected
-    requires in_bundle { InBundle bundle.now source }
-    requires room { Room lasts.old rows.old }
+    lasts: &mut [u64; MOST_RULES],
+    rows: &mut [Spot; MOST_RULES],
+) -> Result<usize, Refused>
+    requires { InBundle bundle.now source }
     ensures { CollectIs bundle.now (counted_rules (read_from bundle.now names.now source 0)) result rows.new }
 {
-    match survey(source, bundle, names, lasts, rows) {
-        Walked::Done { state } => { collect_surveyed(source, state, bundle, names, lasts, rows) }
-        Walked::Refused { why, line, file } => Collected::Refused { why, line, file },
-    }
+    let state = survey(source, bundle, names, lasts, rows)?;
+    collect_surveyed(source, state, bundle, names, lasts, rows)
 }

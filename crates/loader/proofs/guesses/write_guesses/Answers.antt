@@ -19,8 +19,8 @@ loop-p-smaller c = search writes
 pub loop-p-preserved : goal.loop-p-preserved
 loop-p-preserved c = search writes
 
-pub returns-in-Fault : goal.returns-in-Fault
-returns-in-Fault c = search writes
+pub returns-in-Err : goal.returns-in-Err
+returns-in-Err c = search writes
 
 pub returns-in_default : goal.returns-in_default
 returns-in_default c = search writes

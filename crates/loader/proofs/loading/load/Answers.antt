@@ -7,5 +7,5 @@ returns-then-check_bundle c = search loading
 pub returns-else-check_bundle : goal.returns-else-check_bundle
 returns-else-check_bundle c = search loading
 
-pub returns-in-Unknown : goal.returns-in-Unknown
-returns-in-Unknown c = search loading
+pub returns-in-None : goal.returns-in-None
+returns-in-None c = search loading

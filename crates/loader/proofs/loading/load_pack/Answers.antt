@@ -12,5 +12,5 @@ returns-then-length-le-OWN c =
 pub returns-else-length-le-OWN : goal.returns-else-length-le-OWN
 returns-else-length-le-OWN c = search answers
 
-pub returns-in-Refused : goal.returns-in-Refused
-returns-in-Refused c = search answers
+pub returns-in-Err : goal.returns-in-Err
+returns-in-Err c = search answers
