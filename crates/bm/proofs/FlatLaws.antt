@@ -13,15 +13,12 @@ use Rattle.pack.specs.Numbers.{checked_numbers}
 use Rattle.pack.specs.Packs.{pack_of, verdict_of}
 use Rattle.pack.specs.declared.sections.Checked.{Checked}
 use Rattle.pack.specs.declared.sections.Checked.TheVariants as checked
-use Rattle.refusals.specs.Numbers.{number_of}
 use Rattle.refusals.specs.declared.Refusal.{Refusal}
 use Rattle.rule_lists.specs.Outcomes as loading
 use Rattle.loader.specs.Loading as load
 use Rattle.loader.specs.Loading.{LoadNumbers, answer, AnswerIs}
 use Rattle.loader.specs.declared.loading.Loaded.{Loaded}
 use Rattle.loader.specs.declared.loading.Loaded.TheVariants as loaded
-use Rattle.refusals.specs.Numbers.{number_of}
-use Rattle.refusals.specs.declared.Refusal.{Refusal}
 use Rattle.engine.specs.Calls as spelling
 use Rattle.engine.specs.Calls.{CallOutcome, call_of, SpellIs, spelled_numbers}
 use Rattle.engine.specs.Lines.{BlockNumbers, block_numbers, block_by, LinesIs}

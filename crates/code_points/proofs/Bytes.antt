@@ -1,5 +1,6 @@
 -- Reading a text byte by byte: after each byte it stands between two characters, within one, or is lost. A text is well formed where
 -- its end stands between two. So cutting and joining texts needs no look at whole characters. Assumes nothing.
+use Rattle.std.specs.Prelude.{None}
 use mathlib.Core.Path.{◌≡◌, refl, sym, ap, ◌∙◌}
 use mathlib.Core.Bool.{Bool, true, false}
 use mathlib.Core.List.{List, [], ◌∷◌, ◌++◌}
@@ -14,7 +15,6 @@ use Rattle.letters.specs.Utf8.{within, low_second, high_second, decode2, decode3
 use Rattle.letters.specs.Reading.{Symbol, ill_in, first_ill}
 use Rattle.letters.specs.declared.utf8.Step.{Step}
 use Rattle.letters.specs.declared.utf8.Step.TheVariants.{Char, Ill, End}
-use Rattle.letters.specs.declared.utf8.Found.TheVariants.{Nothing}
 use Rattle.letters.proofs.Utf8Laws.{end_at}
 use Rattle.letters.proofs.CodesLaws.{decode_drop}
 use Rattle.letters.proofs.ReadingLaws.{Pieces, end, one, bad, pieces_of}
@@ -199,22 +199,22 @@ module _ (s : Text) (p : ℕ) where
 
 -- ---- the two ways to say it
 
-formed_by : {s : Text} {p : ℕ} {l : List Symbol} → Pieces s p l → ill_in l ≡ Nothing → Formed (drop p s)
+formed_by : {s : Text} {p : ℕ} {l : List Symbol} → Pieces s p l → ill_in l ≡ None → Formed (drop p s)
 unfolding ill_in after
 formed_by {s} {p} (end e) h = rw (drop_of_length-le s (end_at s p e)) refl
 formed_by {s} {p} (one {k = k} {n = n} e r) h = char_whole s p k n e (formed_by r h)
 formed_by (bad e r) h = clash (cc)
 
-ill_by : {s : Text} {p : ℕ} {l : List Symbol} → Pieces s p l → Formed (drop p s) → ill_in l ≡ Nothing
+ill_by : {s : Text} {p : ℕ} {l : List Symbol} → Pieces s p l → Formed (drop p s) → ill_in l ≡ None
 unfolding ill_in
 ill_by (end e) f = refl
 ill_by {s} {p} (one {k = k} {n = n} e r) f = ill_by r (char_rest s p k n e f)
 ill_by {s} {p} (bad e r) f = absurd (ill_not s p e f)
 
-pub formed_of : (s : Text) → first_ill s ≡ Nothing → Formed s
+pub formed_of : (s : Text) → first_ill s ≡ None → Formed s
 unfolding first_ill
 formed_of s h = formed_by (pieces_of s) h
 
-pub never_ill : (s : Text) → Formed s → first_ill s ≡ Nothing
+pub never_ill : (s : Text) → Formed s → first_ill s ≡ None
 unfolding first_ill
 never_ill s f = ill_by (pieces_of s) f

@@ -1,4 +1,5 @@
 -- Where a call is done, the texts of each word that it spells are well formed and increasing by code points. Assumes nothing.
+use Rattle.std.specs.Prelude.{Option, Some, None}
 use mathlib.Core.Path.{◌≡◌, refl, sym, ap, ◌∙◌}
 use mathlib.Core.Bool.{Bool, false}
 use mathlib.Core.List.{List}
@@ -7,8 +8,6 @@ use Prim.Native.Nat.{ℕ}
 use lib.ListN.{length, take}
 use lib.Seq.{take-length}
 use Rattle.letters.specs.Reading.{first_ill, first_outside}
-use Rattle.letters.specs.declared.utf8.Found.{Found}
-use Rattle.letters.specs.declared.utf8.Found.TheVariants.{At, Nothing}
 use Rattle.lower_case.specs.Lower.{lower_text}
 use Rattle.languages.specs.declared.sets.LanguageSet.{LanguageSet}
 use Rattle.name_parts.specs.Joining.{spaced}
@@ -35,10 +34,10 @@ use Rattle.base.proofs.PickLaws.{pick_inv}
 -- ---- what a call that is done tells of its name
 
 module _ (t : Text) (f : Bool) where
-  nothing_found : (code : _) (a : Found) (x : CallOutcome) → unless code a x ≡ key t f → (a ≡ Nothing) × (x ≡ key t f)
+  nothing_found : (code : _) (a : Option ℕ) (x : CallOutcome) → unless code a x ≡ key t f → (a ≡ None) × (x ≡ key t f)
   unfolding unless
-  nothing_found code (At place) x e = clash (cc)
-  nothing_found code Nothing x e = (refl, e)
+  nothing_found code (Some place) x e = clash (cc)
+  nothing_found code None x e = (refl, e)
 
   outcome_key : (x : Spelt) → outcome_of x ≡ key t f → x ≡ spelt_as t f
   unfolding outcome_of
@@ -50,7 +49,7 @@ module _ (t : Text) (f : Bool) where
     unfolding call_of checked_then
     letters_done = ⊎_elim (λ w. w.1) (λ w. clash (cc w.1)) (pick_inv _ _ _ _ e)
 
-    name_done : (first_ill name ≡ Nothing) × (on_pack c begin s name (pack_of s) ≡ key t f)
+    name_done : (first_ill name ≡ None) × (on_pack c begin s name (pack_of s) ≡ key t f)
     unfolding letters_then
     name_done =
         ⊎_elim (λ w. clash (cc w.1)) (λ w. let v = nothing_found _ (first_ill name) _ w.1 in (v.0, (nothing_found _ (first_outside name) _ v.1).1))
@@ -64,7 +63,7 @@ module _ (t : Text) (f : Bool) where
 
     -- ---- its words
 
-    word_ill : (p : Pack) (g : LanguageSet) (w : Text) → WordOfCall c begin s name p g w → first_ill w ≡ Nothing
+    word_ill : (p : Pack) (g : LanguageSet) (w : Text) → WordOfCall c begin s name p g w → first_ill w ≡ None
     word_ill p g w d = never_ill w (word_formed d.spelled (spaced_formed (lower_text name) (lower_text_formed name name_done.0)))
 
 -- a word's answer joins its texts

@@ -6,3 +6,4 @@ pub mod Packs
 pub mod Words
 pub mod Names
 pub mod Calls
+pub mod EightLaws

@@ -1,4 +1,5 @@
 -- The words of a well-formed name are well formed: lower case, hyphens, prefixes, words, apostrophes. Assumes nothing.
+use Rattle.std.specs.Prelude.{None}
 use mathlib.Core.Path.{◌≡◌, refl, sym, ap, ◌∙◌}
 use mathlib.Core.Bool.{Bool, true, false, not}
 use mathlib.Core.List.{List, [], ◌∷◌}
@@ -16,7 +17,6 @@ use Rattle.base.proofs.Table.{at}
 use Rattle.letters.specs.Utf8.{within, low_second, high_second, decode_at, encode}
 use Rattle.letters.specs.Reading.{Symbol, ill_in, first_ill}
 use Rattle.letters.specs.declared.utf8.Step.TheVariants.{Char}
-use Rattle.letters.specs.declared.utf8.Found.TheVariants.{Nothing}
 use Rattle.letters.proofs.Utf8Laws.{char_at}
 use Rattle.letters.proofs.ReadingLaws.{Pieces, end, one, bad, pieces_of}
 use Rattle.lower_case.specs.Lower.{lower_table, lower_of, lower_in, lower_text}
@@ -71,13 +71,13 @@ lower_formed s p k n e = elim (dec_lt k 384) [
   | no g ↦ rw (← lower_past k (omega arith), (char_at s p k n e).bytes) (char_formed s p k n e)
 ]
 
-pieces_lowered : {s : Text} {p : ℕ} {l : List Symbol} → Pieces s p l → ill_in l ≡ Nothing → Formed (lower_in l)
+pieces_lowered : {s : Text} {p : ℕ} {l : List Symbol} → Pieces s p l → ill_in l ≡ None → Formed (lower_in l)
 unfolding ill_in lower_in after
 pieces_lowered (end e) h = refl
 pieces_lowered {s} {p} (one {k = k} {n = n} e r) h = formed_append border (encode (lower_of k)) _ (lower_formed s p k n e) (pieces_lowered r h)
 pieces_lowered (bad e r) h = clash (cc)
 
-pub lower_text_formed : (s : Text) → first_ill s ≡ Nothing → Formed (lower_text s)
+pub lower_text_formed : (s : Text) → first_ill s ≡ None → Formed (lower_text s)
 unfolding lower_text first_ill
 lower_text_formed s h = pieces_lowered (pieces_of s) h
 

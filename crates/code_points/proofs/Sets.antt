@@ -9,8 +9,8 @@ use lib.ListN.{length}
 use Rattle.base.specs.Pick.{pick}
 use Rattle.letters.specs.Order.{order_of, same_text}
 use Rattle.letters.specs.Reading.{codes_of}
-use Rattle.letters.specs.declared.order.Order.{Order}
-use Rattle.letters.specs.declared.order.Order.TheVariants.{Less, Equal, Greater}
+use Rattle.std.specs.declared.cmp.Ordering.{Ordering}
+use Rattle.std.specs.declared.cmp.Ordering.TheVariants.{Less, Equal, Greater}
 use Rattle.letters.proofs.CodeOrder.{order_by_codes}
 use Rattle.languages.specs.Sets.{merged}
 use Rattle.languages.specs.declared.sets.LanguageSet.{LanguageSet}
@@ -56,7 +56,7 @@ in_code_order ts w = record { formed = every_in w.formed; increasing = increasin
 
 -- ---- one text more
 
-by_order_lem : {A : Type 0} (P : A → Type 0) (o : Order) (a b c : A) → P a → P b → P c → P (by_order o a b c)
+by_order_lem : {A : Type 0} (P : A → Type 0) (o : Ordering) (a b c : A) → P a → P b → P c → P (by_order o a b c)
 unfolding by_order
 by_order_lem P Less a b c p q r = p
 by_order_lem P Equal a b c p q r = q

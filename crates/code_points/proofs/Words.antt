@@ -1,11 +1,11 @@
 -- What stands in a set while a well-formed word is spelled by an accepted pack, and in its answer, is in the order of code points. Assumes nothing.
+use Rattle.std.specs.Prelude.{None}
 use mathlib.Core.Path.{◌≡◌}
 use mathlib.Core.Bool.{Bool}
 use mathlib.Core.List.{List}
 use Prim.Native.Nat.{ℕ, zero, suc}
 use lib.ListN.{take}
 use Rattle.letters.specs.Reading.{first_ill}
-use Rattle.letters.specs.declared.utf8.Found.TheVariants.{Nothing}
 use Rattle.languages.specs.declared.sets.LanguageSet.{LanguageSet}
 use Rattle.pack.specs.Packs.{Pack, pack_of, accepted}
 use Rattle.choices.specs.Texts.{Text}
@@ -38,7 +38,7 @@ every_take (suc n) (more p e) = more p (every_take n e)
 -- by any lists of the pack, `names` being any bytes
 module _ (s : List ℕ) (p : Pack) (good : pack_of s ≡ accepted p) (names : List ℕ) (limit : ℕ) (l : List Entry) (up : Bool) where
   -- after each turn of a pass over a word, main or final
-  pub pass_in_order : (list turn : ℕ) (final : Bool) (g : LanguageSet) (word : Text) → first_ill word ≡ Nothing
+  pub pass_in_order : (list turn : ℕ) (final : Bool) (g : LanguageSet) (word : Text) → first_ill word ≡ None
       → run final limit (take turn (turns_of names (first_match (list_numbered p list)) word)) (start g) ≡ ran l up → InCodeOrder (texts_of l)
   pass_in_order list turn final g word f e =
       run_in_order (run_proper final limit (start g) (every_take turn (turns_formed names _ (sound_list s p good list) word (formed_of word f))) (start_proper g)) e
@@ -49,7 +49,7 @@ module _ (s : List ℕ) (p : Pack) (good : pack_of s ≡ accepted p) (names : Li
   final_in_order list old f e = spelling_in_order (final_proper limit names _ (sound_list s p good list) old (every_of (texts_of old) f)) e
 
   -- in a word's answer
-  pub word_in_order : (main common own : ℕ) (g : LanguageSet) (word : Text) → first_ill word ≡ Nothing
+  pub word_in_order : (main common own : ℕ) (g : LanguageSet) (word : Text) → first_ill word ≡ None
       → word_of limit names (first_match (list_numbered p main)) (first_match (list_numbered p common)) (first_match (list_numbered p own)) g word ≡ sets.texts l up → InCodeOrder (texts_of l)
   word_in_order main common own g word f e =
       spelling_in_order (word_proper limit names _ _ _ (sound_list s p good main) (sound_list s p good common) (sound_list s p good own) g word (formed_of word f)) e

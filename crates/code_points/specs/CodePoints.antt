@@ -1,8 +1,7 @@
 -- Texts in the order of their code points (01, Spelling a name: "Texts compare by code points, shorter first"), and what it says of a call.
-use Rattle.std.specs.Prelude.{ℕ, ◌≡◌, Bool, false, take}
+use Rattle.std.specs.Prelude.{ℕ, ◌≡◌, Bool, false, take, None}
 use mathlib.Core.List.{List, Memᴰ, map}
 use Rattle.letters.specs.Reading.{codes_of, first_ill}
-use Rattle.letters.specs.declared.utf8.Found.TheVariants.{Nothing}
 use Rattle.languages.specs.declared.sets.LanguageSet.{LanguageSet}
 use Rattle.pack.specs.Packs.{Pack}
 use Rattle.choices.specs.Texts.{Text}
@@ -18,7 +17,7 @@ use Rattle.answers.specs.Answers.{name_bytes, main_rules, common_rules, own_rule
 
 -- "RFC 3629 decides what is UTF-8" (01, Sources): no ill-formed sequence stands in any of them
 unfoldable pub AllWellFormed : List Text → Type 0
-AllWellFormed ts = (t : Text) → Memᴰ t ts → first_ill t ≡ Nothing
+AllWellFormed ts = (t : Text) → Memᴰ t ts → first_ill t ≡ None
 
 -- each is well formed, and its code points stand before those of the next
 pub record InCodeOrder (ts : List Text) : Type 0 where

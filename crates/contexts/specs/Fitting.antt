@@ -1,8 +1,7 @@
 -- Contexts that fit some text, and rules that match nowhere (02, ticket 11: "Boxes that can never fit").
-use Rattle.std.specs.Prelude.{ℕ, ◌≡◌, true, false}
+use Rattle.std.specs.Prelude.{ℕ, ◌≡◌, true, false, None}
 use mathlib.Core.List.{List, Memᴰ}
 use Rattle.letters.specs.Reading.{first_ill}
-use Rattle.letters.specs.declared.utf8.Found.TheVariants.{Nothing}
 use Rattle.regex_optim.specs.Contexts.{Form, left_form, right_form, fits}
 use Rattle.rule.specs.Matching.{rule_matches}
 use Rattle.rule_lines.specs.Rules.{Rule}
@@ -11,7 +10,7 @@ use Rattle.pack.specs.Packs.{Pack}
 -- some well-formed text fits
 pub record FitsSome (form : Form) : Type 0 where
   pub text : List ℕ
-  pub formed : first_ill text ≡ Nothing
+  pub formed : first_ill text ≡ None
   pub does : fits form text ≡ true
 
 pub record ContextsFit (r : Rule) : Type 0 where

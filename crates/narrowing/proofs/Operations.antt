@@ -1,5 +1,6 @@
 -- The operations of which the laws speak are those of the code: what `narrow_codes` promises of the numbers of two sets, and `merge` of the sets
 -- themselves, is theirs. Assumes nothing.
+use Rattle.std.specs.Prelude.{Option, Some}
 use mathlib.Core.Path.{◌≡◌, refl, sym, ap, ◌∙◌}
 use mathlib.Core.Bool.{Bool, true, false}
 use Prim.Native.Nat.{ℕ}
@@ -12,8 +13,6 @@ use Rattle.languages.specs.Sets.{narrowed, merged, is_empty}
 use Rattle.languages.specs.InnerContracts.{BitsBelow, coded, left_of}
 use Rattle.languages.specs.declared.sets.LanguageSet.{LanguageSet}
 use Rattle.languages.specs.declared.sets.LanguageSet.TheVariants.{Any, SomeLanguages}
-use Rattle.languages.specs.declared.sets.Narrowed.{Narrowed}
-use Rattle.languages.specs.declared.sets.Narrowed.TheVariants.{To}
 use Rattle.languages.proofs.NumberLaws.{set_one}
 use Rattle.languages.proofs.CodedLaws.{narrow_and_test, left_not_empty}
 use Rattle.languages.proofs as code
@@ -27,7 +26,7 @@ use Rattle.rule_index.proofs
 use proofs.guess_languages
 
 -- request 6: of two sets of at most 32 languages, narrowing and the test together
-pub narrow_codes_narrows_and_tests : (κs : Lfts 0) (x y : LanguageSet) → BitsBelow 32 x → BitsBelow 32 y → (r : Narrowed)
+pub narrow_codes_narrows_and_tests : (κs : Lfts 0) (x y : LanguageSet) → BitsBelow 32 x → BitsBelow 32 y → (r : Option ℕ)
     (v : Lasts code_contracts.narrow_codes.ended κs (coded x, (coded y, tt)))
     → code.narrow_codes.Reads.Learnt κs (coded x, (coded y, tt)) r (at_exit code_contracts.narrow_codes.ended κs (coded x, (coded y, tt)) v)
     → r ≡ left_of (narrowed x y)
@@ -35,7 +34,7 @@ narrow_codes_narrows_and_tests κs x y p q r v told = told ∙ narrow_and_test x
 
 -- and of any two numbers: no empty set is to be had from it
 pub narrow_codes_gives_no_empty_set : (κs : Lfts 0) (a b : ℕ) (s : LanguageSet) (v : Lasts code_contracts.narrow_codes.ended κs (a, (b, tt)))
-    → code.narrow_codes.Reads.Learnt κs (a, (b, tt)) (To (coded s)) (at_exit code_contracts.narrow_codes.ended κs (a, (b, tt)) v) → is_empty s ≡ false
+    → code.narrow_codes.Reads.Learnt κs (a, (b, tt)) (Some (coded s)) (at_exit code_contracts.narrow_codes.ended κs (a, (b, tt)) v) → is_empty s ≡ false
 narrow_codes_gives_no_empty_set κs a b s v told = left_not_empty a b s (sym told)
 
 left_over_by : (m : ℕ) (t : Bool) → eqb m 0 ≡ t → is_empty (pick t Any (SomeLanguages m)) ≡ false
