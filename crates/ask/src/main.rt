@@ -6,147 +6,71 @@ mod loading_cases;
 mod spelling_cases;
 mod words_cases;
 
-use cases::Said;
+use cases::{Case, Command, GIVEN, Input, LINE, Output, Said, Word};
+use program_io::Bytes;
 
-// How long the pack and the bundle are that are kept, and how many bytes of output wait.
-#[derive(Clone, Copy)]
-struct Held {
-    pack: usize,
-    bundle: usize,
-    used: usize,
+// How many bytes a pack or a bundle has at most that is kept.
+const ROOM: usize = 98304;
+
+// The pack and the bundle that are kept.
+#[derive(Drop)]
+struct Kept {
+    pack: Bytes<ROOM>,
+    bundle: Bytes<ROOM>,
 }
 
-// What is said of a line, by its word's place and what its fields tell, with the pack and the bundle that are kept.
-fn said_of(
-    command: usize,
-    given: &[u8],
-    tells: &[usize; 9],
-    made: &mut [u8],
-    kept: &[u8],
-    files: &[u8],
-) -> Said {
-    match command {
-        cases::WORD => words_cases::word(given, tells, made, kept),
-        cases::SPELL => spelling_cases::spell(given, tells, made, kept),
-        cases::GIVEN => spelling_cases::spell_given(given, tells, made, kept),
-        cases::LINES => spelling_cases::spell_lines(given, tells, made, kept),
-        cases::LOAD => loading_cases::load(tells, made, files),
-        _ => cases::said_of(command, given, tells, made, kept),
+// What is said of a case, with the pack and the bundle that are kept.
+fn said_of<'a>(case: Case<'a>, made: &mut [u8], kept: &Kept) -> Said<'a> {
+    let pack = kept.pack.as_slice();
+    match case.command {
+        Command::Word => words_cases::word(case, made, pack),
+        Command::Spell => spelling_cases::spell(case, made, pack),
+        Command::Given => spelling_cases::spell_given(case, made, pack),
+        Command::Lines => spelling_cases::spell_lines(case, made, pack),
+        Command::Load => loading_cases::load(case, made, kept.bundle.as_slice()),
+        _ => case.said(made, pack),
     }
 }
 
-// Puts what is said of a line, and answers how many bytes of output wait then.
-fn answer(
-    rt: &HostRuntime,
-    command: usize,
-    given: &[u8],
-    tells: &[usize; 9],
-    made: &mut [u8],
-    kept: &[u8],
-    files: &[u8],
-    out: &mut [u8],
-    used: usize,
-) -> usize {
-    let said = said_of(command, given, tells, made, kept, files);
-    cases::say(rt, said, given, tells, made, out, used)
+// Keeps bytes in the place of those that were kept, where there is room.
+fn keep(bytes: &[u8], kept: &mut Bytes<ROOM>) {
+    if bytes.len() <= ROOM {
+        kept.clear();
+        kept.push(bytes);
+    }
 }
 
-// Takes a line's bytes where it gives them for that and there is room, and answers how many are held now.
-fn replace_held(gives: bool, bytes: &[u8], into: &mut [u8], held: usize) -> usize {
-    if gives {
-        if bytes.len() <= into.len() {
-            into[..bytes.len()].copy_from_slice(bytes);
-            return bytes.len();
+// Answers a case, and keeps the pack or the bundle that it gives.
+fn answer(case: Case, made: &mut [u8], kept: &mut Kept, out: &mut Output) {
+    out.say(said_of(case, made, kept), made);
+    match case.command {
+        Command::Pack => keep(case.bytes(0), &mut kept.pack),
+        Command::Bundle => keep(case.bytes(0), &mut kept.bundle),
+        _ => {}
+    }
+}
+
+// Answers every line of the input. The turns are counted, up to a number that no run uses up, since a proved loop ends.
+fn serve(input: &mut Input, kept: &mut Kept, out: &mut Output) {
+    let mut line = Bytes::<LINE>::new();
+    let mut given = Bytes::<GIVEN>::new();
+    let mut made = program_io::zeros::<GIVEN>();
+    for _ in 0..u64::MAX {
+        let Some(line) = input.next(&mut line) else {
+            break;
+        };
+        match cases::read(line, &mut given) {
+            Some(case) => answer(case, &mut made, kept, out),
+            None => out.say(Said::Word(Word::NoCase), &made),
         }
     }
-    held
-}
-
-// Answers a line, and keeps the pack or the bundle that it gives.
-fn turn(
-    rt: &HostRuntime,
-    line: &[u8],
-    given: &mut [u8],
-    made: &mut [u8],
-    pack: &mut [u8],
-    bundle: &mut [u8],
-    out: &mut [u8],
-    held: Held,
-) -> Held {
-    let mut tells = [0usize; 9];
-    let command = cases::read(line, given, &mut tells);
-    let used = answer(
-        rt,
-        command,
-        given,
-        &tells,
-        made,
-        cases::part(pack, 0, held.pack),
-        cases::part(bundle, 0, held.bundle),
-        out,
-        held.used,
-    );
-    let bytes = cases::bytes_of(given, &tells, 0);
-    Held {
-        pack: replace_held(command == cases::PACK, bytes, pack, held.pack),
-        bundle: replace_held(command == cases::BUNDLE, bytes, bundle, held.bundle),
-        used,
-    }
-}
-
-// Answers every line of the input. The turns are counted down, from a number that no run uses up, since a proved loop
-// ends.
-fn serve(
-    rt: &HostRuntime,
-    block: &mut [u8],
-    line: &mut [u8],
-    given: &mut [u8],
-    made: &mut [u8],
-    pack: &mut [u8],
-    bundle: &mut [u8],
-    out: &mut [u8],
-) {
-    let mut s = cases::next(rt, block, line, cases::start());
-    let mut held = Held {
-        pack: 0,
-        bundle: 0,
-        used: 0,
-    };
-    let mut turns = u64::MAX;
-    while turns > 0 && s.open {
-        held = turn(
-            rt,
-            cases::part(line, 0, s.size),
-            given,
-            made,
-            pack,
-            bundle,
-            out,
-            held,
-        );
-        s = cases::next(rt, block, line, s);
-        turns -= 1;
-    }
-    cases::flush(rt, out, held.used);
+    out.flush();
 }
 
 fn main(rt: HostRuntime) {
-    // a line of 200,000 bytes and one more, and the bytes that such a line can give in hex; a pack and a bundle of 98,304 bytes
-    let mut block = [0u8; 65536];
-    let mut line = [0u8; 200001];
-    let mut given = [0u8; 100000];
-    let mut made = [0u8; 100000];
-    let mut pack = [0u8; 98304];
-    let mut bundle = [0u8; 98304];
-    let mut out = [0u8; 65536];
-    serve(
-        &rt,
-        &mut block,
-        &mut line,
-        &mut given,
-        &mut made,
-        &mut pack,
-        &mut bundle,
-        &mut out,
-    );
+    let mut kept = Kept {
+        pack: Bytes::new(),
+        bundle: Bytes::new(),
+    };
+    serve(&mut Input::new(&rt), &mut kept, &mut Output::new(&rt));
 }

@@ -1,81 +1,74 @@
 // The cases of the crate beider_morse: a name or a block of names spelled into a buffer of so many bytes, each 165.
 use beider_morse::{Lines, Settings, Spelled, Start};
-use cases::{Said, lent};
+use cases::{Case, Said, Word, lent};
 
 // The largest buffer that is lent.
 const ROOM: usize = 4096;
 
-fn settings_of(tells: &[usize; 9]) -> Settings {
+fn settings_of(case: Case) -> Settings {
     Settings {
-        name_type: cases::low(tells[1]),
-        rule_type: cases::low(tells[2]),
-        concat: cases::low(tells[3]),
-        limit: cases::low(tells[4]),
+        name_type: case.number(0),
+        rule_type: case.number(1),
+        concat: case.number(2),
+        limit: case.number(3),
     }
 }
 
-fn answered(s: Spelled, room: usize) -> Said {
+// How large a buffer is lent, by field i.
+fn room_of(case: Case, i: usize) -> Option<usize> {
+    let room = case.number(i) as usize;
+    if room <= ROOM { Some(room) } else { None }
+}
+
+fn answered(s: Spelled, room: usize) -> Said<'static> {
     match s {
-        Spelled::Done { written, flag } => Said::Line(0, flag as usize, written, room),
-        Spelled::Refused { why, place } => Said::Line(
-            refusals::number_of(why) as usize,
-            place,
-            cases::NO_NUMBER,
-            room,
-        ),
+        Spelled::Done { written, flag } => {
+            Said::Line([Some(0), Some(usize::from(flag)), Some(written)], room)
+        }
+        Spelled::Refused { why, place } => {
+            let code = usize::from(refusals::number_of(why));
+            Said::Line([Some(code), Some(place), None], room)
+        }
     }
 }
 
 // `spell T K C L ROOM HEX`: by guessing.
-pub fn spell(given: &[u8], tells: &[usize; 9], made: &mut [u8], kept: &[u8]) -> Said {
-    let room = tells[5];
-    if room > ROOM {
-        return cases::word(cases::NO_CASE);
-    }
-    let name = cases::part(given, 0, tells[6]);
-    let s = beider_morse::spell(settings_of(tells), kept, name, lent(made, room));
-    answered(s, room)
+pub fn spell(case: Case, made: &mut [u8], kept: &[u8]) -> Said<'static> {
+    let Some(room) = room_of(case, 4) else {
+        return Said::Word(Word::NoCase);
+    };
+    let out = lent(made, room);
+    answered(
+        beider_morse::spell(settings_of(case), kept, case.bytes(5), out),
+        room,
+    )
 }
 
 // `given T K C L SETKIND BITS ROOM HEX`: with given languages.
-pub fn spell_given(given: &[u8], tells: &[usize; 9], made: &mut [u8], kept: &[u8]) -> Said {
-    let room = tells[7];
-    if room > ROOM {
-        return cases::word(cases::NO_CASE);
-    }
-    let name = cases::part(given, 0, tells[8]);
-    let s = beider_morse::spell_given(
-        settings_of(tells),
-        cases::low(tells[5]),
-        cases::low(tells[6]),
-        kept,
-        name,
-        lent(made, room),
-    );
+pub fn spell_given(case: Case, made: &mut [u8], kept: &[u8]) -> Said<'static> {
+    let Some(room) = room_of(case, 6) else {
+        return Said::Word(Word::NoCase);
+    };
+    let (kind, bits) = (case.number(4), case.number(5));
+    let out = lent(made, room);
+    let s = beider_morse::spell_given(settings_of(case), kind, bits, kept, case.bytes(7), out);
     answered(s, room)
 }
 
-fn taken(l: Lines, room: usize) -> Said {
+fn taken(l: Lines, room: usize) -> Said<'static> {
     match l {
-        Lines::Done { read, written } => Said::Line(0, read, written, room),
-        Lines::NoRoom { needed } => Said::Line(9, needed, cases::NO_NUMBER, room),
+        Lines::Done { read, written } => Said::Line([Some(0), Some(read), Some(written)], room),
+        Lines::NoRoom { needed } => Said::Line([Some(9), Some(needed), None], room),
     }
 }
 
 // `lines T K C L ROOM HEX`: a block of names, by guessing: 0, how much was read and how much written, or 9 and the length needed; then
 // the buffer.
-pub fn spell_lines(given: &[u8], tells: &[usize; 9], made: &mut [u8], kept: &[u8]) -> Said {
-    let room = tells[5];
-    if room > ROOM {
-        return cases::word(cases::NO_CASE);
-    }
-    let block = cases::part(given, 0, tells[6]);
-    let l = beider_morse::spell_lines(
-        settings_of(tells),
-        Start::Guessed,
-        kept,
-        block,
-        lent(made, room),
-    );
+pub fn spell_lines(case: Case, made: &mut [u8], kept: &[u8]) -> Said<'static> {
+    let Some(room) = room_of(case, 4) else {
+        return Said::Word(Word::NoCase);
+    };
+    let out = lent(made, room);
+    let l = beider_morse::spell_lines(settings_of(case), Start::Guessed, kept, case.bytes(5), out);
     taken(l, room)
 }

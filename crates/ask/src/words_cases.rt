@@ -1,71 +1,62 @@
 // The cases of the crate phoneme_builder.
-use cases::Said;
+use cases::{Case, Said, Word};
 use languages::LanguageSet;
 use pack::Surveyed;
 use phoneme_builder::{Plan, Worded};
 use rule_index::Table;
 
 // A set by its kind and bits.
-fn set_of(kind: usize, bits: usize) -> LanguageSet {
-    if kind == 0 {
-        LanguageSet::Any
-    } else if kind == 1 {
-        LanguageSet::NoLanguages
-    } else {
-        LanguageSet::SomeLanguages(cases::low(bits))
+fn set_of(kind: u32, bits: u32) -> LanguageSet {
+    match kind {
+        0 => LanguageSet::Any,
+        1 => LanguageSet::NoLanguages,
+        _ => LanguageSet::SomeLanguages(bits),
     }
 }
 
 // Whether a pack of so many languages has these lists.
 fn are_listed(by: Plan, languages: usize) -> bool {
-    if languages <= 32 {
-        let lists = 3 * languages + 2;
-        by.main < lists && by.common < lists && by.own < lists
-    } else {
-        false
-    }
+    languages <= 32
+        && [by.main, by.common, by.own]
+            .iter()
+            .all(|list| *list < 3 * languages + 2)
 }
 
-// An answer of so many bytes, where there is room for it.
-fn fitted(flag: bool, length: usize, room: usize) -> Said {
-    if length <= room {
-        return Said::Line(0, flag as usize, cases::NO_NUMBER, length);
-    }
-    cases::word(cases::NO_CASE)
-}
-
-// A word spelled by lists of a table.
-fn spelled(kept: &[u8], table: &Table, by: Plan, word: &[u8], made: &mut [u8]) -> Said {
+// A word spelled by lists of a table, where there is room for its answer.
+fn spelled(kept: &[u8], table: &Table, by: Plan, word: &[u8], made: &mut [u8]) -> Said<'static> {
     if 256 < by.limit {
-        return cases::word(cases::NO_CASE);
+        return Said::Word(Word::NoCase);
     }
     let mut store = [[0u8; 32768]; 4];
     let mut slots = [[0u64; 256]; 4];
     match phoneme_builder::word(&mut store, &mut slots, kept, table, by, word, made, 0) {
-        Worded::Done { length, flag } => fitted(flag, length, made.len()),
-        Worded::TooLong => Said::Count(cases::PLAIN, 7),
-        Worded::TooMany => Said::Count(cases::PLAIN, 8),
+        Worded::Done { length, flag } if length <= made.len() => {
+            Said::Line([Some(0), Some(usize::from(flag)), None], length)
+        }
+        Worded::Done { .. } => Said::Word(Word::NoCase),
+        Worded::TooLong => Said::Count(Word::Plain, 7),
+        Worded::TooMany => Said::Count(Word::Plain, 8),
     }
 }
 
 // `word MAIN COMMON LAST LIMIT KIND BITS WORD`: a word spelled from the lists of these numbers.
-pub fn word(given: &[u8], tells: &[usize; 9], made: &mut [u8], kept: &[u8]) -> Said {
+pub fn word(case: Case, made: &mut [u8], kept: &[u8]) -> Said<'static> {
     let mut table = [[0usize; rule_index::COLUMNS]; rule_index::ROWS];
     match rule_index::index(kept, &mut table, true) {
         Surveyed::Accepted { languages, guesses } => {
             let by = Plan {
-                main: tells[1],
-                common: tells[2],
-                own: tells[3],
-                limit: tells[4],
+                main: case.number(0) as usize,
+                common: case.number(1) as usize,
+                own: case.number(2) as usize,
+                limit: case.number(3) as usize,
                 guesses,
-                set: set_of(tells[5], tells[6]),
+                set: set_of(case.number(4), case.number(5)),
             };
             if are_listed(by, languages) {
-                return spelled(kept, &table, by, cases::part(given, 0, tells[7]), made);
+                return spelled(kept, &table, by, case.bytes(6), made);
             }
-            cases::word(cases::NO_CASE)
+            Said::Word(Word::NoCase)
         }
-        Surveyed::Refused(place) => Said::Count(cases::FIVE, place),
+        Surveyed::Refused(place) => Said::Count(Word::Five, place),
     }
 }

@@ -3,76 +3,50 @@
 #![tactic(auto)]
 
 mod needed;
-mod sorting;
 mod taken;
 mod words;
 
-ghost use Rattle.std.specs.Prelude.{◌≡◌, length};
-
-// The longest path that is read.
-const LONGEST: usize = 4096;
-
-// Zeros for the files, and for the bundle that is made of them. The contract gives only the length, so that no caller's proof sees
-// the zeros.
-fn room() -> [u8; 1048576]
-    ensures { 1048576 ≡ length result }
-{
-    [0; 1048576]
-}
+use needed::Folder;
+use program_io::Bytes;
+use taken::Taken;
 
 // What the names of a type's files begin with.
-fn prefix(name_type: u32) -> [u8; 3] {
-    if name_type == 0 {
-        return [b'a', b's', b'h'];
-    }
-    if name_type == 1 {
-        return [b'g', b'e', b'n'];
-    }
-    [b's', b'e', b'p']
-}
-
-// Writes a bundle to the file that argument 3 names.
-fn write(rt: &HostRuntime, bundle: &[u8]) {
-    let mut path = [0u8; LONGEST];
-    match program_io::argument(rt, 3, &mut path) {
-        Ok(n) => write_path(rt, &path[..n], bundle),
-        Err(why) => program_io::failed(rt, b"bundle: OUT", why),
+fn prefix(name_type: u32) -> Option<&'static [u8]> {
+    match name_type {
+        0 => Some(b"ash"),
+        1 => Some(b"gen"),
+        2 => Some(b"sep"),
+        _ => None,
     }
 }
 
 // Writes a bundle to the file of a path.
-fn write_path(rt: &HostRuntime, path: &[u8], bundle: &[u8]) {
+fn write(rt: &HostRuntime, path: &[u8], bundle: &[u8]) {
     if let Err(why) = program_io::write_file(rt, path, bundle) {
         words::unwritable(rt, path, why);
     }
 }
 
-// Makes the bundle of a type from the files of a folder.
-fn make(rt: &HostRuntime, name_type: u32, dir: &[u8]) {
-    let mut store = room();
-    let mut ends = [0usize; 512];
-    let files = needed::take_all(rt, dir, &prefix(name_type), &mut store, &mut ends);
-    if files.good {
-        let mut bundle = room();
-        let n = sorting::sorted(&store, &ends, files.count, &mut bundle);
-        write(rt, &bundle[0..n]);
-    }
-}
-
-// Makes the bundle of a type from the folder that argument 2 names.
-fn run(rt: &HostRuntime, name_type: u32) {
-    let mut dir = [0u8; LONGEST];
-    match program_io::argument(rt, 2, &mut dir) {
-        Ok(n) => make(rt, name_type, &dir[..n]),
-        Err(why) => program_io::failed(rt, b"bundle: DIR", why),
+// Makes the bundle of the files of a folder, and writes it to the file that argument 3 names.
+fn run(rt: &HostRuntime, dir: &[u8], prefix: &[u8]) {
+    let mut taken = Taken::new();
+    if (Folder { rt, dir, prefix }).take_all(&mut taken).is_ok() {
+        let mut bundle = Bytes::new();
+        taken.put_bundle(&mut bundle);
+        program_io::with_argument(
+            rt,
+            3,
+            b"bundle: OUT",
+            |path| write(rt, path, bundle.as_slice()),
+        );
     }
 }
 
 fn main(rt: HostRuntime) {
-    let name_type = program_io::name_type_at(&rt, 1);
-    if program_io::argument_count(&rt) == 4 && name_type.good && name_type.value < 3 {
-        run(&rt, name_type.value);
-    } else {
-        words::usage(&rt);
+    match program_io::name_type_at(&rt, 1).and_then(prefix) {
+        Some(prefix) if program_io::argument_count(&rt) == 4 => {
+            program_io::with_argument(&rt, 2, b"bundle: DIR", |dir| run(&rt, dir, prefix));
+        }
+        _ => words::usage(&rt),
     }
 }

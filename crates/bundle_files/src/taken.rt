@@ -1,243 +1,178 @@
 // The files taken so far. They stand in `store` one behind the other, each as a bundle has it: the name behind its length byte, and
-// the content behind its length in 4 bytes. `ends` holds where each ends.
-ghost use Rattle.std.specs.Prelude.{◌+◌, ◌≤◌, length};
+// the content behind its length in 4 bytes.
+ghost use Rattle.std.specs.Prelude.{◌≤◌, length, IfOk};
 
 use crate::words;
-use program_io::Filled;
+use program_io::{Bytes, LONGEST};
 use std::io::{Error, ErrorKind};
-use std::str;
+use std::{io, str};
 
-// A path that fills so many bytes is too long.
-const LONGEST: usize = 4096;
+// How many bytes a bundle has at most, and how many files.
+pub const ROOM: usize = 1048576;
 
-// How many files were taken. `good` is false once one could not be: then no more are.
+pub const MOST: usize = 512;
+
+// What went wrong is said, and no bundle is made.
 #[derive(Clone, Copy)]
+pub struct Over;
+
+// The name of a file as a bundle has it.
+fn name_of(file: &[u8]) -> &[u8] {
+    match file {
+        [len, rest @ ..] => rest.get(..usize::from(*len)).unwrap_or(b""),
+        [] => b"",
+    }
+}
+
+fn content_of(file: &[u8]) -> &[u8] {
+    file.get(5 + name_of(file).len()..).unwrap_or(b"")
+}
+
+// Where a file stands in the store.
+#[derive(Clone, Copy)]
+struct Place {
+    start: usize,
+    end: usize,
+}
+
+impl Place {
+    // No bytes where the store has no such place.
+    fn part(self, store: &[u8]) -> &[u8] {
+        store.get(self.start..self.end).unwrap_or(b"")
+    }
+}
+
+#[derive(Drop)]
 pub struct Taken {
-    pub count: usize,
-    pub good: bool,
-}
-
-fn over() -> Taken {
-    Taken {
-        count: 0,
-        good: false,
-    }
-}
-
-// The part of s from a to b, and no bytes where there is no such part.
-fn part(s: &[u8], a: usize, b: usize) -> &[u8] {
-    if a <= b {
-        if b <= s.len() {
-            return &s[a..b];
-        }
-    }
-    &s[0..0]
-}
-
-fn end_of(ends: &[usize], i: usize) -> usize {
-    if i < ends.len() { ends[i] } else { 0 }
-}
-
-fn start_of(ends: &[usize], i: usize) -> usize {
-    if i == 0 { 0 } else { end_of(ends, i - 1) }
-}
-
-// File i whole; no bytes where there is none.
-pub fn file<'a>(store: &'a [u8], ends: &[usize], i: usize) -> &'a [u8] {
-    part(store, start_of(ends, i), end_of(ends, i))
-}
-
-fn wide(b: u8) -> usize
-    ensures { result ≤ 255 }
-{
-    b as usize
-}
-
-// The length of a file's name.
-fn name_length(file: &[u8]) -> usize
-    ensures { result ≤ 255 }
-{
-    if file.len() == 0 { 0 } else { wide(file[0]) }
-}
-
-pub fn name_of(file: &[u8]) -> &[u8] {
-    part(file, 1, 1 + name_length(file))
-}
-
-pub fn content_of(file: &[u8]) -> &[u8] {
-    part(file, 5 + name_length(file), file.len())
-}
-
-// Whether a file of a name was taken.
-fn has(store: &[u8], ends: &[usize], count: usize, name: &[u8]) -> bool {
-    let mut i: usize = 0;
-    while i < count {
-        if letters::same(name_of(file(store, ends, i)), name) {
-            return true;
-        }
-        i += 1;
-    }
-    false
-}
-
-pub fn low_byte(n: usize) -> u8 {
-    (n % 256) as u8
-}
-
-// Puts a name and a content's length in front of the content.
-fn put_head(out: &mut [u8], name: &[u8], len: usize) {
-    let p = program_io::append(out, 0, &[low_byte(name.len())]);
-    let q = program_io::append(out, p, name);
-    program_io::append(
-        out,
-        q,
-        &[
-            low_byte(len / 16777216),
-            low_byte(len / 65536),
-            low_byte(len / 256),
-            low_byte(len),
-        ],
-    );
+    store: [u8; ROOM],
+    used: usize,
+    places: [Place; MOST],
+    count: usize,
+    ghost stored: { used ≤ 1048576 },
+    ghost counted: { count ≤ 512 },
 }
 
 // Puts the path of a file into buf. One that is too long fills it, and is no path.
-fn put_path(dir: &[u8], name: &[u8], buf: &mut [u8]) -> usize
-    ensures { result ≤ length buf.new }
-{
-    let a = program_io::append(buf, 0, dir);
-    let b = program_io::append(buf, a, b"/");
-    let c = program_io::append(buf, b, name);
-    program_io::append(buf, c, b".txt")
-}
-
-// A file that cannot be read: it may be missing.
-fn not_read(rt: &HostRuntime, name: &[u8], path: &[u8], why: Error, t: Taken) -> Taken {
-    if why.kind() == ErrorKind::NotFound {
-        words::missing(rt, name);
-        return t;
-    }
-    words::unreadable(rt, path, why);
-    over()
-}
-
-// Notes the file that was read up to `end`, unless the bundle, with the 2 bytes of its count, is then over 1 MiB.
-fn note_end(rt: &HostRuntime, path: &[u8], end: usize, ends: &mut [usize], t: Taken) -> Taken {
-    let count = t.count;
-    if end > 1048574 {
-        words::too_large(rt, path);
-        return over();
-    }
-    if count < ends.len() {
-        ends[count] = end;
-        return Taken {
-            count: count + 1,
-            good: true,
-        };
-    }
-    words::too_many(rt, path);
-    over()
-}
-
-// How many bytes of the store the taken files are.
-fn used(store: &[u8], ends: &[usize], count: usize) -> usize
-    ensures { result ≤ length store.now }
-{
-    let end = start_of(ends, count);
-    if end <= store.len() { end } else { store.len() }
+fn path_of(dir: &[u8], name: &[u8]) -> Bytes<LONGEST> {
+    let mut path = Bytes::new();
+    path.push(dir);
+    path.push(b"/");
+    path.push(name);
+    path.push(b".txt");
+    path
 }
 
 // Reads a file to the start of out, as a bundle has it, and answers its length there: all of out where it is too long.
-fn read_whole(rt: &HostRuntime, path: &[u8], name: &[u8], out: &mut [u8]) -> Filled
-    ensures { result.have ≤ length out.new }
+fn read_whole(rt: &HostRuntime, path: &[u8], name: &[u8], out: &mut [u8]) -> io::Result<usize>
+    ensures { IfOk result (λ n. n ≤ length out.new) }
 {
     let start = name.len() + 5;
     if out.len() < start {
-        return Filled {
-            have: out.len(),
-            failed: None,
-        };
+        return Ok(out.len());
     }
-    let content = program_io::read_file(rt, path, &mut out[start..]);
-    let len = content.have;
-    put_head(out, name, len);
-    Filled {
-        have: start + len,
-        failed: content.failed,
-    }
-}
-
-// Takes the file of a path.
-fn take_path(
-    rt: &HostRuntime,
-    path: &[u8],
-    name: &[u8],
-    store: &mut [u8],
-    ends: &mut [usize],
-    t: Taken,
-) -> Taken {
-    let at = used(store, ends, t.count);
-    let read = read_whole(rt, path, name, &mut store[at..]);
-    if let Some(why) = read.failed {
-        return not_read(rt, name, path, why, t);
-    }
-    note_end(rt, path, at + read.have, ends, t)
-}
-
-// Takes the file of a name that no taken file has.
-fn take_new(
-    rt: &HostRuntime,
-    dir: &[u8],
-    name: &[u8],
-    store: &mut [u8],
-    ends: &mut [usize],
-    t: Taken,
-) -> Taken {
-    let mut path = [0u8; LONGEST];
-    let n = put_path(dir, name, &mut path);
-    take_path(rt, &path[0..n], name, store, ends, t)
+    let len = program_io::read_file(rt, path, &mut out[start..])?;
+    out[0] = (name.len() % 256) as u8;
+    out[1..start - 4].copy_from_slice(name);
+    out[start - 4..start].copy_from_slice(&(len as u64).to_be_bytes()[4..]);
+    Ok(start + len)
 }
 
 // Whether a file of a folder can have a name and `.txt` behind it: 251 bytes at most, none of them a slash or 0.
 fn is_file_name(name: &[u8]) -> bool {
-    if name.len() > 251 {
-        return false;
-    }
-    let mut i: usize = 0;
-    while i < name.len() {
-        if name[i] == b'/' {
-            return false;
-        }
-        if name[i] == 0 {
-            return false;
-        }
-        i += 1;
-    }
-    true
+    name.len() <= 251 && !name.contains(&b'/') && !name.contains(&0)
 }
 
-// Takes the file of a name, where it is not taken yet and the folder has it.
-pub fn take(
-    rt: &HostRuntime,
-    dir: &[u8],
-    name: &[u8],
-    store: &mut [u8],
-    ends: &mut [usize],
-    t: Taken,
-) -> Taken {
-    if !t.good {
-        return t;
+impl Taken {
+    pub fn new() -> Self {
+        Taken {
+            store: program_io::zeros(),
+            used: 0,
+            places: [Place { start: 0, end: 0 }; MOST],
+            count: 0,
+        }
     }
-    if has(store, ends, t.count, name) {
-        return t;
+
+    pub fn count(&self) -> usize
+        ensures { result ≤ 512 }
+    {
+        self.count
     }
-    if !is_file_name(name) {
-        words::unnamed(rt, name);
-        return t;
+
+    // The content of file i; no bytes where there is none.
+    pub fn content(&self, i: usize) -> &[u8] {
+        match self.places[..self.count].get(i) {
+            Some(place) => content_of(place.part(&self.store)),
+            None => b"",
+        }
     }
-    // std opens no file whose name is not UTF-8
-    if str::from_utf8(name).is_err() {
-        words::unopened(rt, name);
-        return t;
+
+    // Whether a file of a name was taken.
+    fn has(&self, name: &[u8]) -> bool {
+        self.places[..self.count]
+            .iter()
+            .any(|place| name_of(place.part(&self.store)) == name)
     }
-    take_new(rt, dir, name, store, ends, t)
+
+    // Notes the file that was read up to `end`, unless the bundle, with the 2 bytes of its count, is then over 1 MiB.
+    fn note_end(&mut self, rt: &HostRuntime, path: &[u8], end: usize) -> Result<(), Over> {
+        if end > ROOM - 2 {
+            words::too_large(rt, path);
+            return Err(Over);
+        }
+        if self.count == MOST {
+            words::too_many(rt, path);
+            return Err(Over);
+        }
+        self.places[self.count] = Place {
+            start: self.used,
+            end,
+        };
+        self.count += 1;
+        self.used = end;
+        Ok(())
+    }
+
+    // Takes the file of a path. Where it cannot be read it may be missing.
+    fn take_path(&mut self, rt: &HostRuntime, path: &[u8], name: &[u8]) -> Result<(), Over> {
+        match read_whole(rt, path, name, &mut self.store[self.used..]) {
+            Ok(len) => self.note_end(rt, path, self.used + len),
+            Err(why) if why.kind() == ErrorKind::NotFound => {
+                words::missing(rt, name);
+                Ok(())
+            }
+            Err(why) => {
+                words::unreadable(rt, path, why);
+                Err(Over)
+            }
+        }
+    }
+
+    // Takes the file of a name, where it is not taken yet and the folder has it.
+    pub fn take(&mut self, rt: &HostRuntime, dir: &[u8], name: &[u8]) -> Result<(), Over> {
+        if self.has(name) {
+            return Ok(());
+        }
+        if !is_file_name(name) {
+            words::unnamed(rt, name);
+            return Ok(());
+        }
+        // std opens no file whose name is not UTF-8
+        if str::from_utf8(name).is_err() {
+            words::unopened(rt, name);
+            return Ok(());
+        }
+        self.take_path(rt, path_of(dir, name).as_slice(), name)
+    }
+
+    // Puts the bundle of the files into out, in the order of their names.
+    pub fn put_bundle(&mut self, out: &mut Bytes<ROOM>) {
+        let store = &self.store;
+        let all = &mut self.places[..];
+        let places = &mut all[..self.count];
+        places.sort_unstable_by(|a, b| name_of(a.part(store)).cmp(name_of(b.part(store))));
+        out.push(&(self.count as u16).to_be_bytes());
+        for place in places {
+            out.push(place.part(store));
+        }
+    }
 }

@@ -1,82 +1,82 @@
-// Standard input, line by line, through two lent buffers: one for blocks as they are read, one for the line at hand. A line
-// that fills its buffer is too long, and stands as an empty line.
-ghost use Rattle.std.specs.Prelude.{◌≤◌, ◌<◌, length};
+// Standard input, line by line. A line that fills its buffer is too long, and stands as an empty line.
+ghost use Rattle.std.specs.Prelude.{◌≤◌, length};
 
-// The block's bytes from `at` up to `have` are still to be read. The line at hand has `size` bytes; `open` is false once there
-// is none.
-#[derive(Clone, Copy)]
-pub struct Input {
-    pub at: usize,
-    pub have: usize,
-    pub size: usize,
-    pub open: bool,
-}
+use program_io::Bytes;
 
-// Before the first line.
-pub fn start() -> Input {
-    Input {
-        at: 0,
-        have: 0,
-        size: 0,
-        open: true,
-    }
+// How many bytes a block has, and the buffer of a line.
+const BLOCK: usize = 65536;
+
+pub const LINE: usize = 200001;
+
+// The block's bytes from `at` up to `have` are still to be read.
+#[derive(Drop)]
+pub struct Input<'a> {
+    rt: &'a HostRuntime,
+    block: [u8; BLOCK],
+    at: usize,
+    have: usize,
+    ghost starts: { at ≤ have },
+    ghost ends: { have ≤ 65536 },
 }
 
 // Reads a block, and answers how many bytes it has: none once the input has ended.
 fn read_block(rt: &HostRuntime, block: &mut [u8]) -> usize
     ensures { result ≤ length block.new }
 {
-    let filled = program_io::fill(&mut rt.stdin(), block);
-    if let Some(why) = filled.failed {
-        program_io::explain(rt, b"read", why);
-    }
-    filled.have
+    program_io::fill(&mut rt.stdin(), block).unwrap_or_else(|broken| {
+        program_io::explain(rt, b"read", broken.why);
+        broken.have
+    })
 }
 
-fn least(a: usize, b: usize) -> usize
-    ensures { (result ≤ a) × (result ≤ b) }
-{
-    if a < b { a } else { b }
-}
-
-// How much is shown of a line.
-fn shown(size: usize, room: usize) -> usize {
-    if size < room { size } else { 0 }
-}
-
-// How often a line is read on, from a number that no run uses up, since a proved loop ends: not once more behind the last block.
-fn turns_left(turns: u64, have: usize) -> u64
-    requires { 1 ≤ turns }
-    ensures { result < turns }
-{
-    if have == 0 { 0 } else { turns - 1 }
-}
-
-// The line after s.
-pub fn next(rt: &HostRuntime, block: &mut [u8], line: &mut [u8], s: Input) -> Input {
-    let mut have = least(s.have, block.len());
-    let mut at = least(s.at, have);
-    let mut size: usize = 0;
-    let mut turns = u64::MAX;
-    while turns > 0 {
-        let end = at + program_io::length_before(&block[at..have], b'\n');
-        size = program_io::append(line, size, &block[at..end]);
-        if end < have {
-            return Input {
-                at: end + 1,
-                have,
-                size: shown(size, line.len()),
-                open: true,
-            };
+impl<'a> Input<'a> {
+    // Before the first line.
+    pub fn new(rt: &'a HostRuntime) -> Self {
+        Input {
+            rt,
+            block: program_io::zeros(),
+            at: 0,
+            have: 0,
         }
-        at = 0;
-        have = read_block(rt, block);
-        turns = turns_left(turns, have);
     }
-    Input {
-        at: 0,
-        have: 0,
-        size: shown(size, line.len()),
-        open: size > 0,
+
+    // Puts the block's bytes up to the end of a line behind the line, and answers whether the block has that end.
+    fn put_rest(&mut self, line: &mut Bytes<LINE>) -> bool {
+        let rest = &self.block[self.at..self.have];
+        let n = program_io::length_before(rest, b'\n');
+        line.push(&rest[..n]);
+        let ends = n < rest.len();
+        if ends {
+            self.at += n + 1;
+        }
+        ends
+    }
+
+    // Reads a line, and answers whether there is one. The blocks are counted, up to a number that no run uses up, since a proved
+    // loop ends.
+    fn read_line(&mut self, line: &mut Bytes<LINE>) -> bool {
+        line.clear();
+        for _ in 0..u64::MAX {
+            if self.put_rest(line) {
+                return true;
+            }
+            self.at = 0;
+            self.have = read_block(self.rt, &mut self.block);
+            if self.have == 0 {
+                break;
+            }
+        }
+        line.len() > 0
+    }
+
+    // The next line, which stands in a buffer.
+    pub fn next<'b>(&mut self, line: &'b mut Bytes<LINE>) -> Option<&'b [u8]> {
+        if !self.read_line(line) {
+            None
+        } else if line.len() == LINE {
+            Some(b"")
+        } else {
+            Some(line.as_slice())
+        }
     }
 }

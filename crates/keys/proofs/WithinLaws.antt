@@ -1,5 +1,5 @@
 -- What was read and written of a block, by the answer for its lines.
-use Rattle.std.proofs.Common.{◌≡◌, ℕ, ◌≤◌, List, length, arith}
+use Rattle.std.proofs.Common.{◌≡◌, ℕ, List, length, arith}
 use Rattle.engine.specs.Calls.{CallOutcome}
 use Rattle.engine.specs.Lines.{LinesIs}
 use Rattle.engine.specs.declared.lines.Lines.{Lines}
@@ -8,15 +8,5 @@ use Rattle.engine.proofs.LinesLaws.{lines_read, lines_written}
 use Rattle.keys.specs.InnerContracts.{Within}
 
 pub lines_within : {call : List ℕ → CallOutcome} {block out o : List ℕ} (r : Lines) → LinesIs call block out r o → length o ≡ length out → Within r (length block) (length o)
-unfolding Within
 lines_within (Done read written) x e = (lines_read x, omega (arith, lines_written x))
 lines_within (NoRoom needed) x e = tt
-
-module _ (r : Lines) (block size read written : ℕ) (w : Within r block size) (e : r ≡ Done read written) where
-  pub within_block : read ≤ block
-  unfolding Within
-  within_block = (rw e at w).0
-
-  pub within_buffer : written ≤ size
-  unfolding Within
-  within_buffer = (rw e at w).1

@@ -1,144 +1,118 @@
-// Standard input, block by block, through a lent buffer. A line that is too long for the buffer is cut to a length that no
-// name has.
-ghost use Rattle.std.specs.Prelude.{◌≤◌, ◌<◌, length};
-ghost use Rattle.keys.specs.InnerContracts.{Waits};
+// Standard input, block by block. A line that is too long for the buffer is cut to a length that no name has.
+ghost use Rattle.std.specs.Prelude.{◌≡◌, ◌≤◌, ◌<◌, ◌-◌, length};
 
-// The bytes of the buffer from `from` up to `have` wait to be answered. `open` is false once the input has ended, and
-// then only whole lines wait.
-#[derive(Clone, Copy)]
+// How many bytes the buffer holds.
+const ROOM: usize = 65536;
+
+// The bytes of the buffer from `from` up to `have` wait to be answered. `open` is false once the input has ended, and then only
+// whole lines wait.
+#[derive(Drop)]
 pub struct Input {
-    pub from: usize,
-    pub have: usize,
-    pub open: bool,
+    buf: [u8; ROOM],
+    from: usize,
+    have: usize,
+    open: bool,
+    ghost starts: { from ≤ have },
+    ghost ends: { have ≤ 65536 },
 }
 
-// Before the first block.
-pub fn start() -> Input
-    ensures { Waits result 0 }
-{
-    Input {
-        from: 0,
-        have: 0,
-        open: true,
-    }
-}
-
-// Nothing waits, and nothing comes.
-pub fn ended() -> Input
-    ensures { Waits result 0 }
-{
-    Input {
-        from: 0,
-        have: 0,
-        open: false,
-    }
-}
-
-// Whether there may be a further line.
-pub fn goes_on(s: Input) -> bool {
-    s.open || s.from < s.have
-}
-
-// Reads standard input behind the `had` bytes of buf, and answers how many buf then holds: all that it can, unless the
-// input has ended.
+// Reads standard input behind the `had` bytes of buf, and answers how many buf then holds: all that it can, unless the input has
+// ended.
 fn more(rt: &HostRuntime, buf: &mut [u8], had: usize) -> usize
     requires { had ≤ length buf.old }
-    ensures { (had ≤ result) × (result ≤ length buf.new) }
+    ensures from { had ≤ result }
+    ensures to { result ≤ length buf.new }
 {
-    let filled = program_io::fill(&mut rt.stdin(), &mut buf[had..]);
-    if let Some(why) = filled.failed {
-        program_io::failed(rt, b"keys: standard input", why);
-    }
-    had + filled.have
+    had + program_io::fill(&mut rt.stdin(), &mut buf[had..]).unwrap_or_else(|broken| {
+        program_io::failed(rt, b"keys: standard input", broken.why);
+        broken.have
+    })
 }
 
-// Moves the bytes from `from` up to `to` to the start of buf.
-fn shift(buf: &mut [u8], from: usize, to: usize)
-    requires { (from ≤ to) × (to ≤ length buf.old) }
-{
-    let mut i: usize = 0;
-    let n = to - from;
-    while i < n {
-        buf[i] = buf[from + i];
-        i += 1;
-    }
-}
-
-// Passes over the rest of a line. Answers how many bytes behind it were read, which then stand at the start of buf.
+// Passes over the rest of a line. Answers how many bytes behind it were read, which then stand at the start of buf. The turns are
+// counted, up to a number that no run uses up, since a proved loop ends.
 fn skip(rt: &HostRuntime, buf: &mut [u8]) -> usize
     ensures { result ≤ length buf.old }
 {
-    let mut turns = u64::MAX;
-    let mut have = buf.len();
-    let mut end = have;
-    while turns > 0 && end == have && have > 0 {
-        have = more(rt, buf, 0);
-        end = program_io::length_before(&buf[..have], b'\n');
-        turns -= 1;
-    }
-    if end < have {
-        shift(buf, end + 1, have);
-        return have - (end + 1);
+    for _ in 0..u64::MAX {
+        let have = more(rt, buf, 0);
+        let end = program_io::length_before(&buf[..have], b'\n');
+        if end < have {
+            buf.copy_within(end + 1..have, 0);
+            return have - (end + 1);
+        }
+        if have == 0 {
+            break;
+        }
     }
     0
 }
 
-// A line that fills buf with no end to it: of it stay 127 bytes and a line feed.
-fn cut(rt: &HostRuntime, buf: &mut [u8]) -> Input
-    requires { 128 ≤ length buf.old }
-    ensures { Waits result (length buf.old) }
-{
-    let n = skip(rt, &mut buf[128..]);
-    buf[127] = b'\n';
-    Input {
-        from: 0,
-        have: 128 + n,
-        open: true,
-    }
-}
-
-// The last block, of `have` bytes. A line that no line feed ends gets one.
-fn last(buf: &mut [u8], have: usize) -> Input
-    requires { have < length buf.old }
-    ensures { Waits result (length buf.old) }
-{
-    if have == 0 {
-        return ended();
-    }
-    if buf[have - 1] == b'\n' {
-        return Input {
+impl Input {
+    // Before the first block.
+    pub fn new() -> Self {
+        Input {
+            buf: program_io::zeros(),
             from: 0,
-            have,
-            open: false,
-        };
-    }
-    buf[have] = b'\n';
-    Input {
-        from: 0,
-        have: have + 1,
-        open: false,
-    }
-}
-
-// The next block, of which no whole line waits yet: what waits, at the start of buf, and what can be read behind it.
-pub(crate) fn read_on(rt: &HostRuntime, buf: &mut [u8], s: Input) -> Input
-    requires { (128 ≤ length buf.old) × Waits s (length buf.old) }
-    ensures { Waits result (length buf.new) }
-{
-    let from = s.from;
-    let to = s.have;
-    shift(buf, from, to);
-    let had = to - from;
-    let have = more(rt, buf, had);
-    if have < buf.len() {
-        return last(buf, have);
-    }
-    if program_io::length_before(&buf[had..have], b'\n') < have - had {
-        return Input {
-            from: 0,
-            have,
+            have: 0,
             open: true,
-        };
+        }
     }
-    cut(rt, buf)
+
+    // Whether there may be a further line.
+    pub fn goes_on(&self) -> bool {
+        self.open || self.from < self.have
+    }
+
+    // The bytes that wait.
+    pub fn waiting(&self) -> &[u8]
+        ensures { length result.now ≡ self.now.have - self.now.from }
+    {
+        &self.buf[self.from..self.have]
+    }
+
+    // Passes over bytes that are answered.
+    pub fn pass(&mut self, n: usize)
+        requires { n ≤ self.old.have - self.old.from }
+    {
+        self.from += n;
+    }
+
+    // Nothing waits any more, and nothing comes.
+    pub fn end(&mut self) {
+        self.have = self.from;
+        self.open = false;
+    }
+
+    // Goes on, where no whole line waits yet: what waits, at the start of the buffer, and what can be read behind it.
+    pub fn read_on(&mut self, rt: &HostRuntime) {
+        let had = self.have - self.from;
+        self.buf.copy_within(self.from..self.have, 0);
+        self.from = 0;
+        self.have = more(rt, &mut self.buf, had);
+        if self.have < ROOM {
+            self.close();
+        } else if !self.buf[had..].contains(&b'\n') {
+            self.cut(rt);
+        }
+    }
+
+    // The last block. A line that no line feed ends gets one.
+    fn close(&mut self)
+        requires { self.old.have < 65536 }
+    {
+        self.open = false;
+        if self.waiting().last().is_some_and(|b| *b != b'\n') {
+            self.buf[self.have] = b'\n';
+            self.have += 1;
+        }
+    }
+
+    // A line that fills the buffer with no end to it: of it stay 127 bytes and a line feed.
+    fn cut(&mut self, rt: &HostRuntime)
+        requires { self.old.from ≡ 0 }
+    {
+        self.buf[127] = b'\n';
+        self.have = 128 + skip(rt, &mut self.buf[128..]);
+    }
 }

@@ -1,43 +1,39 @@
 // Whole files.
-ghost use Rattle.std.specs.Prelude.{◌≤◌, length};
+ghost use Rattle.std.specs.Prelude.{◌≤◌, length, IfOk, MatchResult};
 
 use std::io::{Error, ErrorKind, Read};
 use std::rt::Files;
 use std::{fs, io, str};
 
-// How many bytes a buffer holds, and why a read failed, where one did.
+// Why a read failed, and how many bytes were read before.
 #[derive(Clone, Copy)]
-pub struct Filled {
+pub struct Broken {
     pub have: usize,
-    pub failed: Option<Error>,
+    pub why: Error,
 }
 
-// Reads until buf is full, the input ends or a read fails.
-pub fn fill(input: &mut impl Read, buf: &mut [u8]) -> Filled
-    ensures { result.have ≤ length buf.new }
+// Reads until buf is full or the input ends, and answers how many bytes buf then holds.
+pub fn fill(input: &mut impl Read, buf: &mut [u8]) -> Result<usize, Broken>
+    ensures { MatchResult result (λ n. n ≤ length buf.new) (λ e. e.have ≤ length buf.new) }
 {
-    let mut have: usize = 0;
+    let mut have = 0;
+    // Stays a loop by hand: how far a step goes is what was read, and std's read_exact fails where the input ends.
     while have < buf.len() {
         match input.read(&mut buf[have..]) {
-            Ok(0) => return Filled { have, failed: None },
+            Ok(0) => break,
             Ok(more) => have += more,
-            Err(why) => {
-                return Filled {
-                    have,
-                    failed: Some(why),
-                };
-            }
+            Err(why) => return Err(Broken { have, why }),
         }
     }
-    Filled { have, failed: None }
+    Ok(have)
 }
 
 // A path as text, since std opens no path that is not UTF-8.
 fn text_of(path: &[u8]) -> io::Result<&str> {
-    match str::from_utf8(path) {
-        Ok(text) => Ok(text),
-        Err(_) => Err(Error::new(ErrorKind::InvalidFilename, "a path that is not UTF-8")),
-    }
+    str::from_utf8(path).map_err(|_| Error::new(
+        ErrorKind::InvalidFilename,
+        "a path that is not UTF-8",
+    ))
 }
 
 // Opens a file for reading.
@@ -45,17 +41,12 @@ fn open<R: Files>(files: &R, path: &[u8]) -> io::Result<R::File> {
     fs::open(files, text_of(path)?)
 }
 
-// Reads a file, as far as buf goes.
-pub fn read_file(files: &impl Files, path: &[u8], buf: &mut [u8]) -> Filled
-    ensures { result.have ≤ length buf.new }
+// Reads a file, as far as buf goes, and answers how many bytes buf then holds.
+pub fn read_file(files: &impl Files, path: &[u8], buf: &mut [u8]) -> io::Result<usize>
+    ensures { IfOk result (λ n. n ≤ length buf.new) }
 {
-    match open(files, path) {
-        Ok(mut file) => fill(&mut file, buf),
-        Err(why) => Filled {
-            have: 0,
-            failed: Some(why),
-        },
-    }
+    let mut file = open(files, path)?;
+    fill(&mut file, buf).map_err(|broken| broken.why)
 }
 
 // Makes a file of these bytes, or puts them in the place of those that it has.

@@ -1,50 +1,20 @@
-// Short texts put together in a buffer, and the word that something went wrong.
-ghost use Rattle.std.specs.Prelude.{◌≤◌, length};
-
+// The word that something went wrong.
 use crate::files::read_file;
 use std::fs::OpenOptions;
 use std::io::{Error, Write};
 use std::rt::Files;
 use std::{io, str};
 
-// How many bytes stand before the first b in s: all of them where it has none.
-pub fn length_before(s: &[u8], b: u8) -> usize
-    ensures { result ≤ length s.now }
-{
-    s.iter().position(|x| *x == b).unwrap_or(s.len())
-}
-
-// Puts bytes behind the `used` ones of buf, and answers how many those then are: all of buf where there is no room.
-pub fn append(buf: &mut [u8], used: usize, src: &[u8]) -> usize
-    ensures { result ≤ length buf.new }
-{
-    if used <= buf.len() {
-        if src.len() <= buf.len() - used {
-            buf[used..used + src.len()].copy_from_slice(src);
-            return used + src.len();
-        }
-    }
-    buf.len()
-}
-
-// Puts a decimal number behind the `used` bytes of buf.
-pub fn append_decimal(buf: &mut [u8], used: usize, n: u64) -> usize
-    ensures { result ≤ length buf.new }
-{
-    let mut digits = itoa::Buffer::new();
-    append(buf, used, digits.format(n).as_bytes())
-}
-
 // Whether descriptor 3 is open for writing: the last digit of its flags is how it was opened, and 0 is for reading.
 fn is_listened_to(files: &impl Files) -> bool {
     let mut info = [0u8; 256];
-    let n = read_file(files, b"/proc/self/fdinfo/3", &mut info).have;
-    match str::from_utf8(&info[..n]) {
-        Ok(text) => text
-            .lines()
-            .any(|line| line.starts_with("flags:") && !line.ends_with('0')),
-        Err(_) => false,
-    }
+    let Ok(n) = read_file(files, b"/proc/self/fdinfo/3", &mut info) else {
+        return false;
+    };
+    str::from_utf8(&info[..n]).is_ok_and(|text| {
+        text.lines()
+            .any(|line| line.starts_with("flags:") && !line.ends_with('0'))
+    })
 }
 
 // Writes bytes to descriptor 3.
@@ -77,10 +47,8 @@ pub fn say(rt: &HostRuntime, words: &[u8]) {
 
 // What the system calls an error: std puts its number behind that.
 fn words_of(text: &str) -> &str {
-    match text.split_once(" (os error ") {
-        Some((words, _)) => words,
-        None => text,
-    }
+    text.split_once(" (os error ")
+        .map_or(text, |(words, _)| words)
 }
 
 // Puts a colon and why something failed on standard error.

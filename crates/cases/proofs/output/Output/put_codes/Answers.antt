@@ -1,6 +1,6 @@
 use Rattle.std.proofs.Common.{rules}
 use Rattle.letters.proofs.ReadingLaws.{step_laws, step_end}
-use Rattle.cases.proofs.said.put_codes.Goals as goal
+use Rattle.cases.proofs.output.Output.put_codes.Goals as goal
 
 pub overflow_add-p : goal.overflow_add-p
 overflow_add-p c = search (step_laws, rules)

@@ -1,0 +1,79 @@
+// Bytes put together in an array.
+ghost use Rattle.std.specs.Prelude.{◌≡◌, ◌≤◌, length};
+
+use std::fmt;
+use std::fmt::Display;
+
+// An array of zeros. The contract gives only the length, so that no caller's proof sees the zeros.
+pub fn zeros<const N: usize>() -> [u8; N]
+    ensures { N ≡ length result }
+{
+    [0; N]
+}
+
+// How many bytes stand before the first b in s: all of them where it has none.
+pub fn length_before(s: &[u8], b: u8) -> usize
+    ensures { result ≤ length s.now }
+{
+    s.iter().position(|x| *x == b).unwrap_or(s.len())
+}
+
+// Bytes put one behind the other. What has no room fills the array up, and nothing has room then.
+#[derive(Clone, Copy)]
+pub struct Bytes<const N: usize> {
+    array: [u8; N],
+    len: usize,
+    ghost within: { len ≤ N },
+}
+
+impl<const N: usize> Bytes<N> {
+    // None yet.
+    pub fn new() -> Self {
+        Bytes {
+            array: zeros(),
+            len: 0,
+        }
+    }
+
+    pub fn len(&self) -> usize
+        ensures { result ≤ N }
+    {
+        self.len
+    }
+
+    pub fn as_slice(&self) -> &[u8]
+        ensures { length result.now ≤ N }
+    {
+        &self.array[..self.len]
+    }
+
+    // Puts bytes behind those that there are.
+    pub fn push(&mut self, src: &[u8]) {
+        if src.len() <= N - self.len {
+            let start = self.len;
+            let array = &mut self.array[..];
+            array[start..start + src.len()].copy_from_slice(src);
+            self.len = start + src.len();
+        } else {
+            self.len = N;
+        }
+    }
+
+    // Puts the text of a value behind them.
+    pub fn print(&mut self, value: impl Display + Drop) {
+        // nothing that is put here fails
+        let _ = fmt::Write::write(self, value);
+    }
+
+    // Begins anew with none.
+    pub fn clear(&mut self) {
+        self.len = 0;
+    }
+}
+
+impl<const N: usize> fmt::Write for Bytes<N> {
+    fn write_str(&mut self, s: &str) -> fmt::Result {
+        self.push(s.as_bytes());
+        Ok(())
+    }
+}
