@@ -1,5 +1,9 @@
 // The program's arguments, and the numbers that they are.
-ghost use Rattle.std.specs.Prelude.{◌≤◌, IfOk, length};
+ghost use Rattle.std.specs.Prelude.{◌≡◌, ◌≤◌, ◌<◌, ◌^◌, IfOk, length};
+ghost use Rattle.std.specs.List.{list_all};
+ghost use Rattle.std.specs.Char.{is_ascii_digit};
+ghost use Rattle.std.specs.Option.{SomeIff};
+ghost use Rattle.std.specs.Str.Parse.{IsNumeral, digits_value};
 
 use crate::words::failed;
 use std::env::FillError;
@@ -7,9 +11,19 @@ use std::io::Error;
 use std::rt::Env;
 use std::{io, str};
 
+// Whether s is digits alone.
+fn all_digits(s: &[u8]) -> bool
+    ensures { result ≡ list_all is_ascii_digit s.now }
+{
+    s.iter().all(u8::is_ascii_digit)
+}
+
 // A decimal number up to 4294967295, of digits alone.
-pub fn decimal(text: &[u8]) -> Option<u32> {
-    if !text.iter().all(|b| b.is_ascii_digit()) {
+#[tactic(auto, using(crate::proofs::DigitLaws::digits_utf8, crate::proofs::DigitLaws::others_no_numeral))]
+pub fn decimal(text: &[u8]) -> Option<u32>
+    ensures { SomeIff result (IsNumeral 10 text.now × (digits_value 10 text.now < 2 ^ 32)) (digits_value 10 text.now) }
+{
+    if !all_digits(text) {
         return None;
     }
     str::from_utf8(text).ok()?.parse().ok()
@@ -72,6 +86,7 @@ pub fn name_type_at(env: &impl Env, i: usize) -> Option<u32> {
 }
 
 // Does something with argument i, or says what it should be, and why it cannot be read.
+// No `ensures`: what is done is the caller's, and what is said goes to standard error.
 pub fn with_argument<F: FnOnce(&[u8])>(rt: &HostRuntime, i: usize, what: &[u8], act: F)
     requires { F.IsAlwaysCallable act }
 {

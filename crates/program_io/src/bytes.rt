@@ -1,5 +1,5 @@
 // Bytes put together in an array.
-ghost use Rattle.std.specs.Prelude.{◌≡◌, ◌≤◌, length};
+ghost use Rattle.std.specs.Prelude.{◌≡◌, ◌+◌, ◌<◌, ◌≤◌, [], ◌++◌, length, take};
 
 use std::fmt;
 use std::fmt::Display;
@@ -27,8 +27,12 @@ pub struct Bytes<const N: usize> {
 }
 
 impl<const N: usize> Bytes<N> {
+    ghost use Rattle.program_io.specs.Bytes.{contents};
+
     // None yet.
-    pub fn new() -> Self {
+    pub fn new() -> Self
+        ensures { contents result ≡ [] }
+    {
         Bytes {
             array: zeros(),
             len: 0,
@@ -36,19 +40,25 @@ impl<const N: usize> Bytes<N> {
     }
 
     pub fn len(&self) -> usize
-        ensures { result ≤ N }
+        ensures number { result ≡ length (contents self.now) }
+        ensures bound { result ≤ N }
     {
         self.len
     }
 
     pub fn as_slice(&self) -> &[u8]
-        ensures { length result.now ≤ N }
+        ensures whole { result.now ≡ contents self.now }
+        ensures bound { length result.now ≤ N }
     {
         &self.array[..self.len]
     }
 
     // Puts bytes behind those that there are.
-    pub fn push(&mut self, src: &[u8]) {
+    pub fn push(&mut self, src: &[u8])
+        ensures fits { length (contents self.old) + length src.now ≤ N → contents self.new ≡ contents self.old ++ src.now }
+        ensures full { N < length (contents self.old) + length src.now → length (contents self.new) ≡ N }
+        ensures kept { take (length (contents self.old)) (contents self.new) ≡ contents self.old }
+    {
         if src.len() <= N - self.len {
             let start = self.len;
             let array = &mut self.array[..];
@@ -60,13 +70,17 @@ impl<const N: usize> Bytes<N> {
     }
 
     // Puts the text of a value behind them.
-    pub fn print(&mut self, value: impl Display + Drop) {
+    pub fn print(&mut self, value: impl Display + Drop)
+        ensures { length (contents self.new) ≤ N }
+    {
         // nothing that is put here fails
         let _ = fmt::Write::write(self, value);
     }
 
     // Begins anew with none.
-    pub fn clear(&mut self) {
+    pub fn clear(&mut self)
+        ensures { contents self.new ≡ [] }
+    {
         self.len = 0;
     }
 }
