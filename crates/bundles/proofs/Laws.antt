@@ -1,4 +1,5 @@
 -- A file by its places, the loops over the files of a bundle, and what a file that is found tells. Assumes nothing.
+use Rattle.bundles.specs.declared.FileAt.{FileAt}
 use Rattle.strings.specs.declared.Number.{Number}
 use Rattle.strings.specs.declared.Span.{Span}
 use mathlib.Core.Path.{◌≡◌, refl, sym, ap, ap₂, ◌∙◌}
@@ -21,10 +22,8 @@ use Rattle.strings.specs.InnerContracts.{number_at, string_at, behind, read_some
 use Rattle.strings.proofs.Readers.{count_of, count_cut, mask_of, mask_cut, text_is, text_cut, some_one}
 use Rattle.base.proofs.Arms.{clash}
 use Rattle.bundles.specs.Bundles.{File, file, read_content, read_file, read_bundle, file_name, well_formed, Found, missing, found, file_named}
-use Rattle.bundles.specs.PlaceContracts.{FileNumbers, stands, nowhere, file_numbers, content_from, content_to, place_among, file_at}
+use Rattle.bundles.specs.PlaceContracts.{FileNumbers, stands, nowhere, file_numbers, content_from, content_to, place_among, file_at, file_span}
 use Rattle.bundles.specs.InnerContracts.{follows_in, Placed, EntryIs, Stands, files_of}
-use Rattle.bundles.specs.declared.FileAt.{FileAt}
-use Rattle.bundles.specs.declared.FileAt.TheVariants as file-at
 use Rattle.bundles.specs.declared.Entry.{Entry}
 use Rattle.std.specs.Prelude.{Option, Some, None}
 use Rattle.base.proofs.PickLaws.{pick_true, pick_false, and_assoc}
@@ -200,7 +199,7 @@ pub record Seeking (s name : List ℕ) (at n i : ℕ) : Type 0 where
   pub is : file_at s name ≡ place_among name i at (read_some read_file (n - i) (drop at s))
 
 module _ (s name : List ℕ) (r : Option Number) (p : r ≡ number_at 2 s 0) where
-  pub seek_cut : r ≡ None → file_numbers file-at.Missing ≡ file_at s name
+  pub seek_cut : r ≡ None → file_numbers None ≡ file_at s name
   unfolding file_at files_of behind place_among file_numbers
   seek_cut q = sym (ap (λ (x : Read ℕ). place_among name 0 2 (behind x (λ n l. read_some read_file n l))) (count_cut s 0 r p q))
 
@@ -236,7 +235,7 @@ module _ (s : List ℕ) (at a b c d : ℕ) (w : Placed s at a b c d) where
 
 module _ {s name : List ℕ} {at n i : ℕ} (w : Seeking s name at n i) where
   module _ (x : Option Entry) (g : EntryIs s at x) where
-    pub seeking_cut : x ≡ None → file_numbers file-at.Missing ≡ file_at s name
+    pub seeking_cut : x ≡ None → file_numbers None ≡ file_at s name
     unfolding place_among file_numbers
     seeking_cut q = sym (w.is ∙ ap (place_among name i at) (some_cut (n - i) _ (cut_there s at x g q)))
 
@@ -246,7 +245,7 @@ module _ {s name : List ℕ} {at n i : ℕ} (w : Seeking s name at n i) where
           let m : n - i - 1 ≡ n - (i + 1) = omega arith in
           w.is ∙ placed_one s at e.name e.name_end e.start e.end (placed s at x g e q) name i (n - i) (omega arith) ∙ rw (sym f, m) refl
 
-      pub seeking_found : t ≡ true → file_numbers (file-at.At i e.start e.end) ≡ file_at s name
+      pub seeking_found : t ≡ true → file_numbers (Some (file_span i e.start e.end)) ≡ file_at s name
       unfolding file_numbers
       seeking_found v = sym (step_file ∙ pick_true _ _ _ v)
 
@@ -255,7 +254,7 @@ module _ {s name : List ℕ} {at n i : ℕ} (w : Seeking s name at n i) where
         is = step_file ∙ pick_false _ _ _ v ∙ ap (λ (m : ℕ). place_among name m e.end (read_some read_file (n - (i + 1)) (drop e.end s))) (sym (add-one i));
       }
 
-  pub seeking_done : n ≤ i → file_numbers file-at.Missing ≡ file_at s name
+  pub seeking_done : n ≤ i → file_numbers None ≡ file_at s name
   unfolding place_among read_some file_numbers
   seeking_done h = let none : n - i ≡ 0 = omega arith in sym (w.is ∙ ap (λ (k : ℕ). place_among name i at (read_some read_file k (drop at s))) none)
 
@@ -263,16 +262,16 @@ pub ruleset seek_laws = (name_order, name_fits, seek_cut, seeking_start, seeking
 
 -- ---- no two answers have the same numbers
 
-pub numbers_one : (x y : FileAt) → file_numbers x ≡ file_numbers y → x ≡ y
+pub numbers_one : (x y : Option FileAt) → file_numbers x ≡ file_numbers y → x ≡ y
 unfolding file_numbers number_of
-numbers_one (file-at.At k a b) (file-at.At l c d) e =
-    let number : k ≡ l = ap (λ (n : FileNumbers). n.number) e in
-    let start : a ≡ c = ap (λ (n : FileNumbers). n.start) e in
-    let end : b ≡ d = ap (λ (n : FileNumbers). n.end) e in
-    cc
-numbers_one (file-at.At k a b) file-at.Missing e = let z : ◌≡◌ {A = ℕ} 0 11 = ap (λ (n : FileNumbers). n.code) e in absurd (omega arith)
-numbers_one file-at.Missing (file-at.At k a b) e = let z : ◌≡◌ {A = ℕ} 11 0 = ap (λ (n : FileNumbers). n.code) e in absurd (omega arith)
-numbers_one file-at.Missing file-at.Missing e = refl
+numbers_one (Some one) (Some other) e =
+    let number : one.number ≡ other.number = ap (λ (n : FileNumbers). n.number) e in
+    let start : one.start ≡ other.start = ap (λ (n : FileNumbers). n.start) e in
+    let end : one.end ≡ other.end = ap (λ (n : FileNumbers). n.end) e in
+    ap Some (λ i. record { number = number i; start = start i; end = end i })
+numbers_one (Some whole) None e = let z : ◌≡◌ {A = ℕ} 0 11 = ap (λ (n : FileNumbers). n.code) e in absurd (omega arith)
+numbers_one None (Some whole) e = let z : ◌≡◌ {A = ℕ} 11 0 = ap (λ (n : FileNumbers). n.code) e in absurd (omega arith)
+numbers_one None None e = refl
 
 -- ---- what an answer tells of the file that was asked for
 
@@ -344,26 +343,26 @@ told_found s (found m c) k a b w =
     let end : w.1 ≡ b = sym (ap (λ (n : FileNumbers). n.end) w.2) in
     (c, ap (λ (i : ℕ). found i c) number, rw (start, end) at w.3)
 
-module _ (s name : List ℕ) (r : FileAt) (w : file_numbers r ≡ file_at s name) where
-  finds : (x : FileAt) → r ≡ x → Finds s (file_named name 0 (files_of s)) (file_numbers x)
+module _ (s name : List ℕ) (r : Option FileAt) (w : file_numbers r ≡ file_at s name) where
+  finds : (x : Option FileAt) → r ≡ x → Finds s (file_named name 0 (files_of s)) (file_numbers x)
   finds x q = rw (← q, w) (finds_all s name (number_at 2 s 0) refl)
 
-  pub missing_is : r ≡ file-at.Missing → file_named name 0 (files_of s) ≡ missing
+  pub missing_is : r ≡ None → file_named name 0 (files_of s) ≡ missing
   unfolding file_numbers
   missing_is q = told_missing s _ (finds _ q)
 
-  module _ (k a b : ℕ) (q : r ≡ file-at.At k a b) where
-    told : (c : List ℕ) × (file_named name 0 (files_of s) ≡ found k c) × Stands s a b c
+  module _ (whole : FileAt) (q : r ≡ Some whole) where
+    told : (c : List ℕ) × (file_named name 0 (files_of s) ≡ found whole.number c) × Stands s whole.start whole.end c
     unfolding file_numbers
-    told = told_found s _ k a b (finds _ q)
+    told = told_found s _ whole.number whole.start whole.end (finds _ q)
 
-    pub found_is : file_named name 0 (files_of s) ≡ found k (take (b - a) (drop a s))
-    found_is = told.1 ∙ ap (found k) (sym told.2.is)
+    pub found_is : file_named name 0 (files_of s) ≡ found whole.number (take (whole.end - whole.start) (drop whole.start s))
+    found_is = told.1 ∙ ap (found whole.number) (sym told.2.is)
 
-    pub found_order : a ≤ b
+    pub found_order : whole.start ≤ whole.end
     found_order = told.2.order
 
-    pub found_within : b ≤ length s
+    pub found_within : whole.end ≤ length s
     found_within = told.2.within
 
 -- ---- the files of a bundle that can be read are those that are read

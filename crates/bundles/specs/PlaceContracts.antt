@@ -1,12 +1,11 @@
 -- Where the file of a name stands in a bundle (01, Bundle and pack).
-use Rattle.std.specs.Prelude.{ℕ, suc, ◌+◌, List, [], ◌∷◌, length}
+use Rattle.bundles.specs.declared.FileAt.{FileAt}
+use Rattle.std.specs.Prelude.{ℕ, suc, ◌+◌, List, [], ◌∷◌, length, Option, Some, None}
 use Rattle.base.specs.Pick.{pick}
 use Rattle.letters.specs.Order.{same_text}
 use Rattle.refusals.specs.Numbers.{number_of}
 use Rattle.refusals.specs.declared.Refusal.TheVariants.{FileMissing}
 use Rattle.bundles.specs.Bundles.{File}
-use Rattle.bundles.specs.declared.FileAt.{FileAt}
-use Rattle.bundles.specs.declared.FileAt.TheVariants.{At, Missing}
 use Rattle.bundles.specs.InnerContracts.{files_of}
 
 -- an answer's numbers: 0 with the file's number and where its content begins and ends, or 11
@@ -23,9 +22,12 @@ stands k a b = record { code = 0; number = k; start = a; end = b }
 abbrev pub nowhere : FileNumbers
 nowhere = record { code = number_of FileMissing; number = 0; start = 0; end = 0 }
 
-unfoldable pub file_numbers : FileAt → FileNumbers
-file_numbers (At k a b) = stands k a b
-file_numbers Missing = nowhere
+abbrev pub file_span : ℕ → ℕ → ℕ → FileAt
+file_span number start end = record { number = number; start = start; end = end }
+
+unfoldable pub file_numbers : Option FileAt → FileNumbers
+file_numbers (Some whole) = stands whole.number whole.start whole.end
+file_numbers None = nowhere
 
 -- "each file a name (length byte, bytes) and content (length in 4 bytes)": where the content of a file begins that begins at a place
 unfoldable pub content_from : ℕ → File → ℕ

@@ -10,15 +10,12 @@ ghost use Rattle.bundles.specs.InnerContracts.{follows_in, EntryIs};
 use std::cmp::Ordering;
 use strings::{Number, Span};
 
-// A file by its number in the bundle, from 0, and where its content stands; or that none has the name.
+// A file by its number in the bundle, from 0, and where its content stands.
 #[derive(Clone, Copy)]
-pub enum FileAt {
-    At {
-        number: usize,
-        start: usize,
-        end: usize,
-    },
-    Missing,
+pub struct FileAt {
+    pub number: usize,
+    pub start: usize,
+    pub end: usize,
 }
 
 // A file by its places: its name stands from name to name_end, its content from start to end.
@@ -87,27 +84,23 @@ pub fn check_bundle(bundle: &[u8]) -> bool
     at == bundle.len()
 }
 
-// The first file of a name among those of `bundle`, as far as its bytes go.
+// The first file of a name among those of `bundle`, as far as its bytes go; none where no file has it.
 #[tactic(auto, using(crate::proofs::Laws::seek_laws))]
-pub fn find_file(bundle: &[u8], wanted: &[u8]) -> FileAt
+pub fn find_file(bundle: &[u8], wanted: &[u8]) -> Option<FileAt>
     ensures { file_numbers result ≡ file_at bundle.now wanted.now }
 {
-    let Some(Number { value, next }) = strings::count_at(bundle, 0) else {
-        return FileAt::Missing;
-    };
+    let Number { value, next } = strings::count_at(bundle, 0)?;
     let mut at = next;
     for number in 0..value as usize {
-        let Some(file) = entry_at(bundle, at) else {
-            return FileAt::Missing;
-        };
+        let file = entry_at(bundle, at)?;
         if letters::same(&bundle[file.name..file.name_end], wanted) {
-            return FileAt::At {
+            return Some(FileAt {
                 number,
                 start: file.start,
                 end: file.end,
-            };
+            });
         }
         at = file.end;
     }
-    FileAt::Missing
+    None
 }

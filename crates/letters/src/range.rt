@@ -12,7 +12,8 @@ pub fn in_range(code: u32) -> bool
     matches!(code, 0x20..=0x7E | 0xA1..=0x12F | 0x131..=0x17F)
 }
 
-// The first place of s at which no character of the range stands.
+// The first place of s at which no character of the range stands; none where all are of the range.
+// Stays a loop by hand: how far a step goes is what `decode` read there.
 #[tactic(auto, using(crate::proofs::ReadingLaws::outside_laws))]
 pub fn first_outside(s: &[u8]) -> Option<usize>
     ensures { result ≡ first_outside s.now }

@@ -178,7 +178,8 @@ pub fn decode(s: &[u8], p: usize) -> Step
     }
 }
 
-// Where the first ill-formed sequence of s starts.
+// Where the first ill-formed sequence of s starts; none where s is well formed.
+// Stays a loop by hand, as in `range`: how far a step goes is what was read.
 #[tactic(auto, using(crate::proofs::ReadingLaws::ill_laws))]
 pub fn first_ill(s: &[u8]) -> Option<usize>
     ensures { result ≡ first_ill s.now }

@@ -1,5 +1,7 @@
 -- A text that is cut at each b, one part after the other; and the loops of the code over its parts. Assumes nothing.
-use Rattle.std.specs.Prelude.{Option, Some, None}
+use Rattle.phonemes.specs.declared.answers.ExpressionFault.TheVariants.{Malformed}
+use Rattle.phonemes.specs.declared.answers.ExpressionFault.{ExpressionFault}
+use Rattle.std.specs.Prelude.{Option, Some, None, Result, Err}
 use mathlib.Core.Path.{◌≡◌, refl, sym, ap, subst, ◌∙◌}
 use mathlib.Core.Bool.{Bool, true, false, cond, ◌&&◌}
 use mathlib.Core.List.{List, [], ◌∷◌}
@@ -24,9 +26,6 @@ use Rattle.texts.proofs.Laws.{place_most}
 use Rattle.phonemes.specs
 use specs.Expressions.{bar, plus, on_first, cut_at, with_bits, names_mask, formed_piece}
 use specs.InnerContracts.{cut_end, listed_piece, expression_told, judged_pieces}
-use specs.declared
-use declared.answers.Expression.{Expression}
-use declared.answers.Expression.TheVariants.{Malformed}
 use Rattle.base.proofs.PickLaws.{pick_true, pick_false}
 
 -- ---- one step of a cut
@@ -216,7 +215,7 @@ module _ {names t : List ℕ} {more k count : ℕ} {known : Bool} (w : Judging n
     judging_fits m l = record { fits = omega (arith, w.counted, length-slice_split (λ (b : ℕ). eqb b bar) t, count_by-le-length (λ (b : ℕ). eqb b bar) t) }
 
     module _ (f : Bool) (p : f ≡ formed_piece x) where
-      pub judging_stop : f ≡ false → Malformed ≡ judged_pieces names more true (cut_at bar t)
+      pub judging_stop : f ≡ false → (Err Malformed) ≡ judged_pieces names more true (cut_at bar t)
       unfolding judged_pieces
       judging_stop q = sym (w.is ∙ ap (judged_pieces names count known) (part_here bar t k x h g) ∙ pick_false _ _ _ (sym p ∙ q))
 
@@ -228,7 +227,7 @@ module _ {names t : List ℕ} {more k count : ℕ} {known : Bool} (w : Judging n
             ∙ ap (λ (b : Bool). judged_pieces names (count + 1) b (drop (k + 1) (cut_at bar t))) (ap (and known) (sym e) ∙ sym (and_by known u));
       }
 
-  pub judging_done : k ≡ length (slice_split (λ b. eqb b bar) t) → (r : Expression) → r ≡ expression_told count known → r ≡ judged_pieces names more true (cut_at bar t)
+  pub judging_done : k ≡ length (slice_split (λ b. eqb b bar) t) → (r : Result ℕ ExpressionFault) → r ≡ expression_told count known → r ≡ judged_pieces names more true (cut_at bar t)
   unfolding judged_pieces
   judging_done h r e = e ∙ sym (w.is ∙ ap (judged_pieces names count known) (part_none bar t k h))
 

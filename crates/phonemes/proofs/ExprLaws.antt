@@ -1,5 +1,7 @@
 -- A law for each way out of the code over one alternative and over the whole expression. Assumes nothing.
-use Rattle.std.specs.Prelude.{Option, Some, None}
+use Rattle.phonemes.specs.declared.answers.ExpressionFault.TheVariants.{Malformed, UnlistedName}
+use Rattle.phonemes.specs.declared.answers.ExpressionFault.{ExpressionFault}
+use Rattle.std.specs.Prelude.{Option, Some, None, Result, Ok, Err}
 use mathlib.Core.Path.{◌≡◌, refl, sym, ap, ap₂, ◌∙◌}
 use mathlib.Core.Bool.{Bool, true, false}
 use mathlib.Core.List.{List, [], ◌∷◌, ◌++◌, append-nil}
@@ -22,8 +24,6 @@ use Rattle.phonemes.specs
 use specs.Expressions.{round, unround, bar, plus, opening, closing, cut_at, inside, extra, pieces_in, all_of, formed_piece, formed, box_of, names_mask, piece_mask, is_listed, text_of, mask_set, set_of, checked_of}
 use specs.InnerContracts.{has_extra, listed_piece, expression_told, judged_pieces, piece_from}
 use specs.declared
-use declared.answers.Expression.{Expression}
-use declared.answers.Expression.TheVariants.{Good, Malformed, UnlistedName}
 use declared.answers.Alternative.TheVariants.{At}
 use Rattle.base.proofs.PickLaws.{pick_true, pick_false, pick_cong, and_first}
 
@@ -122,8 +122,8 @@ and_true true = refl
 and_true false = refl
 
 -- one piece and then the others are judged as all are
-judged_by_lem : (known f l : Bool) (x : Expression) (g h : Bool) (m : ℕ) → x ≡ pick g (expression_told m (and (and known l) h)) Malformed
-    → pick f x Malformed ≡ pick (pick f g false) (expression_told m (and known (pick l h false))) Malformed
+judged_by_lem : (known f l : Bool) (x : Result ℕ ExpressionFault) (g h : Bool) (m : ℕ) → x ≡ pick g (expression_told m (and (and known l) h)) (Err Malformed)
+    → pick f x (Err Malformed) ≡ pick (pick f g false) (expression_told m (and known (pick l h false))) (Err Malformed)
 unfolding pick expression_told and
 judged_by_lem true true true x g h m e = e
 judged_by_lem true true false x g h m e = e
@@ -131,13 +131,13 @@ judged_by_lem false true l x g h m e = e
 judged_by_lem known false l x g h m e = refl
 
 judged_all : (names : List ℕ) (n : ℕ) (known : Bool) (ps : List (List ℕ))
-    → judged_pieces names n known ps ≡ pick (all_of formed_piece ps) (expression_told (n + length ps) (and known (all_of (listed_piece names) ps))) Malformed
+    → judged_pieces names n known ps ≡ pick (all_of formed_piece ps) (expression_told (n + length ps) (and known (all_of (listed_piece names) ps))) (Err Malformed)
 unfolding judged_pieces all_of pick
 judged_all names n known [] = ap₂ expression_told (sym (add-zero n)) (sym (and_true known))
 judged_all names n known (a ∷ ps) =
     judged_by_lem known (formed_piece a) (listed_piece names a) _ (all_of formed_piece ps) (all_of (listed_piece names) ps) (n + suc (length ps))
     (judged_all names (n + 1) (and known (listed_piece names a)) ps
-    ∙ ap (λ (m : ℕ). pick (all_of formed_piece ps) (expression_told m (and (and known (listed_piece names a)) (all_of (listed_piece names) ps))) Malformed) (omega arith))
+    ∙ ap (λ (m : ℕ). pick (all_of formed_piece ps) (expression_told m (and (and known (listed_piece names a)) (all_of (listed_piece names) ps))) (Err Malformed)) (omega arith))
 
 -- an empty piece is formed and has no names: it counts one more
 nil_formed : formed_piece [] ≡ true
@@ -178,22 +178,22 @@ module _ (e : List ℕ) (f : Bool) (p : f ≡ first_is round e) where
 
 -- the whole expression, its brackets seen to
 whole_is : (names : List ℕ) (ps : List (List ℕ)) → judged_pieces names 0 true ps
-    ≡ pick (all_of formed_piece ps) (pick (all_of (listed_piece names) ps) (Good (length ps)) UnlistedName) Malformed
+    ≡ pick (all_of formed_piece ps) (pick (all_of (listed_piece names) ps) (Ok (length ps)) (Err UnlistedName)) (Err Malformed)
 unfolding expression_told and
-whole_is names ps = judged_all names 0 true ps ∙ ap (λ (m : ℕ). pick (all_of formed_piece ps) (pick (all_of (listed_piece names) ps) (Good m) UnlistedName) Malformed) (zero-add (length ps))
+whole_is names ps = judged_all names 0 true ps ∙ ap (λ (m : ℕ). pick (all_of formed_piece ps) (pick (all_of (listed_piece names) ps) (Ok m) (Err UnlistedName)) (Err Malformed)) (zero-add (length ps))
 
 checked_by : (names e : List ℕ) (ps : List (List ℕ)) → pieces_in e ≡ ps → pick (first_is round e) (last_is unround e) true ≡ true → checked_of names e ≡ judged_pieces names 0 true ps
 unfolding checked_of formed listed_piece and
 checked_by names e ps s b =
-    ap₂ (λ (t : Bool) (l : List (List ℕ)). pick (and t (all_of formed_piece l)) (pick (all_of (λ (a : List ℕ). is_listed (piece_mask names a)) l) (Good (length l)) UnlistedName) Malformed) b s
+    ap₂ (λ (t : Bool) (l : List (List ℕ)). pick (and t (all_of formed_piece l)) (pick (all_of (λ (a : List ℕ). is_listed (piece_mask names a)) l) (Ok (length l)) (Err UnlistedName)) (Err Malformed)) b s
     ∙ sym (whole_is names ps)
 
 module _ (names e : List ℕ) (f : Bool) (p : f ≡ first_is round e) where
-  pub check_single : (r : Expression) → f ≡ false → r ≡ judged_pieces names 0 true (e ∷ []) → r ≡ checked_of names e
+  pub check_single : (r : Result ℕ ExpressionFault) → f ≡ false → r ≡ judged_pieces names 0 true (e ∷ []) → r ≡ checked_of names e
   check_single r q g = g ∙ sym (checked_by names e (e ∷ []) (pieces_single e f p q) (pick_false _ _ _ (sym p ∙ q)))
 
   module _ (q : f ≡ true) (l : Bool) (o : l ≡ last_is unround e) where
-    pub check_open : l ≡ false → Malformed ≡ checked_of names e
+    pub check_open : l ≡ false → (Err Malformed) ≡ checked_of names e
     unfolding checked_of formed
     check_open c = sym (pick_false _ _ _ (and_first _ _ (pick_true _ _ _ (sym p ∙ q) ∙ sym o ∙ c)))
 
@@ -204,18 +204,18 @@ module _ (names e : List ℕ) (f : Bool) (p : f ≡ first_is round e) where
           (pieces_round e f p t q w ∙ ap (λ (y : List (List ℕ)). cut_at bar t ++ y) g)
           (pick_true _ _ _ (sym p ∙ q) ∙ sym o ∙ c)
 
-      pub check_extra : (r : Expression) → x ≡ true → r ≡ judged_pieces names 1 true (cut_at bar t) → r ≡ checked_of names e
+      pub check_extra : (r : Result ℕ ExpressionFault) → x ≡ true → r ≡ judged_pieces names 1 true (cut_at bar t) → r ≡ checked_of names e
       check_extra r h g = g ∙ sym (round_by ([] ∷ []) (extra_yes t x k h) ∙ judged_nil names 0 true (cut_at bar t))
 
-      pub check_bars : (r : Expression) → x ≡ false → r ≡ judged_pieces names 0 true (cut_at bar t) → r ≡ checked_of names e
+      pub check_bars : (r : Result ℕ ExpressionFault) → x ≡ false → r ≡ judged_pieces names 0 true (cut_at bar t) → r ≡ checked_of names e
       check_bars r h g = g ∙ sym (round_by [] (extra_no t x k h) ∙ ap (judged_pieces names 0 true) (append-nil (cut_at bar t)))
 
 module _ (names e : List ℕ) (g : Bool) (p : g ≡ formed_piece e) where
-  pub single_good : (u : Bool) (r : Expression) → g ≡ true → u ≡ listed_piece names e → r ≡ expression_told 1 u → r ≡ judged_pieces names 0 true (e ∷ [])
+  pub single_good : (u : Bool) (r : Result ℕ ExpressionFault) → g ≡ true → u ≡ listed_piece names e → r ≡ expression_told 1 u → r ≡ judged_pieces names 0 true (e ∷ [])
   unfolding judged_pieces and
   single_good u r q f s = s ∙ ap (expression_told 1) f ∙ sym (pick_true _ _ _ (sym p ∙ q))
 
-  pub single_malformed : g ≡ false → Malformed ≡ judged_pieces names 0 true (e ∷ [])
+  pub single_malformed : g ≡ false → (Err Malformed) ≡ judged_pieces names 0 true (e ∷ [])
   unfolding judged_pieces
   single_malformed q = sym (pick_false _ _ _ (sym p ∙ q))
 

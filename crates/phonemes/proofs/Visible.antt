@@ -1,4 +1,6 @@
 -- What the quick test says of an expression: it is good by its round brackets. Assumes nothing.
+use Rattle.phonemes.specs.declared.answers.ExpressionFault.TheVariants.{Malformed}
+use Rattle.std.specs.Prelude.{Ok, Err}
 use mathlib.Core.Path.{◌≡◌, refl, ap, ◌∙◌}
 use mathlib.Core.Bool.{Bool, true, false}
 use mathlib.Core.List.{List, [], ◌∷◌, ◌++◌}
@@ -9,7 +11,6 @@ use Rattle.texts.specs.Parts.{first_is, last_is}
 use Rattle.rule.proofs.Visible.{Clear, none, more, clear_has, clear_tail, clear_front}
 use Rattle.phonemes.specs
 use specs.Expressions.{round, unround, bar, opening, on_first, cut_at, inside, extra, pieces_in, all_of, formed_piece, formed, piece_mask, is_listed, checked_of}
-use specs.declared.answers.Expression.TheVariants.{Good, Malformed}
 use Rattle.base.proofs.PickLaws.{pick_true, pick_false, pick_all}
 
 data Cleared : List (List ℕ) → Type 0 where
@@ -62,10 +63,10 @@ module _ (names e : List ℕ) (c : Clear e) where
   unfolding formed
   clear_formed = and_all _ _ all_formed
 
-  pub clear_good : pick (first_is round e) (last_is unround e) true ≡ true → checked_of names e ≡ Good (length (pieces_in e))
+  pub clear_good : pick (first_is round e) (last_is unround e) true ≡ true → checked_of names e ≡ Ok (length (pieces_in e))
   unfolding checked_of
   clear_good q = pick_true _ _ _ (clear_formed ∙ q) ∙ pick_true _ _ _ all_listed_lem
 
-  pub clear_malformed : pick (first_is round e) (last_is unround e) true ≡ false → checked_of names e ≡ Malformed
+  pub clear_malformed : pick (first_is round e) (last_is unround e) true ≡ false → checked_of names e ≡ Err Malformed
   unfolding checked_of
   clear_malformed q = pick_false _ _ _ (clear_formed ∙ q)

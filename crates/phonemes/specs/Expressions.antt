@@ -1,13 +1,13 @@
 -- Phoneme expressions (01, Phoneme expressions): which are well formed, and their alternatives.
-use Rattle.std.specs.Prelude.{ℕ, suc, Bool, true, false, List, [], ◌∷◌, ◌++◌, eqb, length, take, drop, Option, Some, None}
+use Rattle.phonemes.specs.declared.answers.ExpressionFault.TheVariants.{Malformed, UnlistedName}
+use Rattle.phonemes.specs.declared.answers.ExpressionFault.{ExpressionFault}
+use Rattle.std.specs.Prelude.{ℕ, suc, Bool, true, false, List, [], ◌∷◌, ◌++◌, eqb, length, take, drop, Option, Some, None, Result, Ok, Err}
 use Rattle.std.specs.Int.Bits.{bit_or}
 use Rattle.base.specs.Pick.{pick, and}
 use Rattle.languages.specs.Names.{language_bit}
 use Rattle.languages.specs.declared.sets.LanguageSet.{LanguageSet}
 use Rattle.languages.specs.declared.sets.LanguageSet.TheVariants.{Any, SomeLanguages}
 use Rattle.texts.specs.Parts.{tail, front, first_is, last_is, place_of, has}
-use Rattle.phonemes.specs.declared.answers.Expression.{Expression}
-use Rattle.phonemes.specs.declared.answers.Expression.TheVariants.{Good, Malformed, UnlistedName}
 
 -- the signs ( ) | [ ] +
 abbrev pub round : ℕ
@@ -94,6 +94,6 @@ unfoldable pub set_of : List ℕ → List ℕ → LanguageSet
 set_of names a = pick (has opening a) (mask_set (piece_mask names a)) Any
 
 -- 14 where it is not well formed, else 16 where a name is not listed, else how many alternatives it has
-unfoldable pub checked_of : List ℕ → List ℕ → Expression
+unfoldable pub checked_of : List ℕ → List ℕ → Result ℕ ExpressionFault
 checked_of names e =
-    pick (formed e) (pick (all_of (λ (a : List ℕ). is_listed (piece_mask names a)) (pieces_in e)) (Good (length (pieces_in e))) UnlistedName) Malformed
+    pick (formed e) (pick (all_of (λ (a : List ℕ). is_listed (piece_mask names a)) (pieces_in e)) (Ok (length (pieces_in e))) (Err UnlistedName)) (Err Malformed)

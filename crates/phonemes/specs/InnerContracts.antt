@@ -1,10 +1,10 @@
 -- What the private functions of the code give, step by step; `proofs/` shows how the expressions' definitions are made of these.
-use Rattle.std.specs.Prelude.{ℕ, ◌+◌, Bool, true, List, [], ◌∷◌, ◌++◌, leb, eqb, length, drop}
+use Rattle.phonemes.specs.declared.answers.ExpressionFault.TheVariants.{Malformed, UnlistedName}
+use Rattle.phonemes.specs.declared.answers.ExpressionFault.{ExpressionFault}
+use Rattle.std.specs.Prelude.{ℕ, ◌+◌, Bool, true, List, [], ◌∷◌, ◌++◌, leb, eqb, length, drop, Result, Ok, Err}
 use Rattle.base.specs.Pick.{pick, and}
 use Rattle.texts.specs.Parts.{first_is, last_is, place_of}
 use Rattle.phonemes.specs.Expressions.{bar, cut_at, inside, extra, formed_piece, piece_mask, is_listed, text_of, set_of, round}
-use Rattle.phonemes.specs.declared.answers.Expression.{Expression}
-use Rattle.phonemes.specs.declared.answers.Expression.TheVariants.{Good, Malformed, UnlistedName}
 use Rattle.phonemes.specs.declared.answers.Alternative.{Alternative}
 use Rattle.phonemes.specs.declared.answers.Alternative.TheVariants.{At, Nothing}
 
@@ -38,10 +38,10 @@ has_extra t = pick (first_is bar t) true (last_is bar t)
 unfoldable pub listed_piece : List ℕ → List ℕ → Bool
 listed_piece names a = is_listed (piece_mask names a)
 
-unfoldable pub expression_told : ℕ → Bool → Expression
-expression_told n known = pick known (Good n) UnlistedName
+unfoldable pub expression_told : ℕ → Bool → Result ℕ ExpressionFault
+expression_told n known = pick known (Ok n) (Err UnlistedName)
 
 -- the pieces one after the other, n counted before them and all names so far known
-unfoldable pub judged_pieces : List ℕ → ℕ → Bool → List (List ℕ) → Expression
+unfoldable pub judged_pieces : List ℕ → ℕ → Bool → List (List ℕ) → Result ℕ ExpressionFault
 judged_pieces names n known [] = expression_told n known
-judged_pieces names n known (a ∷ ps) = pick (formed_piece a) (judged_pieces names (n + 1) (and known (listed_piece names a)) ps) Malformed
+judged_pieces names n known (a ∷ ps) = pick (formed_piece a) (judged_pieces names (n + 1) (and known (listed_piece names a)) ps) (Err Malformed)

@@ -1,11 +1,9 @@
 // What is told of a phoneme expression and of one of its alternatives.
 use languages::LanguageSet;
 
-// Whether an expression is well formed (14 where it is Malformed) with all its names listed (16 where it has an
-// UnlistedName), and how many alternatives it has.
-#[derive(Clone, Copy)]
-pub enum Expression {
-    Good(usize),
+// What is wrong with an expression: it is not well formed (14), or a name in it is not listed (16).
+#[derive(Clone, Copy, PartialEq, Eq, Debug)]
+pub enum ExpressionFault {
     Malformed,
     UnlistedName,
 }

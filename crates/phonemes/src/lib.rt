@@ -4,5 +4,5 @@
 mod answers;
 mod phonemes;
 
-pub use answers::{Alternative, Expression};
+pub use answers::{Alternative, ExpressionFault};
 pub use phonemes::{alternative, check_expression, names_mask};

@@ -7,7 +7,7 @@ ghost use Rattle.base.specs.Pick.{and};
 ghost use Rattle.texts.specs.Parts.{place_of};
 ghost use Rattle.phonemes.specs.InnerContracts.{cut_end, has_extra, listed_piece, judged_pieces, expression_told, piece_from, parts_from, first_from, alternative_from};
 
-use crate::answers::{Alternative, Expression};
+use crate::answers::{Alternative, ExpressionFault};
 use languages::LanguageSet;
 
 // What is between the round brackets.
@@ -120,19 +120,19 @@ fn has_extra(t: &[u8]) -> bool
 }
 
 #[tactic(auto, using(base::proofs::PickLaws::cases), unfolding(crate::specs::InnerContracts::expression_told))]
-fn told_of(count: usize, known: bool) -> Expression
+fn told_of(count: usize, known: bool) -> Result<usize, ExpressionFault>
     ensures { result ≡ expression_told count known }
 {
     if known {
-        Expression::Good(count)
+        Ok(count)
     } else {
-        Expression::UnlistedName
+        Err(ExpressionFault::UnlistedName)
     }
 }
 
 // The parts of t between the bars, with `more` alternatives behind them.
 #[tactic(auto, using(crate::proofs::CutLaws::judging_laws))]
-fn judge(names: &[u8], t: &[u8], more: usize) -> Expression
+fn judge(names: &[u8], t: &[u8], more: usize) -> Result<usize, ExpressionFault>
     requires { more ≤ 1 }
     ensures { result ≡ judged_pieces names.now more true (cut_at bar t.now) }
 {
@@ -141,7 +141,7 @@ fn judge(names: &[u8], t: &[u8], more: usize) -> Expression
     for part in t.split(|&b| b == b'|') {
         let piece = ExpressionPiece::of(part);
         if !piece.is_formed() {
-            return Expression::Malformed;
+            return Err(ExpressionFault::Malformed);
         }
         known &= piece.is_listed(names);
         count += 1;
@@ -150,20 +150,20 @@ fn judge(names: &[u8], t: &[u8], more: usize) -> Expression
 }
 
 #[tactic(auto, using(crate::proofs::ExprLaws::check_laws))]
-fn check_single(names: &[u8], e: &[u8]) -> Expression
+fn check_single(names: &[u8], e: &[u8]) -> Result<usize, ExpressionFault>
     ensures { result ≡ judged_pieces names.now 0 true (e.now ∷ []) }
 {
     let piece = ExpressionPiece::of(e);
     if piece.is_formed() {
         told_of(1, piece.is_listed(names))
     } else {
-        Expression::Malformed
+        Err(ExpressionFault::Malformed)
     }
 }
 
 // Whether e is a well-formed expression whose names are all in `names`, strings behind their length bytes.
 #[tactic(auto, using(crate::proofs::ExprLaws::check_laws, crate::proofs::NumberLaws::expression_told_lem))]
-pub fn check_expression(e: &[u8], names: &[u8]) -> Expression
+pub fn check_expression(e: &[u8], names: &[u8]) -> Result<usize, ExpressionFault>
     ensures { expression_numbers result ≡ expression_numbers (checked_of names.now e.now) }
 {
     if texts::first_is(e, b'(') {
@@ -175,7 +175,7 @@ pub fn check_expression(e: &[u8], names: &[u8]) -> Expression
                 judge(names, t, 0)
             }
         } else {
-            Expression::Malformed
+            Err(ExpressionFault::Malformed)
         }
     } else {
         check_single(names, e)

@@ -85,8 +85,8 @@ pub longest_start : (s : List ℕ) (table : List (Bor (List ℕ))) → Longest s
 unfolding led_by that_fit filtered
 longest_start s table = record { is = refl }
 
-pub longest_end : (s : List ℕ) (table : List (Bor (List ℕ))) (i : ℕ) (best : Prefix) → Longest s table i best → length table ≤ i → best ≡ led_by (that_fit (texts_of table) s)
-longest_end s table i best w h = w.is ∙ ap (λ (ts : List (Bor (List ℕ))). led_by (that_fit (texts_of ts) s)) (take_all i table h)
+pub longest_cut : (s : List ℕ) (table : List (Bor (List ℕ))) (i : ℕ) (best : Prefix) → Longest s table i best → length table ≤ i → best ≡ led_by (that_fit (texts_of table) s)
+longest_cut s table i best w h = w.is ∙ ap (λ (ts : List (Bor (List ℕ))). led_by (that_fit (texts_of ts) s)) (take_all i table h)
 
 module _ (s : List ℕ) (table : List (Bor (List ℕ))) (i : ℕ) (best : Prefix) (w : Longest s table i best) (h : i < length table) (p : Bor (List ℕ)) (e : p ≡ get_or table i p) where
   behind : that_fit (texts_of (take (i + 1) table)) s ≡ pick (prefix_fits p.now s) (that_fit (texts_of (take i table)) s ++ p.now ∷ []) (that_fit (texts_of (take i table)) s)
@@ -134,4 +134,4 @@ pub prefix_by : (kind k : NameType) (v : List ℕ) (b : Bool) → kind ≡ k →
 unfolding is_prefix
 prefix_by kind k v b e p = rw e p
 
-pub ruleset prefix_laws = (fits_space, fits_end, fits_not, longest_start, longest_end, longest_short, longest_not, longest_here, fits_room, longer, longer_first, split_apostrophe, split_prefix, prefix_by, rules)
+pub ruleset prefix_laws = (fits_space, fits_end, fits_not, longest_start, longest_cut, longest_short, longest_not, longest_here, fits_room, longer, longer_first, split_apostrophe, split_prefix, prefix_by, rules)

@@ -20,7 +20,6 @@ use Rattle.regex_optim.specs.Contexts.{Form, outside, literal_form, box_form, bo
 use Rattle.regex_optim.specs.InnerContracts.{box_char, box_fits, literal_fits, box_kind, literal_kind, empty_rest}
 use Rattle.std.specs.Prelude.{Option, Some, None}
 use Rattle.regex_optim.specs.declared.OptimizedRegex.{OptimizedRegex}
-use Rattle.regex_optim.specs.declared.OptimizedRegex.TheVariants.{Outside}
 use Rattle.base.proofs.Arms.{clash}
 use Rattle.base.proofs.PickLaws.{pick_true, pick_false, pick_all, and_first, and_rest, and_inv}
 
@@ -147,7 +146,7 @@ module _ (s e : Bool) (t : List ℕ) (h : Bool) (g : h ≡ has opening t) where
   unfolding form_in
   in_literal q = pick_false _ _ _ (sym g ∙ q)
 
-  pub kind_by_literal : (r : OptimizedRegex) → h ≡ false → r ≡ literal_kind (length t) s e → r ≡ kind_of (form_in s e t)
+  pub kind_by_literal : (r : Option OptimizedRegex) → h ≡ false → r ≡ literal_kind (length t) s e → r ≡ kind_of (form_in s e t)
   kind_by_literal r q f = f ∙ sym (ap kind_of (in_literal q) ∙ kind_literal s e t)
 
   module _ (u : Bool) (b : u ≡ boxed t) where
@@ -159,10 +158,10 @@ module _ (s e : Bool) (t : List ℕ) (h : Bool) (g : h ≡ has opening t) where
     unfolding form_in
     in_none q v = pick_true _ _ _ (sym g ∙ q) ∙ pick_false _ _ _ (sym b ∙ v)
 
-    pub kind_by_box : (r : OptimizedRegex) → h ≡ true → u ≡ true → r ≡ box_kind s e → r ≡ kind_of (form_in s e t)
+    pub kind_by_box : (r : Option OptimizedRegex) → h ≡ true → u ≡ true → r ≡ box_kind s e → r ≡ kind_of (form_in s e t)
     kind_by_box r q v f = f ∙ sym (ap kind_of (in_box q v) ∙ kind_box s e _ _)
 
-    pub kind_by_none : h ≡ true → u ≡ false → Outside ≡ kind_of (form_in s e t)
+    pub kind_by_none : h ≡ true → u ≡ false → None ≡ kind_of (form_in s e t)
     unfolding kind_of
     kind_by_none q v = sym (ap kind_of (in_none q v))
 
@@ -266,10 +265,10 @@ unfolding right_form form_of without_caret first_is tail pick
 right_is c = ap (λ (b : Bool). form_in true b (without_dollar c)) (last_cons c)
 
 module _ (c : List ℕ) (b : Bool) (l : List ℕ) where
-  pub left_kind : (r : OptimizedRegex) → b ≡ first_is caret c → l ≡ without_caret c → r ≡ kind_of (form_in b true l) → r ≡ kind_of (left_form c)
+  pub left_kind : (r : Option OptimizedRegex) → b ≡ first_is caret c → l ≡ without_caret c → r ≡ kind_of (form_in b true l) → r ≡ kind_of (left_form c)
   left_kind r p q e = e ∙ ap₂ (λ (x : Bool) (y : List ℕ). kind_of (form_in x true y)) p q ∙ sym (ap kind_of (left_is c))
 
-  pub right_kind : (r : OptimizedRegex) → b ≡ last_is dollar c → l ≡ without_dollar c → r ≡ kind_of (form_in true b l) → r ≡ kind_of (right_form c)
+  pub right_kind : (r : Option OptimizedRegex) → b ≡ last_is dollar c → l ≡ without_dollar c → r ≡ kind_of (form_in true b l) → r ≡ kind_of (right_form c)
   right_kind r p q e = e ∙ ap₂ (λ (x : Bool) (y : List ℕ). kind_of (form_in true x y)) p q ∙ sym (ap kind_of (right_is c))
 
   pub left_fit : (x : List ℕ) (r : Bool) → b ≡ first_is caret c → l ≡ without_caret c → r ≡ fits (form_in b true l) x → r ≡ fits (left_form c) x

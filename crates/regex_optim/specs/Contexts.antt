@@ -1,5 +1,5 @@
 -- Contexts (01, Contexts): which form one is, and when it fits a text.
-use Rattle.std.specs.Prelude.{ℕ, ◌-◌, Bool, true, false, not, List, [], ◌∷◌, ◌++◌, eqb, ltb, length}
+use Rattle.std.specs.Prelude.{ℕ, ◌-◌, Bool, true, false, not, List, [], ◌∷◌, ◌++◌, eqb, ltb, length, Option, Some, None}
 use Rattle.base.specs.Pick.{pick, and}
 use Rattle.letters.specs.Utf8.{decode_at}
 use Rattle.letters.specs.Reading.{codes_of}
@@ -9,7 +9,7 @@ use Rattle.letters.specs.declared.utf8.Step.TheVariants.{Char, Ill, End}
 use Rattle.texts.specs.Parts.{tail, front, first_is, last_is, has, prefix_of, suffix_of, caret, dollar, opening, closing, without_caret, without_dollar}
 use Rattle.std.specs.Prelude.{Option, Some, None}
 use Rattle.regex_optim.specs.declared.OptimizedRegex.{OptimizedRegex}
-use Rattle.regex_optim.specs.declared.OptimizedRegex.TheVariants.{AllStringsMatcher, IsEmpty, Equals, StartsWith, EndsWith, EqualsChar, StartsWithChar, EndsWithChar, Outside}
+use Rattle.regex_optim.specs.declared.OptimizedRegex.TheVariants.{AllStringsMatcher, IsEmpty, Equals, StartsWith, EndsWith, EqualsChar, StartsWithChar, EndsWithChar}
 
 -- a form, with what it compares with; of a box, whether a character of its list fits (true) or one outside it does (false)
 pub data Form : Type 0 where
@@ -62,16 +62,16 @@ unfoldable pub right_form : List ℕ → Form
 right_form c = form_of (caret ∷ c)
 
 -- the form's name in regex_optim.rs
-unfoldable pub kind_of : Form → OptimizedRegex
-kind_of always = AllStringsMatcher
-kind_of empty = IsEmpty
-kind_of (equals t) = Equals
-kind_of (starts t) = StartsWith
-kind_of (ends t) = EndsWith
-kind_of (only hit l) = EqualsChar
-kind_of (first hit l) = StartsWithChar
-kind_of (last hit l) = EndsWithChar
-kind_of outside = Outside
+unfoldable pub kind_of : Form → Option OptimizedRegex
+kind_of always = Some AllStringsMatcher
+kind_of empty = Some IsEmpty
+kind_of (equals t) = Some Equals
+kind_of (starts t) = Some StartsWith
+kind_of (ends t) = Some EndsWith
+kind_of (only hit l) = Some EqualsChar
+kind_of (first hit l) = Some StartsWithChar
+kind_of (last hit l) = Some EndsWithChar
+kind_of outside = None
 
 -- 02, ticket 11: "an empty box that isn't negated"
 unfoldable pub takes_none : Bool → List ℕ → Bool

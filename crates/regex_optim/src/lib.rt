@@ -11,7 +11,7 @@ pub use beside::{ALL_BITS, left_bits, right_bits};
 pub use fitting::{left_fits, right_fits};
 pub use forms::{left_form, left_is_empty_box, right_form, right_is_empty_box};
 
-// The forms of a context, named as in regex_optim.rs, or that it is none of them (15).
+// The forms of a context, named as in regex_optim.rs.
 #[derive(Clone, Copy)]
 pub enum OptimizedRegex {
     AllStringsMatcher,
@@ -22,5 +22,4 @@ pub enum OptimizedRegex {
     EqualsChar,
     StartsWithChar,
     EndsWithChar,
-    Outside,
 }

@@ -1,4 +1,7 @@
 -- Laws of the faults of a rule, as `search` applies them. Assumes nothing.
+use Rattle.phonemes.specs.declared.answers.ExpressionFault.TheVariants.{Malformed, UnlistedName}
+use Rattle.phonemes.specs.declared.answers.ExpressionFault.{ExpressionFault}
+use Rattle.std.specs.Prelude.{Option, Some, None, Result, Ok, Err}
 use mathlib.Core.Path.{◌≡◌, refl, sym, ap, ◌∙◌}
 use mathlib.Core.Bool.{Bool, true, false, not}
 use mathlib.Core.List.{List}
@@ -24,50 +27,46 @@ use Rattle.rule.specs.Matching.{rule_text}
 use Rattle.rule.proofs.Visible.{Clear, literal_text, literal_clear, clear_has, clear_tail, clear_front}
 use Rattle.texts.specs.Parts.{opening, without_caret, without_dollar, first_is, last_is, has}
 use Rattle.phonemes.specs.Expressions.{round, unround, checked_of}
-use Rattle.phonemes.specs.declared.answers.Expression.{Expression}
-use Rattle.phonemes.specs.declared.answers.Expression.TheVariants.{Good, Malformed, UnlistedName}
 use Rattle.phonemes.proofs.Visible.{clear_good, clear_malformed}
 use Rattle.phonemes.proofs.NumberLaws.{expression_one}
 use Rattle.rule_lines.specs.Rules.{Rule, length_fault, context_fault, box_fault, contexts_fault, expression_fault, fault_else, rule_fault, rule_texts, faultless, rule_good}
 use Rattle.rule_lines.specs.InnerContracts.{form_good, left_good, right_good, expression_good, strings_good}
-use Rattle.rule_lines.specs.declared.Fault.{Fault}
-use Rattle.rule_lines.specs.declared.Fault.TheVariants.{Is, Without}
 use borrow.Author.Rules.{rules}
 
 -- ---- each fault by what was answered for it
 
-pub or_first : (a a' b : Fault) (w : Refusal) → a ≡ a' → a ≡ Is w → Is w ≡ fault_else a' b
+pub or_first : (a a' b : Option Refusal) (w : Refusal) → a ≡ a' → a ≡ Some w → Some w ≡ fault_else a' b
 unfolding fault_else
-or_first a a' b w e h = ap (λ (x : Fault). fault_else x b) (sym h ∙ e)
+or_first a a' b w e h = ap (λ (x : Option Refusal). fault_else x b) (sym h ∙ e)
 
-pub or_next : (a a' b x : Fault) → a ≡ a' → a ≡ Without → x ≡ b → x ≡ fault_else a' b
+pub or_next : (a a' b x : Option Refusal) → a ≡ a' → a ≡ None → x ≡ b → x ≡ fault_else a' b
 unfolding fault_else
-or_next a a' b x e z h = h ∙ ap (λ (y : Fault). fault_else y b) (sym z ∙ e)
+or_next a a' b x e z h = h ∙ ap (λ (y : Option Refusal). fault_else y b) (sym z ∙ e)
 
-pub context_by : (x : Fault) (f g : OptimizedRegex) → x ≡ context_fault f → f ≡ g → x ≡ context_fault g
+pub context_by : (x : Option Refusal) (f g : Option OptimizedRegex) → x ≡ context_fault f → f ≡ g → x ≡ context_fault g
 context_by x f g e h = e ∙ ap context_fault h
 
-pub expression_by : (x : Fault) (f g : Expression) → x ≡ expression_fault f → f ≡ g → x ≡ expression_fault g
+pub expression_by : (x : Option Refusal) (f g : Result ℕ ExpressionFault) → x ≡ expression_fault f → f ≡ g → x ≡ expression_fault g
 expression_by x f g e h = e ∙ ap expression_fault h
 
 pub ruleset fault_laws = (form_one, expression_one, or_first, or_next, context_by, expression_by, rules)
 
 -- ---- a visible literal: without `[` a context is a literal, which is always in the forms
 
-Formed : OptimizedRegex → Type 0
+Formed : Option OptimizedRegex → Type 0
 Formed x = faultless (context_fault x) ≡ true
 
 literal_left : (n : ℕ) (s : Bool) → Formed (literal_kind n s true)
 unfolding Formed literal_kind context_fault faultless pick
-literal_left n true = pick_all Formed (eqb n 0) IsEmpty Equals refl refl
-literal_left n false = pick_all Formed (eqb n 0) AllStringsMatcher EndsWith refl refl
+literal_left n true = pick_all Formed (eqb n 0) (Some IsEmpty) (Some Equals) refl refl
+literal_left n false = pick_all Formed (eqb n 0) (Some AllStringsMatcher) (Some EndsWith) refl refl
 
 literal_right : (n : ℕ) (e : Bool) → Formed (literal_kind n true e)
 unfolding Formed literal_kind context_fault faultless pick
-literal_right n true = pick_all Formed (eqb n 0) IsEmpty Equals refl refl
-literal_right n false = pick_all Formed (eqb n 0) AllStringsMatcher StartsWith refl refl
+literal_right n true = pick_all Formed (eqb n 0) (Some IsEmpty) (Some Equals) refl refl
+literal_right n false = pick_all Formed (eqb n 0) (Some AllStringsMatcher) (Some StartsWith) refl refl
 
-formed : OptimizedRegex → Bool
+formed : Option OptimizedRegex → Bool
 formed x = faultless (context_fault x)
 
 module _ (c : List ℕ) (t : Bool) (p : t ≡ visible_literal c) (q : t ≡ true) where
@@ -96,8 +95,8 @@ module _ (c : List ℕ) (t : Bool) (p : t ≡ visible_literal c) (q : t ≡ true
   -- of an expression only the round brackets matter
   literal_good : (names : List ℕ) (b : Bool) → pick (first_is round c) (last_is unround c) true ≡ b → b ≡ expression_good names c
   unfolding expression_good expression_fault faultless
-  literal_good names true e = sym (and_yes _ _ text (ap (λ (x : Expression). faultless (expression_fault x)) (clear_good names c clear e)))
-  literal_good names false e = sym (and_second _ _ text (ap (λ (x : Expression). faultless (expression_fault x)) (clear_malformed names c clear e)))
+  literal_good names true e = sym (and_yes _ _ text (ap (λ (x : Result ℕ ExpressionFault). faultless (expression_fault x)) (clear_good names c clear e)))
+  literal_good names false e = sym (and_second _ _ text (ap (λ (x : Result ℕ ExpressionFault). faultless (expression_fault x)) (clear_malformed names c clear e)))
 
   module _ (names : List ℕ) (f : Bool) (g : f ≡ first_is round c) where
     pub literal_round : (u : Bool) → f ≡ true → u ≡ last_is unround c → u ≡ expression_good names c
@@ -108,7 +107,7 @@ module _ (c : List ℕ) (t : Bool) (p : t ≡ visible_literal c) (q : t ≡ true
 
 -- ---- any other
 
-module _ (c : List ℕ) (t : Bool) (p : t ≡ rule_text c) (q : t ≡ true) (b : Bool) (k : OptimizedRegex) (u : Bool) (f : u ≡ and (not b) (faultless (context_fault k))) where
+module _ (c : List ℕ) (t : Bool) (p : t ≡ rule_text c) (q : t ≡ true) (b : Bool) (k : Option OptimizedRegex) (u : Bool) (f : u ≡ and (not b) (faultless (context_fault k))) where
   pub left_judged : b ≡ empty_box (left_form c) → k ≡ kind_of (left_form c) → u ≡ left_good c
   unfolding left_good form_good and
   left_judged d e = f ∙ rw (d, e, sym p ∙ q) refl
@@ -119,7 +118,7 @@ module _ (c : List ℕ) (t : Bool) (p : t ≡ rule_text c) (q : t ≡ true) (b :
 
 pub ruleset context_laws = (left_literal, right_literal, left_judged, right_judged, form_one, rules)
 
-pub expression_judged : (c : List ℕ) (t : Bool) → t ≡ rule_text c → t ≡ true → (f : Fault) (u : Bool) → u ≡ faultless f → (names : List ℕ) (k : Expression) → f ≡ expression_fault k → k ≡ checked_of names c → u ≡ expression_good names c
+pub expression_judged : (c : List ℕ) (t : Bool) → t ≡ rule_text c → t ≡ true → (f : Option Refusal) (u : Bool) → u ≡ faultless f → (names : List ℕ) (k : Result ℕ ExpressionFault) → f ≡ expression_fault k → k ≡ checked_of names c → u ≡ expression_good names c
 unfolding expression_good and
 expression_judged c t p q f u is names k g e = is ∙ ap faultless (g ∙ ap expression_fault e) ∙ sym (rw (sym p ∙ q) refl)
 
@@ -127,10 +126,10 @@ pub ruleset string_laws = (form_one, expression_one, left_literal, right_literal
 
 -- ---- the whole rule: without a fault where no part has one
 
-faultless_else : (a b : Fault) → faultless (fault_else a b) ≡ and (faultless a) (faultless b)
+faultless_else : (a b : Option Refusal) → faultless (fault_else a b) ≡ and (faultless a) (faultless b)
 unfolding faultless fault_else and
-faultless_else Without b = refl
-faultless_else (Is w) b = refl
+faultless_else None b = refl
+faultless_else (Some w) b = refl
 
 and_false : (a : Bool) → and a false ≡ false
 unfolding and
@@ -150,11 +149,11 @@ by_string true true true true true true false h = refl
 by_string true true true true true true true h = refl
 
 -- the lengths of a rule's strings
-abbrev pub lengths_fault : Rule → Fault
+abbrev pub lengths_fault : Rule → Option Refusal
 lengths_fault r = length_fault (length r.pattern) (length r.left) (length r.right) (length r.expression)
 
 -- a context's faults stand one behind the other
-by_side : (a b : Bool) (x y : Bool) → and a (and b (faultless (pick x (Is BoxEmpty) (pick y (Is BoxEmpty) Without)))) ≡ and (and (not x) a) (and (not y) b)
+by_side : (a b : Bool) (x y : Bool) → and a (and b (faultless (pick x (Some BoxEmpty) (pick y (Some BoxEmpty) None)))) ≡ and (and (not x) a) (and (not y) b)
 unfolding and pick faultless
 by_side a false true y = and_false a
 by_side a true true y = and_false a
@@ -186,26 +185,26 @@ pub record Texts (r : Rule) : Type 0 where
   pub right : rule_text r.right ≡ true
   pub expression : rule_text r.expression ≡ true
 
-pub texts_good : (names : List ℕ) (r : Rule) → Texts r → rule_fault names r ≡ Without → rule_good names r ≡ true
+pub texts_good : (names : List ℕ) (r : Rule) → Texts r → rule_fault names r ≡ None → rule_good names r ≡ true
 unfolding rule_good rule_texts faultless
 texts_good names r t e = and_yes _ _ (and_yes _ _ t.pattern (and_yes _ _ t.left (and_yes _ _ t.right t.expression))) (ap faultless e)
 
-without : (f : Fault) → faultless f ≡ true → f ≡ Without
+without : (f : Option Refusal) → faultless f ≡ true → f ≡ None
 unfolding faultless
-without Without e = refl
-without (Is w) e = clash (cc)
+without None e = refl
+without (Some w) e = clash (cc)
 
-else_inv : (a b : Fault) → fault_else a b ≡ Without → (a ≡ Without) × (b ≡ Without)
+else_inv : (a b : Option Refusal) → fault_else a b ≡ None → (a ≡ None) × (b ≡ None)
 unfolding fault_else
-else_inv Without b e = (refl, e)
-else_inv (Is w) b e = clash (cc)
+else_inv None b e = (refl, e)
+else_inv (Some w) b e = clash (cc)
 
 -- no fault of the lengths: none over 255
-some_length : (p : ℕ) (x : Fault) → pick (eqb p 0) (Is PatternEmpty) x ≡ Without → x ≡ Without
-some_length p x e = ⊎_elim (λ w. clash (cc w.1)) (λ w. w.1) (pick_inv (eqb p 0) (Is PatternEmpty) x Without e)
+some_length : (p : ℕ) (x : Option Refusal) → pick (eqb p 0) (Some PatternEmpty) x ≡ None → x ≡ None
+some_length p x e = ⊎_elim (λ w. clash (cc w.1)) (λ w. w.1) (pick_inv (eqb p 0) (Some PatternEmpty) x None e)
 
-short_length : (p : ℕ) (x : Fault) → pick (ltb 255 p) (Is TooMuch) x ≡ Without → (p ≤ 255) × (x ≡ Without)
-short_length p x e = ⊎_elim (λ w. clash (cc w.1)) (λ w. (ltb-false 255 p w.0, w.1)) (pick_inv (ltb 255 p) (Is TooMuch) x Without e)
+short_length : (p : ℕ) (x : Option Refusal) → pick (ltb 255 p) (Some TooMuch) x ≡ None → (p ≤ 255) × (x ≡ None)
+short_length p x e = ⊎_elim (λ w. clash (cc w.1)) (λ w. (ltb-false 255 p w.0, w.1)) (pick_inv (ltb 255 p) (Some TooMuch) x None e)
 
 pub record Short (r : Rule) : Type 0 where
   pub pattern : length r.pattern ≤ 255
@@ -213,24 +212,24 @@ pub record Short (r : Rule) : Type 0 where
   pub right : length r.right ≤ 255
   pub expression : length r.expression ≤ 255
 
-lengths_short : (r : Rule) → lengths_fault r ≡ Without → Short r
+lengths_short : (r : Rule) → lengths_fault r ≡ None → Short r
 unfolding length_fault
 lengths_short r h =
     let a = short_length (length r.pattern) _ (some_length (length r.pattern) _ h) in
     let b = short_length (length r.left) _ a.1 in
     let c = short_length (length r.right) _ b.1 in
-    record { pattern = a.0; left = b.0; right = c.0; expression = (short_length (length r.expression) Without c.1).0 }
+    record { pattern = a.0; left = b.0; right = c.0; expression = (short_length (length r.expression) None c.1).0 }
 
-some_pattern : (p l r e : ℕ) → length_fault p l r e ≡ Without → 0 < p
+some_pattern : (p l r e : ℕ) → length_fault p l r e ≡ None → 0 < p
 unfolding length_fault
-some_pattern zero l r e h = let z = sym (pick_true _ (Is PatternEmpty) _ (eq-eqb 0 0 refl)) ∙ h in clash (cc)
+some_pattern zero l r e h = let z = sym (pick_true _ (Some PatternEmpty) _ (eq-eqb 0 0 refl)) ∙ h in clash (cc)
 some_pattern (suc p) l r e h = omega arith
 
-has_alternatives : (x : Expression) → expression_fault x ≡ Without → (n : ℕ) × (x ≡ Good n)
+has_alternatives : (x : Result ℕ ExpressionFault) → expression_fault x ≡ None → (n : ℕ) × (x ≡ Ok n)
 unfolding expression_fault
-has_alternatives (Good n) e = (n, refl)
-has_alternatives Malformed e = clash (cc)
-has_alternatives UnlistedName e = clash (cc)
+has_alternatives (Ok n) e = (n, refl)
+has_alternatives (Err Malformed) e = clash (cc)
+has_alternatives (Err UnlistedName) e = clash (cc)
 
 module _ (names : List ℕ) (r : Rule) (g : rule_good names r ≡ true) where
   pub good_texts : Texts r
@@ -241,7 +240,7 @@ module _ (names : List ℕ) (r : Rule) (g : rule_good names r ≡ true) where
       let c = and_inv _ _ b.1 in
       record { pattern = a.0; left = b.0; right = c.0; expression = c.1 }
 
-  no_fault : rule_fault names r ≡ Without
+  no_fault : rule_fault names r ≡ None
   unfolding rule_good
   no_fault = without _ (and_inv _ _ g).1
 
@@ -253,7 +252,7 @@ module _ (names : List ℕ) (r : Rule) (g : rule_good names r ≡ true) where
   unfolding rule_fault
   good_short = lengths_short r (else_inv _ _ no_fault).0
 
-  pub good_expression : (n : ℕ) × (checked_of names r.expression ≡ Good n)
+  pub good_expression : (n : ℕ) × (checked_of names r.expression ≡ Ok n)
   unfolding rule_fault
   good_expression = has_alternatives _ (else_inv _ _ (else_inv _ _ no_fault).1).1
 

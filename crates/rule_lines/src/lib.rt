@@ -7,92 +7,73 @@ ghost use Rattle.regex_optim.specs.Contexts.{left_form, right_form};
 ghost use Rattle.rule_lines.specs.Rules.{rule, length_fault, context_fault, box_fault, contexts_fault, expression_fault, rule_fault, faultless, rule_good};
 ghost use Rattle.rule_lines.specs.InnerContracts.{left_good, right_good, expression_good, strings_good};
 
-use phonemes::Expression;
+use phonemes::ExpressionFault;
 use refusals::Refusal;
 use regex_optim::OptimizedRegex;
 
 // The bytes that a string may have.
 const LONGEST: usize = 255;
 
-// The fault of a rule or of a part of it, or that it has none.
-#[derive(Clone, Copy)]
-pub enum Fault {
-    Is { why: Refusal },
-    Without,
-}
-
 // An empty pattern, or a string that is too long.
 #[tactic(auto, unfolding(crate::specs::Rules::length_fault, base::specs::Pick::pick))]
-fn length_fault(pattern: usize, left: usize, right: usize, expression: usize) -> Fault
+fn length_fault(pattern: usize, left: usize, right: usize, expression: usize) -> Option<Refusal>
     ensures { result ≡ length_fault pattern left right expression }
 {
     if pattern == 0 {
-        Fault::Is {
-            why: Refusal::PatternEmpty,
-        }
+        Some(Refusal::PatternEmpty)
     } else if LONGEST < pattern || LONGEST < left || LONGEST < right || LONGEST < expression {
-        Fault::Is {
-            why: Refusal::TooMuch,
-        }
+        Some(Refusal::TooMuch)
     } else {
-        Fault::Without
+        None
     }
 }
 
 // A context outside the forms.
 #[tactic(auto, unfolding(crate::specs::Rules::context_fault))]
-fn context_fault(form: OptimizedRegex) -> Fault
+fn context_fault(form: Option<OptimizedRegex>) -> Option<Refusal>
     ensures { result ≡ context_fault form }
 {
     match form {
-        OptimizedRegex::Outside => Fault::Is {
-            why: Refusal::OutsideForms,
-        },
-        _ => Fault::Without,
+        Some(_) => None,
+        None => Some(Refusal::OutsideForms),
     }
 }
 
 // A context that is a box of no characters, not negated: nothing fits it.
 #[tactic(auto, unfolding(crate::specs::Rules::box_fault, base::specs::Pick::pick))]
-fn box_fault(left: &[u8], right: &[u8]) -> Fault
+fn box_fault(left: &[u8], right: &[u8]) -> Option<Refusal>
     ensures { result ≡ box_fault (left_form left.now) (right_form right.now) }
 {
     if regex_optim::left_is_empty_box(left) || regex_optim::right_is_empty_box(right) {
-        Fault::Is {
-            why: Refusal::BoxEmpty,
-        }
+        Some(Refusal::BoxEmpty)
     } else {
-        Fault::Without
+        None
     }
 }
 
 // The first fault of the contexts: 15 (left, then right), 20.
 #[tactic(auto, using(crate::proofs::Laws::fault_laws), unfolding(crate::specs::Rules::contexts_fault, crate::specs::Rules::fault_else))]
-fn contexts_fault(left: &[u8], right: &[u8]) -> Fault
+fn contexts_fault(left: &[u8], right: &[u8]) -> Option<Refusal>
     ensures { result ≡ contexts_fault (left_form left.now) (right_form right.now) }
 {
     match context_fault(regex_optim::left_form(left)) {
-        Fault::Is { why } => Fault::Is { why },
-        Fault::Without => match context_fault(regex_optim::right_form(right)) {
-            Fault::Is { why } => Fault::Is { why },
-            Fault::Without => box_fault(left, right),
+        Some(why) => Some(why),
+        None => match context_fault(regex_optim::right_form(right)) {
+            Some(why) => Some(why),
+            None => box_fault(left, right),
         },
     }
 }
 
 // An expression that is not well formed, or a name that is not listed.
 #[tactic(auto, unfolding(crate::specs::Rules::expression_fault))]
-fn expression_fault(checked: Expression) -> Fault
+fn expression_fault(checked: Result<usize, ExpressionFault>) -> Option<Refusal>
     ensures { result ≡ expression_fault checked }
 {
     match checked {
-        Expression::Good(_) => Fault::Without,
-        Expression::Malformed => Fault::Is {
-            why: Refusal::ExpressionWrong,
-        },
-        Expression::UnlistedName => Fault::Is {
-            why: Refusal::NameUnlisted,
-        },
+        Ok(_) => None,
+        Err(ExpressionFault::Malformed) => Some(Refusal::ExpressionWrong),
+        Err(ExpressionFault::UnlistedName) => Some(Refusal::NameUnlisted),
     }
 }
 
@@ -104,28 +85,28 @@ pub fn rule_fault(
     left: &[u8],
     right: &[u8],
     expression: &[u8],
-) -> Fault
+) -> Option<Refusal>
     ensures { result ≡ rule_fault names.now (rule pattern.now left.now right.now expression.now) }
 {
     match length_fault(pattern.len(), left.len(), right.len(), expression.len()) {
-        Fault::Is { why } => Fault::Is { why },
-        Fault::Without => match contexts_fault(left, right) {
-            Fault::Is { why } => Fault::Is { why },
-            Fault::Without => expression_fault(phonemes::check_expression(expression, names)),
+        Some(why) => Some(why),
+        None => match contexts_fault(left, right) {
+            Some(why) => Some(why),
+            None => expression_fault(phonemes::check_expression(expression, names)),
         },
     }
 }
 
 #[tactic(auto, unfolding(crate::specs::Rules::faultless))]
-fn is_faultless(fault: Fault) -> bool
+fn is_faultless(fault: Option<Refusal>) -> bool
     ensures { result ≡ faultless fault }
 {
-    matches!(fault, Fault::Without)
+    fault.is_none()
 }
 
 // Whether a context may stand in a pack, by whether it is an empty box and by its form.
 #[tactic(auto, unfolding(base::specs::Pick::and))]
-fn context_good(empty_box: bool, form: OptimizedRegex) -> bool
+fn context_good(empty_box: bool, form: Option<OptimizedRegex>) -> bool
     ensures { result ≡ and (not empty_box) (faultless (context_fault form)) }
 {
     !empty_box && is_faultless(context_fault(form))
