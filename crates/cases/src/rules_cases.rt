@@ -1,10 +1,13 @@
 // The cases of the crates regex_optim, rule and lang.
 use crate::said::{Said, Word};
-use phonemes::Expression;
+use phonemes::ExpressionFault;
 use regex_optim::OptimizedRegex;
 
 // `left CONTEXT TEXT`, `right CONTEXT TEXT`: the context's form, and whether it fits the text before or after a place, or 15.
-pub(crate) fn form(form: OptimizedRegex, fits: bool) -> Said<'static> {
+pub(crate) fn form(form: Option<OptimizedRegex>, fits: bool) -> Said<'static> {
+    let Some(form) = form else {
+        return Said::Count(Word::Plain, 15);
+    };
     let word = match form {
         OptimizedRegex::AllStringsMatcher => Word::AllStrings,
         OptimizedRegex::IsEmpty => Word::IsEmpty,
@@ -14,7 +17,6 @@ pub(crate) fn form(form: OptimizedRegex, fits: bool) -> Said<'static> {
         OptimizedRegex::EqualsChar => Word::EqualsChar,
         OptimizedRegex::StartsWithChar => Word::StartsChar,
         OptimizedRegex::EndsWithChar => Word::EndsChar,
-        OptimizedRegex::Outside => return Said::Count(Word::Plain, 15),
     };
     Said::Count(word, usize::from(fits))
 }
@@ -22,9 +24,9 @@ pub(crate) fn form(form: OptimizedRegex, fits: bool) -> Said<'static> {
 // `expr EXPRESSION NAMES`: the alternatives of an expression, or 14 or 16.
 pub(crate) fn expression<'a>(e: &'a [u8], names: &'a [u8]) -> Said<'a> {
     match phonemes::check_expression(e, names) {
-        Expression::Good(count) => Said::Alternatives(count, e, names),
-        Expression::Malformed => Said::Count(Word::Plain, 14),
-        Expression::UnlistedName => Said::Count(Word::Plain, 16),
+        Ok(count) => Said::Alternatives(count, e, names),
+        Err(ExpressionFault::Malformed) => Said::Count(Word::Plain, 14),
+        Err(ExpressionFault::UnlistedName) => Said::Count(Word::Plain, 16),
     }
 }
 
@@ -44,9 +46,7 @@ pub(crate) fn matched(
     text: &[u8],
     place: usize,
 ) -> Said<'static> {
-    if matches!(regex_optim::left_form(left), OptimizedRegex::Outside)
-        || matches!(regex_optim::right_form(right), OptimizedRegex::Outside)
-    {
+    if regex_optim::left_form(left).is_none() || regex_optim::right_form(right).is_none() {
         return Said::Count(Word::Plain, 15);
     }
     Said::flag(rule::rule_matches(pattern, left, right, text, place))

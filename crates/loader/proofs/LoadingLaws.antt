@@ -1,5 +1,7 @@
 -- A bundle loaded: the type's number and files, the guessing rules behind their count, then names, guessing rules and lists one after
 -- the other, measured and then written. Assumes nothing.
+use Rattle.bundles.specs.PlaceContracts.{file_span}
+use Rattle.bundles.specs.declared.FileAt.{FileAt}
 use mathlib.Core.Path.{◌≡◌, refl, sym, ap, ◌∙◌}
 use mathlib.Core.Bool.{true, false}
 use mathlib.Core.List.{List, [], ◌∷◌, ◌++◌}
@@ -24,8 +26,6 @@ use Rattle.pack_bytes.specs.Bytes.{names_bytes, list_bytes, pack_bytes, count_by
 use Rattle.bundles.specs as bundles
 use bundles.Bundles.{File, Found, missing, found, read_bundle, well_formed, file_named}
 use bundles.PlaceContracts.{file_at, file_numbers}
-use bundles.declared.FileAt.{FileAt}
-use bundles.declared.FileAt.TheVariants as file-at
 use Rattle.bundles.proofs.Laws.{found_is, found_order, found_within, missing_is, files_read}
 use Rattle.rule_lists.specs as rule_lists
 use rule_lists.Outcomes.{Loading, fine, not_loaded, and_load}
@@ -78,7 +78,7 @@ pub ruleset types = (rules, kind_ashkenazi, kind_generic, kind_sephardic, kind_u
 
 -- ---- a type's file, by its whole name
 
-module _ (kind : NameType) (part s : List ℕ) (r : FileAt) where
+module _ (kind : NameType) (part s : List ℕ) (r : Option FileAt) where
   abbrev FileIs : List ℕ → Type 0
   FileIs name = file_numbers r ≡ file_at s name
 
@@ -135,22 +135,22 @@ module _ (o o₁ o₂ : List ℕ) (at i n p : ℕ) where
       let is : refusal_at c n p ≡ refusal_at d m g = cc in
       ap (λ (r : why.Refused). Err r) is
 
-module _ (kind : NameType) (s : List ℕ) (x : FileAt) (e : file_numbers x ≡ file_at s (type_prefix kind ++ lang_part)) (names o : List ℕ) (at : ℕ) where
+module _ (kind : NameType) (s : List ℕ) (x : Option FileAt) (e : file_numbers x ≡ file_at s (type_prefix kind ++ lang_part)) (names o : List ℕ) (at : ℕ) where
   abbrev Wrote : List ℕ → Result ℕ why.Refused → Type 0
   Wrote o' r = WritesTo guesses_bytes (guess_file kind (files_of s) names) o o' at r
 
-  pub load_missing : x ≡ file-at.Missing → Wrote o (Err (refusal_at FileMissing 0 0))
+  pub load_missing : x ≡ None → Wrote o (Err (refusal_at FileMissing 0 0))
   unfolding guess_file on_listed WritesTo
   load_missing q = rw (missing_is s _ x e q) refl
 
-  module _ (k a b : ℕ) (q : x ≡ file-at.At k a b) where
-    module _ (o₁ o₂ : List ℕ) (i : ℕ) (g : Result GuessPart why.Refused) (c : Put o o₁ at i (count_bytes 0)) (w : GuessesAre names (take (b - a) (drop a s)) k o₁ i g o₂) where
+  module _ (whole : FileAt) (q : x ≡ Some whole) where
+    module _ (o₁ o₂ : List ℕ) (i : ℕ) (g : Result GuessPart why.Refused) (c : Put o o₁ at i (count_bytes 0)) (w : GuessesAre names (take (whole.end - whole.start) (drop whole.start s)) whole.number o₁ i g o₂) where
       abbrev in_file : Loading (List Guess)
-      in_file = guesses_in names k (take (b - a) (drop a s))
+      in_file = guesses_in names whole.number (take (whole.end - whole.start) (drop whole.start s))
 
       is_file : and_load in_file counted_guesses ≡ guess_file kind (files_of s) names
       unfolding guess_file on_listed guesses_of
-      is_file = rw (found_is s _ x e k a b q) refl
+      is_file = rw (found_is s _ x e whole q) refl
 
       comes : (y : Result GuessPart why.Refused) → g ≡ y → GuessesWritten 0 in_file o₁ i y o₂
       unfolding GuessesAre
@@ -170,13 +170,13 @@ pub ruleset guessed_laws = (load_missing, found_order, found_within, load_refuse
 
 -- ---- the language list
 
-module _ (kind : NameType) (s : List ℕ) (e : FileAt) (w : file_numbers e ≡ file_at s (type_prefix kind ++ languages_part)) where
-  pub names_found : (k a b : ℕ) (out' : List ℕ) (r : Result NameList why.Refused) → e ≡ file-at.At k a b → NamesRead (languages_of k (take (b - a) (drop a s))) r out'
+module _ (kind : NameType) (s : List ℕ) (e : Option FileAt) (w : file_numbers e ≡ file_at s (type_prefix kind ++ languages_part)) where
+  pub names_found : (whole : FileAt) (out' : List ℕ) (r : Result NameList why.Refused) → e ≡ Some whole → NamesRead (languages_of whole.number (take (whole.end - whole.start) (drop whole.start s))) r out'
       → NamesRead (names_of kind (files_of s)) r out'
   unfolding names_of on_listed
-  names_found k a b out' r h x = rw (found_is s _ e w k a b h) x
+  names_found whole out' r h x = rw (found_is s _ e w whole h) x
 
-  pub names_missing : (out' : List ℕ) → e ≡ file-at.Missing → NamesRead (names_of kind (files_of s)) (Err (refusal_at FileMissing 0 0)) out'
+  pub names_missing : (out' : List ℕ) → e ≡ None → NamesRead (names_of kind (files_of s)) (Err (refusal_at FileMissing 0 0)) out'
   unfolding NamesRead names_of on_listed
   names_missing out' h = rw (missing_is s _ e w h) refl
 

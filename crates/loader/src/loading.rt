@@ -44,7 +44,7 @@ fn kind_of(name_type: u32) -> Option<NameType>
 
 // The language list of a type.
 #[tactic(auto, unfolding(rule_lists::specs::Lists::type_prefix))]
-fn languages_file(kind: NameType, bundle: &[u8]) -> FileAt
+fn languages_file(kind: NameType, bundle: &[u8]) -> Option<FileAt>
     ensures { Rattle.bundles.specs.PlaceContracts.file_numbers result ≡ file_at bundle.now (type_prefix kind ++ languages_part) }
 {
     match kind {
@@ -56,7 +56,7 @@ fn languages_file(kind: NameType, bundle: &[u8]) -> FileAt
 
 // The guessing file of a type.
 #[tactic(auto, unfolding(rule_lists::specs::Lists::type_prefix))]
-fn guessing_file(kind: NameType, bundle: &[u8]) -> FileAt
+fn guessing_file(kind: NameType, bundle: &[u8]) -> Option<FileAt>
     ensures { Rattle.bundles.specs.PlaceContracts.file_numbers result ≡ file_at bundle.now (type_prefix kind ++ lang_part) }
 {
     match kind {
@@ -73,10 +73,10 @@ fn load_names(kind: NameType, bundle: &[u8], names: &mut [u8]) -> Result<NameLis
     ensures { NamesRead (names_of kind (files_of bundle.now)) result names.new }
 {
     match languages_file(kind, bundle) {
-        FileAt::At { number, start, end } => {
+        Some(FileAt { number, start, end }) => {
             crate::language_list::read_names(&bundle[start..end], number, names)
         }
-        FileAt::Missing => Err(Refused {
+        None => Err(Refused {
             why: Refusal::FileMissing,
             line: 0,
             file: 0,
@@ -96,7 +96,7 @@ fn load_guesses(
     ensures { WritesTo guesses_bytes (guess_file kind (files_of bundle.now) names.now) out.old out.new at result }
 {
     match guessing_file(kind, bundle) {
-        FileAt::At { number, start, end } => {
+        Some(FileAt { number, start, end }) => {
             let p = pack_bytes::put_count(0, out, at);
             let part = crate::guesses::write_guesses(&bundle[start..end], number, names, out, p)?;
             if 4096 < part.count {
@@ -109,7 +109,7 @@ fn load_guesses(
             pack_bytes::put_count(part.count as u16, out, at);
             Ok(part.end)
         }
-        FileAt::Missing => Err(Refused {
+        None => Err(Refused {
             why: Refusal::FileMissing,
             line: 0,
             file: 0,

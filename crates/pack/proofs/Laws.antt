@@ -4,7 +4,7 @@ use Rattle.strings.specs.Places.{number}
 use Rattle.std.proofs.lemmas.Option.{same_Some}
 use Rattle.pack.specs.Places.{rule_spans}
 use Rattle.pack.specs.declared.rules.RuleAt.{RuleAt}
-use Rattle.std.specs.Prelude.{None, Option, Some}
+use Rattle.std.specs.Prelude.{None, Option, Some, Ok}
 use mathlib.Core.Path.{◌≡◌, refl, sym, ap, ap₂, subst, ◌∙◌}
 use mathlib.Core.Bool.{Bool, true, false}
 use mathlib.Core.List.{List, [], ◌∷◌}
@@ -27,7 +27,6 @@ use Rattle.strings.proofs.Laws.{strings_none, strings_all, strings_one}
 use Rattle.letters.specs.Reading.{first_ill}
 use Rattle.rule.proofs.Formed.{text_formed}
 use Rattle.phonemes.specs.Expressions.{checked_of}
-use Rattle.phonemes.specs.declared.answers.Expression.TheVariants.{Good}
 use Rattle.lang.specs.Patterns.{matches_of}
 use Rattle.pack.specs
 use specs.Packs.{Guess, Pack, Verdict, accepted, refused, read_names, read_guess, read_guesses, read_rule, read_list, all, list_good, names_good, guesses_good, section, names_in, list_count, list_sections, end_section, pack_of, strings_length}
@@ -183,7 +182,7 @@ pub record GoodRule (nm : List ℕ) (r : Rule) : Type 0 where
   pub expression_formed : first_ill r.expression ≡ None
   pub pattern_some : 0 < length r.pattern
   pub alternatives : ℕ
-  pub expression : checked_of nm r.expression ≡ Good alternatives
+  pub expression : checked_of nm r.expression ≡ Ok alternatives
 
 pub good_rule : (nm : List ℕ) (r : Rule) → rule_good nm r ≡ true → GoodRule nm r
 good_rule nm r e =

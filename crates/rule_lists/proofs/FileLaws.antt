@@ -1,4 +1,5 @@
 -- The list of one file: a law for each way that `write_list` can go, and what every list has. Assumes nothing.
+use Rattle.bundles.specs.declared.FileAt.{FileAt}
 use mathlib.Core.Path.{◌≡◌, refl, sym, ap, ap₂, subst, ◌∙◌}
 use mathlib.Core.Bool.{true}
 use mathlib.Core.Logic.{⊎_elim}
@@ -16,8 +17,6 @@ use Rattle.pack_bytes.specs.Bytes.{text_bytes, count_bytes, rule_bytes, list_byt
 use Rattle.pack_bytes.specs.InnerContracts as bytes
 use Rattle.bundles.specs.Bundles.{File, Found, missing, found, file_named}
 use Rattle.bundles.specs.PlaceContracts.{file_numbers, file_at}
-use Rattle.bundles.specs.declared.FileAt.{FileAt}
-use Rattle.bundles.specs.declared.FileAt.TheVariants.{At, Missing}
 use Rattle.bundles.proofs.Laws.{missing_is, found_is}
 use Rattle.held.specs.Met.{Met, entries, finished, bytes_of_all}
 use Rattle.held.specs.Files.{FileRead, was_read, read_listed}
@@ -33,7 +32,7 @@ use Rattle.rule_lists.specs.InnerContracts as collects
 use Rattle.rule_lists.specs.InnerContracts.{refusal_at, read_from, kept_as, CollectIs, WritesTo}
 use Rattle.rule_lists.specs.WritingContracts.{rule_put, SomeKept, RowsPut}
 use Rattle.rule_lists.specs.Lists.{list_in, list_named, first_code_of, files_for, counted_rules}
-use Rattle.std.specs.Prelude.{Result, Ok, Err}
+use Rattle.std.specs.Prelude.{Result, Ok, Err, Option, Some, None}
 use Rattle.rule_lists.specs.declared.refused.Refused as why
 use Rattle.rule_lists.proofs.TableLaws.{kept_rows, keys_from_lem}
 use Rattle.rule_lines.proofs.Laws.{good_short}
@@ -122,17 +121,17 @@ module _ (names : List ℕ) (fs : List File) (k : ℕ) (s : List ℕ) (t : Met R
       (ap (key_bytes rule_put (kept_as t)) (ap (λ (m : ℕ). keys_of rows m 0 []) (sym kept) ∙ keys_from_lem bundle rows 0 [] (kept_as t) (kept_rows h few))
       ∙ finished_keys first_code_of rule_put t short (within_all t) (omega (arith, kept)) ∙ rules_short names (finished first_code_of t) good_finished)
 
-module _ (bundle names wanted : List ℕ) (f : FileAt) (w : file_numbers f ≡ file_at bundle wanted) where
-  pub list_missing : f ≡ Missing → (o : List ℕ) (at : ℕ) → WritesTo list_bytes (list_named names (files_of bundle) wanted) o o at (Err (refusal_at FileMissing 0 0))
+module _ (bundle names wanted : List ℕ) (f : Option FileAt) (w : file_numbers f ≡ file_at bundle wanted) where
+  pub list_missing : f ≡ None → (o : List ℕ) (at : ℕ) → WritesTo list_bytes (list_named names (files_of bundle) wanted) o o at (Err (refusal_at FileMissing 0 0))
   unfolding list_named list_in WritesTo
   list_missing q o at = rw (missing_is bundle wanted f w q) refl
 
-  module _ (k a b : ℕ) (q : f ≡ At k a b) where
-    list_found : list_named names (files_of bundle) wanted ≡ and_load (counted names (files_of bundle) k (take (b - a) (drop a bundle))) (λ t. fine (finished first_code_of t))
+  module _ (whole : FileAt) (q : f ≡ Some whole) where
+    list_found : list_named names (files_of bundle) wanted ≡ and_load (counted names (files_of bundle) whole.number (take (whole.end - whole.start) (drop whole.start bundle))) (λ t. fine (finished first_code_of t))
     unfolding list_named list_in
-    list_found = ap (list_in names (files_of bundle)) (found_is bundle wanted f w k a b q)
+    list_found = ap (list_in names (files_of bundle)) (found_is bundle wanted f w whole q)
 
-    module _ (g : Result ℕ why.Refused) (rows : List Spot) (v : CollectIs bundle (counted_rules (read_from bundle names (record { file = k; start = a; end = b; left = 8 }) 0)) g rows) where
+    module _ (g : Result ℕ why.Refused) (rows : List Spot) (v : CollectIs bundle (counted_rules (read_from bundle names (record { file = whole.number; start = whole.start; end = whole.end; left = 8 }) 0)) g rows) where
       pub list_refused : (r : why.Refused) → g ≡ Err r → (o o' : List ℕ) (at : ℕ) → WritesTo list_bytes (list_named names (files_of bundle) wanted) o o' at (Err r)
       unfolding WritesTo and_load read_from read_listed
       list_refused r e o o' at = rw (list_found, collect_stop v e) refl
@@ -141,7 +140,7 @@ module _ (bundle names wanted : List ℕ) (f : FileAt) (w : file_numbers f ≡ f
       unfolding WritesTo and_load read_from read_listed
       list_told n e o o' at p u =
           let w = collect_done v e in
-          rw (list_found, w.is) (p, refl, rw (list_bytes_lem names (files_of bundle) k _ w.what w.is bundle rows n w.short w.kept) at (u.is _ w.kept))
+          rw (list_found, w.is) (p, refl, rw (list_bytes_lem names (files_of bundle) whole.number _ w.what w.is bundle rows n w.short w.kept) at (u.is _ w.kept))
 
 pub ruleset file_laws = (list_missing, found_stands, list_refused, list_kept, list_few, list_told, rules)
 

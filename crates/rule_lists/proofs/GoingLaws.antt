@@ -21,8 +21,6 @@ use Rattle.rules_parser.specs.declared.files.Item.TheVariants as item
 use Rattle.rules_parser.proofs.Laws.{passed_goes, passed_in, passed_lines, tells_goes, tells_in, items_start, items_end, items_passed, items_tells, items_wrong}
 use Rattle.held.specs.Met.{Met, end, rule, file, entries}
 use Rattle.held.specs.Files.{Line, passed, is_rule, include, bad_line, FileRead, was_read, not_read, before, on_read, read_lines, follow}
-use Rattle.rule_lines.specs.declared.Fault.{Fault}
-use Rattle.rule_lines.specs.declared.Fault.TheVariants.{Is, Without}
 use Rattle.rule_lists.specs.Lines.{rule_in, judged_rule, line_of, lines_of}
 use Rattle.rule_lists.specs.TableContracts.{RowReads, SpotIs}
 use Rattle.rule_lists.specs.InnerContracts.{refusal_at, Known, ruled, tally, StateHolds, Ready, RuledIs, content_of, InBundle, read_from, read_included, one_more, ComesTo, done, stopped, Walks, row_by, row_told, row_in, row_at}
@@ -32,7 +30,7 @@ use Rattle.rule_lists.specs.declared.tables.Spot.{Spot}
 use Rattle.rule_lists.specs.declared.walk.Task.{Task}
 use Rattle.rule_lists.specs.declared.walk.Task.TheVariants.{Collect}
 use Rattle.rule_lists.specs.declared.walk.State.{State}
-use Rattle.std.specs.Prelude.{Result, Ok, Err}
+use Rattle.std.specs.Prelude.{Result, Ok, Err, Option, Some, None}
 use Rattle.rule_lists.specs.declared.refused.Refused.{Refused}
 use Rattle.rule_lists.specs.declared.walk.Source.{Source}
 use Rattle.rule_lists.specs.Lists.{files_for}
@@ -55,7 +53,7 @@ pub record Goes (names s : List ℕ) (p k n : ℕ) (x : Line Rule) : Type 0 wher
 pub record RuleRow (names s : List ℕ) (p k n : ℕ) : Type 0 where
   pub is : Rule
   pub first : k ≡ first_code is.pattern
-  pub sound : rule_fault names is ≡ Without
+  pub sound : rule_fault names is ≡ None
   pub reads : RowReads s p is
   pub goes : Goes names s p 1 n (is_rule is)
 
@@ -80,9 +78,9 @@ module _ (names s : List ℕ) (p : ℕ) (h : p < length s) where
       record { left = ap (map (line_of names s)) (items_passed Rules s p k n q); ahead = a; inside = passed_in Rules s p k n q; lines = omega arith }
   here_by (item.Tells (told.Rule a b c d) n) q = go (rule_fault names (rule_in s a b c d)) refl (told_goes _ n q)
     where
-      go : (x : Fault) → rule_fault names (rule_in s a b c d) ≡ x → Goes names s p 1 n (judged_rule x (rule_in s a b c d)) → Here names s p (row_by x (first_code (part_of s a)) n)
-      go Without e g = record { is = rule_in s a b c d; first = refl; sound = e; reads = record { a = a; b = b; c = c; d = d; next = n; says = q; is = refl }; goes = g }
-      go (Is w) e g = (lines_at names s n, g.left)
+      go : (x : Option Refusal) → rule_fault names (rule_in s a b c d) ≡ x → Goes names s p 1 n (judged_rule x (rule_in s a b c d)) → Here names s p (row_by x (first_code (part_of s a)) n)
+      go None e g = record { is = rule_in s a b c d; first = refl; sound = e; reads = record { a = a; b = b; c = c; d = d; next = n; says = q; is = refl }; goes = g }
+      go (Some w) e g = (lines_at names s n, g.left)
   here_by (item.Tells (told.Include t) n) q = told_goes _ n q
   here_by (item.Tells (told.Guess a b v) n) q = (lines_at names s n, (told_goes _ n q).left)
   here_by (item.Tells (told.Name t) n) q = (lines_at names s n, (told_goes _ n q).left)

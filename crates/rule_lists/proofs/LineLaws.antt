@@ -14,31 +14,29 @@ use Rattle.rules_parser.specs.declared.lines.FileKind.TheVariants.{Rules}
 use Rattle.rules_parser.specs.declared.lines.Clause.{Clause}
 use Rattle.rules_parser.specs.declared.files.Item.{Item}
 use Rattle.rules_parser.specs.declared.files.Item.TheVariants as item
-use Rattle.rule_lines.specs.declared.Fault.{Fault}
-use Rattle.rule_lines.specs.declared.Fault.TheVariants.{Is, Without}
-use Rattle.std.specs.Prelude.{Result, Ok, Err}
+use Rattle.std.specs.Prelude.{Result, Ok, Err, Option, Some, None}
 use Rattle.rule_lists.specs.declared.lines.Row.{Row}
 use Rattle.rule_lists.specs.declared.lines.Row.TheVariants as row
 use Rattle.rule_lists.specs.InnerContracts.{row_by, row_told, row_in, row_at}
 
 -- ---- the rule of four texts
 
-module _ (names s p l r e : List ℕ) (a b c d : Text) (n : ℕ) (fault : Fault)
+module _ (names s p l r e : List ℕ) (a b c d : Text) (n : ℕ) (fault : Option Refusal)
     (is : fault ≡ rule_fault names (rule p l r e)) (ep : p ≡ part_of s a) (el : l ≡ part_of s b) (er : r ≡ part_of s c) (ee : e ≡ part_of s d) where
   by : fault ≡ rule_fault names (rule (part_of s a) (part_of s b) (part_of s c) (part_of s d))
   by = is ∙ rw (ep, el, er, ee) refl
 
-  row_by_lem : (x : Fault) → fault ≡ x → row_by x (first_code p) n ≡ row_told names s a b c d n
+  row_by_lem : (x : Option Refusal) → fault ≡ x → row_by x (first_code p) n ≡ row_told names s a b c d n
   unfolding row_told
-  row_by_lem x z = ap₂ (λ (y : Fault) (k : ℕ). row_by y k n) (sym z ∙ by) (ap first_code ep)
+  row_by_lem x z = ap₂ (λ (y : Option Refusal) (k : ℕ). row_by y k n) (sym z ∙ by) (ap first_code ep)
 
-  pub row_rule : (k : ℕ) → fault ≡ Without → k ≡ first_code p → Ok (row.Rule k n) ≡ row_told names s a b c d n
+  pub row_rule : (k : ℕ) → fault ≡ None → k ≡ first_code p → Ok (row.Rule k n) ≡ row_told names s a b c d n
   unfolding row_by
-  row_rule k z h = ap (λ (x : ℕ). Ok (row.Rule x n)) h ∙ row_by_lem Without z
+  row_rule k z h = ap (λ (x : ℕ). Ok (row.Rule x n)) h ∙ row_by_lem None z
 
-  pub row_fault : (w : Refusal) → fault ≡ Is w → Err w ≡ row_told names s a b c d n
+  pub row_fault : (w : Refusal) → fault ≡ Some w → Err w ≡ row_told names s a b c d n
   unfolding row_by
-  row_fault w z = row_by_lem (Is w) z
+  row_fault w z = row_by_lem (Some w) z
 
 -- ---- a line
 

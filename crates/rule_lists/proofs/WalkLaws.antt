@@ -21,7 +21,6 @@ use Rattle.held.specs.Met.{Met, end, rule, file, entries, codes, finished}
 use Rattle.held.specs.Files.{Line, passed, is_rule, include, bad_line, FileRead, was_read, not_read, before, on_read, on_content, read_lines, follow, read_listed}
 use Rattle.held.specs.InnerContracts.{noted, kept, met_on, Each, Within}
 use Rattle.held.proofs.Finished.{length_kept, length_noted, kept_plain, each_of}
-use Rattle.rule_lines.specs.declared.Fault.TheVariants.{Without}
 use Rattle.rule_lists.specs.Lines.{lines_of}
 use Rattle.rule_lists.specs.TableContracts.{RowReads, KeptIs}
 use Rattle.rule_lists.specs.InnerContracts.{refusal_at, Known, known, ruled, tally, state_of, StateHolds, Ready, Walks, kept_as, Surveyed, SurveyIs, CountedAs, few, many, CollectIs, all, refused, row_at}
@@ -34,7 +33,7 @@ use Rattle.rule_lists.specs.declared.lines.Row.TheVariants as row
 use Rattle.rule_lists.specs.declared.walk.Task.TheVariants.{Survey, Collect}
 use Rattle.rule_lists.specs.declared.tables.Spot.{Spot}
 use Rattle.rule_lists.specs.declared.walk.State.{State}
-use Rattle.std.specs.Prelude.{Result, Ok, Err}
+use Rattle.std.specs.Prelude.{Result, Ok, Err, None}
 use Rattle.rule_lists.specs.declared.refused.Refused.{Refused}
 use Rattle.rule_lists.specs.Lists.{first_code_of, content_in, files_for, counted_rules}
 
@@ -44,7 +43,7 @@ use Rattle.rule_lists.specs.Lists.{first_code_of, content_in, files_for, counted
 abbrev pub GoodRead : List ℕ → Rule → Type 0
 GoodRead names r = rule_good names r ≡ true
 
-reads_good : (names s : List ℕ) (p : ℕ) (r : Rule) → rule_fault names r ≡ Without → RowReads s p r → GoodRead names r
+reads_good : (names s : List ℕ) (p : ℕ) (r : Rule) → rule_fault names r ≡ None → RowReads s p r → GoodRead names r
 reads_good names s p r e w = texts_good names r (subst Texts w.is (record {
   pattern = rule_pattern s p _ _ _ _ _ w.says;
   left = rule_left s p _ _ _ _ _ w.says;

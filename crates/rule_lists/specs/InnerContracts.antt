@@ -1,5 +1,5 @@
 -- What a walk over a rule file and its includes answers.
-use Rattle.std.specs.Prelude.{◌≡◌, ℕ, ◌+◌, ◌-◌, ◌≤◌, ◌<◌, List, [], ◌∷◌, ◌++◌, length, take, drop, Result, Ok, Err}
+use Rattle.std.specs.Prelude.{◌≡◌, ℕ, ◌+◌, ◌-◌, ◌≤◌, ◌<◌, List, [], ◌∷◌, ◌++◌, length, take, drop, Result, Ok, Err, Option, None, Some}
 use Rattle.base.specs.Pick.{pick}
 use Rattle.refusals.specs.declared.Refusal.{Refusal}
 use Rattle.refusals.specs.declared.Refusal.TheVariants.{LineUnreadable, TooMuch}
@@ -22,9 +22,7 @@ use Rattle.rule_lists.specs.Lists.{files_for, first_code_of}
 use Rattle.rule_lists.specs.declared.lines.Row.TheVariants as row
 use Rattle.rules_parser.specs.declared.files.Item.TheVariants as item
 use Rattle.rules_parser.specs.declared.lines.Clause.TheVariants as told
-use Rattle.rule_lines.specs.declared.Fault.{Fault}
 use Rattle.rule_lists.specs.declared.lines.Row.{Row}
-use Rattle.rule_lines.specs.declared.Fault.TheVariants.{Without, Is}
 use Rattle.rules_parser.specs.declared.fields.Text.{Text}
 use Rattle.rule.specs.Matching.{first_code}
 use Rattle.rules_parser.specs.Fields.{part_of}
@@ -50,9 +48,9 @@ unfoldable pub WrittenIs : {A : Type 0} → (A → List ℕ) → Loading A → L
 WrittenIs bytes (fine a) o o' at r = (p : ℕ) × (r ≡ Done p) × Put o o' at p (bytes a)
 WrittenIs bytes (not_loaded c l f) o o' at r = r ≡ Refused c l f
 
-unfoldable pub row_by : Fault → ℕ → ℕ → Result Row Refusal
-row_by Without code next = Ok (row.Rule code next)
-row_by (Is w) code next = Err w
+unfoldable pub row_by : Option Refusal → ℕ → ℕ → Result Row Refusal
+row_by None code next = Ok (row.Rule code next)
+row_by (Some w) code next = Err w
 
 unfoldable pub row_told : List ℕ → List ℕ → Text → Text → Text → Text → ℕ → Result Row Refusal
 row_told names s a b c d next = row_by (rule_fault names (rule_in s a b c d)) (first_code (part_of s a)) next

@@ -1,5 +1,6 @@
 -- The lines of a rule file (01, Rule files and includes).
-use Rattle.std.specs.Prelude.{ℕ, List, map}
+use Rattle.refusals.specs.declared.Refusal.{Refusal}
+use Rattle.std.specs.Prelude.{ℕ, List, map, Option, Some, None}
 use Rattle.refusals.specs.declared.Refusal.TheVariants.{LineUnreadable}
 use Rattle.rule_lines.specs.Rules.{Rule, rule, rule_fault}
 use Rattle.held.specs.Files.{Line, passed, is_rule, include, bad_line}
@@ -10,16 +11,14 @@ use Rattle.rules_parser.specs.declared.lines.FileKind.TheVariants.{Rules}
 use Rattle.rules_parser.specs.declared.lines.Clause.TheVariants as told
 use Rattle.rules_parser.specs.declared.files.Item.{Item}
 use Rattle.rules_parser.specs.declared.files.Item.TheVariants as item
-use Rattle.rule_lines.specs.declared.Fault.{Fault}
-use Rattle.rule_lines.specs.declared.Fault.TheVariants.{Is, Without}
 
 -- the rule of four texts of a file
 abbrev pub rule_in : List ℕ → Text → Text → Text → Text → Rule
 rule_in s a b c d = rule (part_of s a) (part_of s b) (part_of s c) (part_of s d)
 
-unfoldable pub judged_rule : Fault → Rule → Line Rule
-judged_rule Without r = is_rule r
-judged_rule (Is w) r = bad_line w
+unfoldable pub judged_rule : Option Refusal → Rule → Line Rule
+judged_rule None r = is_rule r
+judged_rule (Some w) r = bad_line w
 
 unfoldable pub line_of : List ℕ → List ℕ → Item → Line Rule
 line_of names s (item.Passed k n) = passed k

@@ -3,7 +3,6 @@ ghost use Rattle.std.specs.Prelude.{◌≡◌};
 ghost use Rattle.rule_lists.specs.InnerContracts.{row_told, row_at};
 
 use refusals::Refusal;
-use rule_lines::Fault;
 use rules_parser::{Clause, FileKind, Item, Text};
 
 // What stands at the beginning of a line that is good.
@@ -35,11 +34,11 @@ fn row_of(
         rules_parser::part(s, right),
         rules_parser::part(s, expression),
     ) {
-        Fault::Without => Ok(Row::Rule {
+        None => Ok(Row::Rule {
             code: rule::first_code(first),
             next,
         }),
-        Fault::Is { why } => Err(why),
+        Some(why) => Err(why),
     }
 }
 

@@ -59,7 +59,7 @@ fn write_list(
         out.new at result }
 {
     match bundles::find_file(bundle, wanted) {
-        FileAt::At { number, start, end } => {
+        Some(FileAt { number, start, end }) => {
             let source = Source {
                 file: number,
                 start,
@@ -69,7 +69,7 @@ fn write_list(
             let n = crate::walk::collect(source, bundle, names, lasts, rows)?;
             Ok(crate::list_writing::put_sorted(bundle, rows, n, lasts, out, at))
         }
-        FileAt::Missing => Err(Refused {
+        None => Err(Refused {
             why: Refusal::FileMissing,
             line: 0,
             file: 0,

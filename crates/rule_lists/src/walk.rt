@@ -111,7 +111,7 @@ fn follow(
         });
     }
     match bundles::find_file(bundle, name) {
-        FileAt::At { number, start, end } => {
+        Some(FileAt { number, start, end }) => {
             let source = Source {
                 file: number,
                 start,
@@ -124,7 +124,7 @@ fn follow(
             };
             walk(source, task, bundle, names, more, lasts, rows)
         }
-        FileAt::Missing => Err(Refused {
+        None => Err(Refused {
             why: Refusal::FileMissing,
             line: at.line,
             file: at.file,
