@@ -1,4 +1,5 @@
 -- The rules of an accepted pack: their strings are well formed, and so is what is spelled by them. Assumes nothing.
+use Rattle.std.specs.Prelude.{Ok}
 use mathlib.Core.Path.{◌≡◌, refl, sym, ap, ◌∙◌}
 use mathlib.Core.Bool.{Bool, true, false}
 use mathlib.Core.List.{List, [], ◌∷◌, ◌++◌}
@@ -12,7 +13,6 @@ use Rattle.texts.specs.Parts.{first_is, last_is, prefix_of}
 use Rattle.texts.proofs.Laws.{prefix_split}
 use Rattle.rule.specs.Matching.{rule_matches}
 use Rattle.phonemes.specs.Expressions.{round, unround, formed, checked_of}
-use Rattle.phonemes.specs.declared.answers.Expression.TheVariants.{Good}
 use Rattle.pack.specs.Packs.{Pack, pack_of, accepted, all, list_good}
 use Rattle.rule_lines.specs.Rules.{Rule, rule_good}
 use Rattle.pack.proofs.Laws.{GoodRule, good_rule, ListsAt, no_list, one_list, is_pack}
@@ -31,7 +31,7 @@ matched_prefix : (p l r text : Text) (place : ℕ) → rule_matches p l r text p
 unfolding rule_matches
 matched_prefix p l r text place e = ⊎_elim (λ w. clash (cc w.1)) (λ w. (and_inv _ _ w.1).0) (pick_inv _ _ _ _ e)
 
-closed : (names e : Text) (n : ℕ) → checked_of names e ≡ Good n → pick (first_is round e) (last_is unround e) true ≡ true
+closed : (names e : Text) (n : ℕ) → checked_of names e ≡ Ok n → pick (first_is round e) (last_is unround e) true ≡ true
 unfolding checked_of formed
 closed names e n g = ⊎_elim (λ w. (and_inv _ _ w.0).0) (λ w. clash (cc w.1)) (pick_inv _ _ _ _ g)
 

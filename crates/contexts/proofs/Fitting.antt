@@ -1,4 +1,7 @@
 -- What request 11 refuses matched nowhere, and what is accepted fits some text. Assumes nothing.
+use Rattle.phonemes.specs.declared.answers.ExpressionFault.TheVariants.{Malformed, UnlistedName}
+use Rattle.phonemes.specs.declared.answers.ExpressionFault.{ExpressionFault}
+use Rattle.std.specs.Prelude.{Option, Some, None, Result, Ok, Err}
 use mathlib.Core.Path.{◌≡◌, refl, sym, ap, ◌∙◌}
 use mathlib.Core.Bool.{Bool, true, false, not}
 use mathlib.Core.List.Memᴰ
@@ -22,19 +25,14 @@ use Rattle.texts.specs.Parts.{tail, front, first_is, last_is, has, caret, dollar
 use Rattle.texts.proofs.Chars.{has_cons}
 use Rattle.regex_optim.specs.Contexts.{Form, box_form, box_inner, boxed, form_in, left_form, right_form, kind_of, takes_none, empty_box}
 use Rattle.regex_optim.specs.declared.OptimizedRegex.{OptimizedRegex}
-use Rattle.regex_optim.specs.declared.OptimizedRegex.TheVariants.{AllStringsMatcher, IsEmpty, Equals, StartsWith, EndsWith, EqualsChar, StartsWithChar, EndsWithChar, Outside}
 use Rattle.regex_optim.proofs.Laws.{Anchored, anchored_left, anchored_right, box_empty, in_literal, in_box, in_none, left_is, right_is}
 use Rattle.regex_optim.proofs.FittingLaws.{fits_itself, box_takes, empty_fits_nothing}
 use Rattle.refusals.specs.declared.Refusal.{Refusal}
 use Rattle.refusals.specs.declared.Refusal.TheVariants.{BoxEmpty}
 use Rattle.rule.specs.Matching.{rule_matches}
 use Rattle.rule.proofs.Formed.{text_formed}
-use Rattle.phonemes.specs.declared.answers.Expression.{Expression}
-use Rattle.phonemes.specs.declared.answers.Expression.TheVariants.{Good, Malformed, UnlistedName}
 use Rattle.rule_lines.specs.Rules.{Rule, length_fault, context_fault, box_fault, contexts_fault, expression_fault, fault_else, rule_fault, faultless, rule_good}
 use Rattle.rule_lines.specs.InnerContracts.{form_good}
-use Rattle.rule_lines.specs.declared.Fault.{Fault}
-use Rattle.rule_lines.specs.declared.Fault.TheVariants.{Is, Without}
 use Rattle.rule_lines.proofs.Laws.{good_texts, good_short, good_contexts}
 use Rattle.pack.specs.Packs.{Pack, Verdict, pack_of, accepted, refused, verdict_of, all}
 use Rattle.pack.specs.Numbers.{checked_numbers}
@@ -48,14 +46,14 @@ use Rattle.contexts.proofs.Missing.{missing, few_codes}
 
 -- ---- a rule with an empty box matches nowhere
 
-else_is : (a b : Fault) (w : Refusal) → fault_else a b ≡ Is w → (a ≡ Is w) ⊎ (b ≡ Is w)
+else_is : (a b : Option Refusal) (w : Refusal) → fault_else a b ≡ Some w → (a ≡ Some w) ⊎ (b ≡ Some w)
 unfolding fault_else
-else_is Without b w e = inr e
-else_is (Is v) b w e = inl e
+else_is None b w e = inr e
+else_is (Some v) b w e = inl e
 
 -- no other judgment gives 20
-NotTwenty : Fault → Type 0
-NotTwenty f = f ≡ Is BoxEmpty → ⊥
+NotTwenty : Option Refusal → Type 0
+NotTwenty f = f ≡ Some BoxEmpty → ⊥
 
 length_other : (p l r e : ℕ) → NotTwenty (length_fault p l r e)
 unfolding length_fault NotTwenty
@@ -63,29 +61,22 @@ length_other p l r e =
     pick_all NotTwenty _ _ _ (λ q. clash (cc))
     (pick_all NotTwenty _ _ _ (λ q. clash (cc)) (pick_all NotTwenty _ _ _ (λ q. clash (cc)) (pick_all NotTwenty _ _ _ (λ q. clash (cc)) (pick_all NotTwenty _ _ _ (λ q. clash (cc)) (λ q. clash (cc))))))
 
-context_other : (f : OptimizedRegex) → NotTwenty (context_fault f)
+context_other : (f : Option OptimizedRegex) → NotTwenty (context_fault f)
 unfolding context_fault NotTwenty
-context_other AllStringsMatcher e = clash (cc)
-context_other IsEmpty e = clash (cc)
-context_other Equals e = clash (cc)
-context_other StartsWith e = clash (cc)
-context_other EndsWith e = clash (cc)
-context_other EqualsChar e = clash (cc)
-context_other StartsWithChar e = clash (cc)
-context_other EndsWithChar e = clash (cc)
-context_other Outside e = clash (cc)
+context_other (Some form) e = clash (cc)
+context_other None e = clash (cc)
 
-expression_other : (x : Expression) → NotTwenty (expression_fault x)
+expression_other : (x : Result ℕ ExpressionFault) → NotTwenty (expression_fault x)
 unfolding expression_fault NotTwenty
-expression_other (Good n) e = clash (cc)
-expression_other Malformed e = clash (cc)
-expression_other UnlistedName e = clash (cc)
+expression_other (Ok n) e = clash (cc)
+expression_other (Err Malformed) e = clash (cc)
+expression_other (Err UnlistedName) e = clash (cc)
 
-box_by : (f g : Form) → box_fault f g ≡ Is BoxEmpty → (empty_box f ≡ true) ⊎ (empty_box g ≡ true)
+box_by : (f g : Form) → box_fault f g ≡ Some BoxEmpty → (empty_box f ≡ true) ⊎ (empty_box g ≡ true)
 unfolding box_fault
 box_by f g e = ⊎_elim (λ w. inl w.0) (λ w. ⊎_elim (λ v. inr v.0) (λ v. clash (cc v.1)) (pick_inv _ _ _ _ w.1)) (pick_inv _ _ _ _ e)
 
-box_in : (names : List ℕ) (r : Rule) → rule_fault names r ≡ Is BoxEmpty → (empty_box (left_form r.left) ≡ true) ⊎ (empty_box (right_form r.right) ≡ true)
+box_in : (names : List ℕ) (r : Rule) → rule_fault names r ≡ Some BoxEmpty → (empty_box (left_form r.left) ≡ true) ⊎ (empty_box (right_form r.right) ≡ true)
 unfolding rule_fault contexts_fault NotTwenty
 box_in names r e =
     ⊎_elim (λ w. absurd (length_other _ _ _ _ w))
@@ -95,7 +86,7 @@ box_in names r e =
     (else_is _ _ _ e)
 
 -- 20 takes nothing away that a rule could have done
-pub refused_box_matches_nowhere : (names : List ℕ) (r : Rule) → rule_fault names r ≡ Is BoxEmpty → MatchesNowhere r
+pub refused_box_matches_nowhere : (names : List ℕ) (r : Rule) → rule_fault names r ≡ Some BoxEmpty → MatchesNowhere r
 unfolding MatchesNowhere rule_matches
 refused_box_matches_nowhere names r e text place =
     pick_all (λ (b : Bool). b ≡ false) _ _ _ refl

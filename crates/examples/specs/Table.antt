@@ -1,11 +1,11 @@
 -- Document 01's first twelve examples, the twelfth as ticket 5 of document 02 amends it: what the definitions compute, beside what the papers say.
-use Rattle.std.specs.Prelude.{ℕ, ◌≡◌, Bool, true, false, List, [], ◌∷◌, map, drop}
+use Rattle.phonemes.specs.declared.answers.ExpressionFault.TheVariants.{Malformed, UnlistedName}
+use Rattle.phonemes.specs.declared.answers.ExpressionFault.{ExpressionFault}
+use Rattle.std.specs.Prelude.{ℕ, ◌≡◌, Bool, true, false, List, [], ◌∷◌, map, drop, Result, Ok, Err}
 use Rattle.languages.specs.Sets.{narrowed, merged}
 use Rattle.languages.specs.declared.sets.LanguageSet.{LanguageSet}
 use Rattle.languages.specs.declared.sets.LanguageSet.TheVariants.{Any, SomeLanguages}
 use Rattle.phonemes.specs.Expressions.{pieces_in, text_of, set_of, checked_of}
-use Rattle.phonemes.specs.declared.answers.Expression.{Expression}
-use Rattle.phonemes.specs.declared.answers.Expression.TheVariants.{Good, Malformed, UnlistedName}
 use Rattle.regex_optim.specs.Contexts.{left_form, fits}
 use Rattle.prefixes.specs.Prefixes.{split_of}
 use Rattle.name_parts.specs.Joining.{joined_name}
@@ -39,10 +39,10 @@ abbrev pub alternative : List ℕ → LanguageSet → record { text : List ℕ; 
 alternative t s = record { text = t; set = s }
 
 -- an expression's alternatives, or 14 or 16
-unfoldable pub told : Expression → List ℕ → Shown
-told (Good n) e = alternatives (map (λ (a : List ℕ). alternative (text_of a) (set_of names a)) (pieces_in e))
-told Malformed e = refusal 14
-told UnlistedName e = refusal 16
+unfoldable pub told : Result ℕ ExpressionFault → List ℕ → Shown
+told (Ok n) e = alternatives (map (λ (a : List ℕ). alternative (text_of a) (set_of names a)) (pieces_in e))
+told (Err Malformed) e = refusal 14
+told (Err UnlistedName) e = refusal 16
 
 unfoldable pub expression : List ℕ → Shown
 expression e = told (checked_of names e) e
