@@ -6,4 +6,3 @@ pub mod Packs
 pub mod Words
 pub mod Names
 pub mod Calls
-pub mod EightLaws

@@ -1,2 +1,1 @@
 pub mod CodePoints
-pub mod AlikeContracts

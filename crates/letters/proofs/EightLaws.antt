@@ -1,23 +1,23 @@
 -- Texts that are alike as far as index i, and on by as many bytes as one number tells: eight bytes that are the same number are the same. Assumes nothing.
-use mathlib.Core.Path.{◌≡◌, refl, sym, ap, ap₂, ◌∙◌}
-use mathlib.Core.Bool.{Bool, true, false}
-use mathlib.Core.List.{List, [], ◌∷◌}
-use Prim.Native.Nat.{ℕ, zero, suc, ◌+◌, ◌*◌, ◌≤◌, ◌<◌, min, zero-le}
+use mathlib.Core.Path.{◌≡◌, refl, sym, ap₂, ◌∙◌}
+use mathlib.Core.List.{List, ◌∷◌}
+use Prim.Native.Nat.{ℕ, zero, suc, ◌+◌, ◌*◌, ◌-◌, ◌≤◌, ◌<◌, min, zero-le}
 use native.Mathlib.Numerals.{add-one, add-one-le, unary_clauses}
 use native.Mathlib.Omega.{arith}
 use mir.Syntax.{w8}
 use mir.Val.{Fits}
-use lib.Dec.{eqb, ltb}
-use lib.ListN.{length, drop, get_or, drop_of_length-le}
+use lib.ListN.{length, take, drop, get_or}
 use lib.Seq.{drop-cons}
 use borrow.Author.Rules.{rules}
-use borrow.Author.Tests.{eqb-true, ltb-false, lt-ltb, le-ltb, eq-eqb, ne_eqb}
-use Rattle.base.specs.Pick.{pick, and}
-use Rattle.letters.specs.Order.{order_of, same_text}
-use Rattle.code_points.specs.AlikeContracts.{Left, EightIs, low_first}
-use Rattle.base.proofs.PickLaws.{and_no, and_inv}
-use Rattle.base.proofs.Arms.{clash}
+use borrow.Author.Tests.{le-ltb}
+use Rattle.base.specs.Pick.{pick}
+use Rattle.letters.specs.Order.{order_of}
+use Rattle.letters.specs.OrderContracts.{Left, EightIs, low_first}
+use Rattle.base.proofs.Stores.{rest_is}
 use Rattle.std.specs.declared.cmp.Ordering.{Ordering}
+use Rattle.std.specs.Ordering.{nat_cmp}
+use Rattle.std.specs.Cmp.Lexicographic.{slice_cmp}
+use Rattle.letters.proofs.OrderLaws.{order_by_slices}
 
 module _ {A : Type 0} {f : List ℕ → List ℕ → A} {a b : List ℕ} where
   pub left_start : Left A f a b 0
@@ -59,3 +59,18 @@ alike_over {a} {b} (suc n) i j p sa sb e h c =
 pub order_eight : {a b : List ℕ} {n i x y : ℕ} → Left Ordering order_of a b i → EightIs a i x → EightIs b i y → x ≡ y → i + 8 ≤ n
     → n ≤ length a → n ≤ length b → Left Ordering order_of a b (i + 8)
 order_eight {a} {b} {n} {i} c p q e h ha hb = alike_over 8 i (i + 8) refl p.small q.small (sym p.is ∙ e ∙ q.is) (omega arith) c
+
+-- eight bytes, the numbers of which are at hand
+pub eight_is : {s : List ℕ} {i x₀ x₁ x₂ x₃ x₄ x₅ x₆ x₇ : ℕ} → ((k : ℕ) → Fits w8 (get_or s k 0))
+    → x₀ ≡ get_or s i 0 → x₁ ≡ get_or s (i + 1) 0 → x₂ ≡ get_or s (i + 2) 0 → x₃ ≡ get_or s (i + 3) 0
+    → x₄ ≡ get_or s (i + 4) 0 → x₅ ≡ get_or s (i + 5) 0 → x₆ ≡ get_or s (i + 6) 0 → x₇ ≡ get_or s (i + 7) 0
+    → EightIs s i (x₀ + 256 * (x₁ + 256 * (x₂ + 256 * (x₃ + 256 * (x₄ + 256 * (x₅ + 256 * (x₆ + 256 * x₇)))))))
+unfolding low_first
+eight_is {s} {i} small e₀ e₁ e₂ e₃ e₄ e₅ e₆ e₇ = record { is = simp (unary_clauses, e₀, e₁, e₂, e₃, e₄, e₅, e₆, e₇); small = small }
+
+-- what is left behind a place is compared as std's slices are
+pub left_by : {a b : List ℕ} {i : ℕ} → Left Ordering order_of a b i → (o : Ordering)
+    → o ≡ slice_cmp nat_cmp (take (length a - i) (drop i a)) (take (length b - i) (drop i b)) → o ≡ order_of a b
+left_by {a} {b} {i} c o e = e ∙ ap₂ (slice_cmp nat_cmp) (rest_is a i) (rest_is b i) ∙ order_by_slices (drop i a) (drop i b) ∙ c.rest
+
+pub ruleset eight_laws = (left_start, eight_is, order_eight, left_by, rules)

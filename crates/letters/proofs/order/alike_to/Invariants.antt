@@ -1,0 +1,11 @@
+use Rattle.letters.specs.OrderContracts.{Left}
+use Rattle.std.specs.declared.cmp.Ordering.{Ordering}
+use Rattle.letters.specs.Order.{order_of}
+use Prim.Native.Nat.{◌-◌}
+use Rattle.letters.proofs.order.alike_to.Given as goal
+
+abbrev pub invariant-loop-i : goal.invariant-loop-i
+invariant-loop-i l = Left Ordering order_of l.a l.b l.i
+
+abbrev pub decreases-loop-i : goal.decreases-loop-i
+decreases-loop-i l = l.n - l.i
