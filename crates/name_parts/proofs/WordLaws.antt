@@ -2,7 +2,7 @@
 use mathlib.Core.Path.{◌≡◌, refl, sym, ap, ◌∙◌}
 use mathlib.Core.Bool.{false}
 use mathlib.Core.List.{List, [], ◌∷◌}
-use Prim.Native.Nat.{ℕ, zero, suc, ◌+◌, ◌-◌, ◌≤◌, ◌<◌}
+use Prim.Native.Nat.{ℕ, zero, suc, ◌+◌, ◌-◌, ◌≤◌, ◌<◌, min}
 use native.Mathlib.Nat.{add-sub_cancel_left}
 use native.Mathlib.Omega.{arith}
 use lib.Dec.{eqb, eqb-suc-zero, eqb-suc-suc}
@@ -10,6 +10,7 @@ use lib.ListN.{length, take, drop, drop_of_length-le, length-drop}
 use lib.Seq.{drop-drop, take-nil}
 use borrow.Author.Rules.{rules}
 use Rattle.base.specs.Pick.{pick}
+use Rattle.base.proofs.Stores.{rest_is}
 use mathlib.Core.Bool.{Bool, true, not, cond}
 use mathlib.Core.Logic.{⊎_elim}
 use native.Mathlib.Decide.{dec_le}
@@ -41,14 +42,21 @@ letters_is (b ∷ s) = over (eqb b 32) (letters_is s)
     over true e = refl
     over false e = omega arith
 
-module _ (s : List ℕ) (p n : ℕ) where
-  pub start_by : n ≡ length (take_while (λ b. eqb b 32) (drop p s)) → p + n ≡ word_start s p
-  unfolding word_start
-  start_by e = ap (λ (k : ℕ). p + k) (e ∙ length-prefix_len (λ b. eqb b 32) (drop p s) ∙ sym (spaces_is (drop p s)))
+-- what stands from a place on, as the code takes it
+pub from_is : (s : List ℕ) (p m : ℕ) → m ≡ min p (length s) → take (length s - m) (drop m s) ≡ drop p s
+from_is s p m e = rest_is s m ∙ elim (dec_le p (length s)) [
+  | yes k ↦ ap (λ (j : ℕ). drop j s) (omega arith)
+  | no k ↦ drop_of_length-le s (omega arith) ∙ sym (drop_of_length-le s (omega arith))
+]
 
-  pub end_by : n ≡ length (take_while (λ b. not (eqb b 32)) (drop p s)) → p + n ≡ word_end s p
+module _ (s : List ℕ) (p n : ℕ) (r : List ℕ) (q : r ≡ drop p s) where
+  pub start_by : n ≡ length (take_while (λ b. eqb b 32) r) → p + n ≡ word_start s p
+  unfolding word_start
+  start_by e = ap (λ (k : ℕ). p + k) (e ∙ ap (λ (l : List ℕ). length (take_while (λ b. eqb b 32) l)) q ∙ length-prefix_len (λ b. eqb b 32) (drop p s) ∙ sym (spaces_is (drop p s)))
+
+  pub end_by : n ≡ length (take_while (λ b. not (eqb b 32)) r) → p + n ≡ word_end s p
   unfolding word_end
-  end_by e = ap (λ (k : ℕ). p + k) (e ∙ length-prefix_len (λ b. not (eqb b 32)) (drop p s) ∙ sym (letters_is (drop p s)))
+  end_by e = ap (λ (k : ℕ). p + k) (e ∙ ap (λ (l : List ℕ). length (take_while (λ b. not (eqb b 32)) l)) q ∙ length-prefix_len (λ b. not (eqb b 32)) (drop p s) ∙ sym (letters_is (drop p s)))
 
 -- ---- the part where the word stands
 pub end_from : (s : List ℕ) (a e : ℕ) → e ≡ word_end s a → a ≤ e

@@ -1,13 +1,21 @@
 // Words of a name (01, Spelling a name, step 4), each shown as the part of the name where it stands.
-ghost use Rattle.std.specs.Prelude.{◌≡◌, MatchOption, length};
+ghost use Rattle.std.specs.Prelude.{◌≡◌, MatchOption, drop, length};
 ghost use Rattle.name_parts.specs.Words.{word_start, word_end, word_at, past_word, one_word};
+
+// What stands at p and behind it; nothing where s is shorter. `skip` would walk all bytes before p.
+#[tactic(auto, using(crate::proofs::WordLaws::from_is))]
+fn from(s: &[u8], p: usize) -> &[u8]
+    ensures { result.now ≡ drop p s.now }
+{
+    &s[p.min(s.len())..]
+}
 
 // The first place at or after p with no space, or the end.
 #[tactic(auto, using(crate::proofs::WordLaws::word_laws))]
 fn word_start(s: &[u8], p: usize) -> usize
     ensures { result ≡ word_start s.now p }
 {
-    p + s.iter().skip(p).take_while(|b| **b == b' ').count()
+    p + from(s, p).iter().take_while(|b| **b == b' ').count()
 }
 
 // The first place at or after p with a space, or the end.
@@ -15,7 +23,7 @@ fn word_start(s: &[u8], p: usize) -> usize
 fn word_end(s: &[u8], p: usize) -> usize
     ensures { result ≡ word_end s.now p }
 {
-    p + s.iter().skip(p).take_while(|b| **b != b' ').count()
+    p + from(s, p).iter().take_while(|b| **b != b' ').count()
 }
 
 // The next word at or after p: the part of s from its start up to the place behind it; empty where there is none.

@@ -1,6 +1,5 @@
 use Rattle.std.proofs.Common.{eqb, not, rules, tests}
 use Rattle.std.proofs.lemmas.Iterator.{YieldsList-from_slice}
-use Rattle.std.proofs.lemmas.Iterator.Adapters.{YieldsList-from_skip}
 use Rattle.std.proofs.lemmas.Iterator.Consumers.{count_from_yields_List}
 use Rattle.std.proofs.lemmas.Iterator.Search.{YieldsList-from_take_while}
 use Rattle.name_parts.proofs.WordLaws.{end_by}
@@ -8,6 +7,6 @@ use Rattle.name_parts.proofs.words.word_end.Goals as goal
 
 pub returns : goal.returns
 returns c =
-    end_by c.args.s.now c.args.p c.count.result
+    end_by c.args.s.now c.args.p c.count.result c.from.result.now c.from.ensures
     (count_from_yields_List c.take_while.result c.count.result c.count.ensures.ran
-    (YieldsList-from_take_while _ (λ b. not (eqb b 32)) (YieldsList-from_skip c.args.p (YieldsList-from_slice c.args.s.now cc) cc) c.take_while.ensures.closure c.take_while.ensures.done (λ x b q k. search (rules, tests))))
+    (YieldsList-from_take_while _ (λ b. not (eqb b 32)) (YieldsList-from_slice c.from.result.now cc) c.take_while.ensures.closure c.take_while.ensures.done (λ x b q k. search (rules, tests))))
