@@ -70,7 +70,7 @@ fn ask_next(low: usize, high: usize, count: usize) -> usize
 }
 
 // Where t stands among the texts, or where it would go, by halves: it stands behind those before `low`, and before those from `high` on.
-// Stays a loop by hand: it promises how many texts are asked, the last one first, and `binary_search_by` promises no number.
+// Stays a loop by hand: it asks the last text first, and nine at most by its measure; `binary_search_by` promises neither.
 #[tactic(auto, using(crate::proofs::FindLaws::find_laws))]
 pub(crate) fn find(store: &[u8], slots: &[u64], count: usize, t: &[u8]) -> Result<usize, usize>
     requires { IsSet store.now slots.now count }
@@ -89,14 +89,28 @@ pub(crate) fn find(store: &[u8], slots: &[u64], count: usize, t: &[u8]) -> Resul
     Err(low)
 }
 
+// Puts v at index p of the first n, and moves the others up by one. Not by `copy_within`, for which libbm.a would need C's `memmove`.
+#[tactic(auto, using(base::proofs::Opening::shift_laws))]
+fn insert_at(slots: &mut [u64], p: usize, n: usize, v: u64)
+    requires { (p ≤ n) × (n < length slots.old) }
+    ensures { take (n + 1) slots.new ≡ ins_at p v (take n slots.old) }
+{
+    let mut x = v;
+    for i in p..n {
+        let y = slots[i];
+        slots[i] = x;
+        x = y;
+    }
+    slots[n] = x;
+}
+
 // Puts the slot of a text in row n at index p of the first n, and moves the others up by one.
 #[tactic(auto, using(crate::proofs::EnterLaws::slot_small, crate::proofs::EnterLaws::inserted))]
 pub(crate) fn insert_text(slots: &mut [u64], p: usize, n: usize, langs: u64, long: usize)
     requires { InsertsText slots.old p n langs long }
     ensures { take (n + 1) slots.new ≡ ins_at p (slot_of langs n long) (take n slots.old) }
 {
-    slots.copy_within(p..n, p + 1);
-    slots[p] = packed(langs, n, long);
+    insert_at(slots, p, n, packed(langs, n, long));
 }
 
 // Enters the text of `long` bytes in the row behind the others; an equal text already there stays as it was: nothing is added to its
@@ -120,13 +134,15 @@ fn enter(store: &[u8], slots: &mut [u64], count: usize, long: usize, langs: u64)
     }
 }
 
-// Copies t into d from index at on.
-#[tactic(auto, using(crate::proofs::PutLaws::copied_over))]
+// Copies t into d from index at on. Not by `copy_from_slice`, for which libbm.a would need C's `memmove`.
+#[tactic(auto, using(crate::proofs::PutLaws::put_laws))]
 pub(crate) fn put(d: &mut [u8], at: usize, t: &[u8])
     requires { at + length t.now ≤ length d.old }
     ensures { d.new ≡ put d.old at t.now }
 {
-    d[at..at + t.len()].copy_from_slice(t);
+    for j in 0..t.len() {
+        d[at + j] = t[j];
+    }
 }
 
 // Writes the text of a and then b into row n.
@@ -151,7 +167,9 @@ fn add(store: &mut [u8], slots: &mut [u64], count: usize, a: &[u8], b: &[u8], la
     enter(store, slots, count, a.len() + b.len(), langs)
 }
 
-// The same in one of the four sets.
+// The same in one of the four sets. Never inlined: the copy of a text that its callers make would be joined with the one made here
+// to a call of C's `memmove`.
+#[inline(never)]
 #[tactic(auto, using(crate::proofs::PartLaws::grown))]
 pub(crate) fn add_to(
     store: &mut Store,
