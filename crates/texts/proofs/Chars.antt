@@ -89,8 +89,14 @@ module _ (k : ℕ) (small : k < 0x80) where
     byte_from zero p h = absurd (omega arith)
     byte_from (suc f) p h = byte_by p (decode_at s p) refl (λ q l. byte_from f q (omega arith))
 
-    pub has_byte : (r : Bool) → r ≡ list_any (λ x. eqb x k) s → r ≡ has k (codes_of s)
-    has_byte r e = e ∙ has_any k s ∙ sym (byte_from (suc (length s)) 0 (omega arith))
+    pub has_byte : (b n : ℕ) → b ≡ k → n ≡ place_of b s → ltb n (length s) ≡ has k (codes_of s)
+    unfolding has
+    has_byte b n e q = rw (q, e) (sym (byte_from (suc (length s)) 0 (omega arith)))
+
+    -- the same as `contains` tells it
+    pub byte_contained : (r : Bool) → r ≡ list_any (λ x. eqb x k) s → r ≡ has k (codes_of s)
+    unfolding has
+    byte_contained r e = e ∙ has_any k s ∙ has_byte k (place_of k s) refl refl
 
 -- ---- the characters of a box, as far as place p
 

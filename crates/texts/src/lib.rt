@@ -103,7 +103,7 @@ fn reads_char(l: &[u8], k: u32) -> bool
 }
 
 // Whether the character k is among those of l. One of a single byte is told by its bytes: no other character has that byte.
-#[tactic(auto, using(crate::proofs::Chars::has_byte))]
+#[tactic(auto, using(crate::proofs::Chars::byte_contained))]
 pub fn has_char(l: &[u8], k: u32) -> bool
     ensures { result ≡ has k (codes_of l.now) }
 {
