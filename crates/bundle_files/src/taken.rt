@@ -42,7 +42,7 @@ impl Place {
     }
 }
 
-#[derive(Drop)]
+#[derive(Clone, Copy)]
 pub struct Taken {
     store: [u8; ROOM],
     used: usize,
@@ -70,7 +70,7 @@ fn read_whole(rt: &HostRuntime, path: &[u8], name: &[u8], out: &mut [u8]) -> io:
     if out.len() < start {
         return Ok(out.len());
     }
-    let len = program_io::read_file(rt, path, &mut out[start..])?;
+    let len = program_io::read_file(rt, path, &mut out[start..]).map_err(|broken| broken.why)?;
     out[0] = (name.len() % 256) as u8;
     out[1..start - 4].copy_from_slice(name);
     out[start - 4..start].copy_from_slice(&(len as u64).to_be_bytes()[4..]);

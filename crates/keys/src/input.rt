@@ -1,12 +1,12 @@
 // Standard input, block by block. A line that is too long for the buffer is cut to a length that no name has.
-ghost use Rattle.std.specs.Prelude.{◌≡◌, ◌≤◌, ◌<◌, ◌-◌, length};
+ghost use Rattle.std.specs.Prelude.{◌≡◌, ◌≤◌, ◌<◌, ◌+◌, ◌-◌, length};
 
 // How many bytes the buffer holds.
 const ROOM: usize = 65536;
 
 // The bytes of the buffer from `from` up to `have` wait to be answered. `open` is false once the input has ended, and then only
 // whole lines wait.
-#[derive(Drop)]
+#[derive(Clone, Copy)]
 pub struct Input {
     buf: [u8; ROOM],
     from: usize,
@@ -49,8 +49,10 @@ fn skip(rt: &HostRuntime, buf: &mut [u8]) -> usize
 }
 
 impl Input {
-    // Before the first block.
-    pub fn new() -> Self {
+    // Before the first block: nothing waits.
+    pub fn new() -> Self
+        ensures { result.have ≡ 0 }
+    {
         Input {
             buf: program_io::zeros(),
             from: 0,
@@ -74,12 +76,16 @@ impl Input {
     // Passes over bytes that are answered.
     pub fn pass(&mut self, n: usize)
         requires { n ≤ self.old.have - self.old.from }
+        ensures from { self.new.from ≡ self.old.from + n }
+        ensures kept { self.new.have ≡ self.old.have }
     {
         self.from += n;
     }
 
     // Nothing waits any more, and nothing comes.
-    pub fn end(&mut self) {
+    pub fn end(&mut self)
+        ensures { self.new.have ≡ self.new.from }
+    {
         self.have = self.from;
         self.open = false;
     }

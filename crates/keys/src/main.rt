@@ -75,7 +75,7 @@ fn run(rt: &HostRuntime, call: Call, path: &[u8]) {
     let mut pack = [0u8; 49153];
     match program_io::read_file(rt, path, &mut pack) {
         Ok(have) => answer(rt, call, &pack[..have]),
-        Err(why) => failure::unreadable(rt, path, why),
+        Err(broken) => failure::unreadable(rt, path, broken.why),
     }
 }
 

@@ -50,7 +50,7 @@ fn run(rt: &HostRuntime, name_type: u32, path: &[u8]) {
     match program_io::read_file(rt, path, &mut bundle) {
         Ok(have) if have <= ROOM => answer(rt, name_type, &bundle[..have]),
         Ok(_) => words::too_large(rt, path),
-        Err(why) => words::unreadable(rt, path, why),
+        Err(broken) => words::unreadable(rt, path, broken.why),
     }
 }
 

@@ -1,5 +1,5 @@
 // Whole files.
-ghost use Rattle.std.specs.Prelude.{◌≤◌, length, IfOk, MatchResult};
+ghost use Rattle.std.specs.Prelude.{◌≤◌, length, MatchResult};
 
 use std::io::{Error, ErrorKind, Read};
 use std::rt::Files;
@@ -42,11 +42,11 @@ fn open<R: Files>(files: &R, path: &[u8]) -> io::Result<R::File> {
 }
 
 // Reads a file, as far as buf goes, and answers how many bytes buf then holds.
-pub fn read_file(files: &impl Files, path: &[u8], buf: &mut [u8]) -> io::Result<usize>
-    ensures { IfOk result (λ n. n ≤ length buf.new) }
+pub fn read_file(files: &impl Files, path: &[u8], buf: &mut [u8]) -> Result<usize, Broken>
+    ensures { MatchResult result (λ n. n ≤ length buf.new) (λ e. e.have ≤ length buf.new) }
 {
-    let mut file = open(files, path)?;
-    fill(&mut file, buf).map_err(|broken| broken.why)
+    let mut file = open(files, path).map_err(|why| Broken { have: 0, why })?;
+    fill(&mut file, buf)
 }
 
 // Makes a file of these bytes, or puts them in the place of those that it has.

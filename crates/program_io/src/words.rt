@@ -8,9 +8,10 @@ use std::{io, str};
 // Whether descriptor 3 is open for writing: the last digit of its flags is how it was opened, and 0 is for reading.
 fn is_listened_to(files: &impl Files) -> bool {
     let mut info = [0u8; 256];
-    let Ok(n) = read_file(files, b"/proc/self/fdinfo/3", &mut info) else {
-        return false;
-    };
+    // what stands before a failed read counts too
+    let n = read_file(files, b"/proc/self/fdinfo/3", &mut info).unwrap_or_else(
+        |broken| broken.have,
+    );
     str::from_utf8(&info[..n]).is_ok_and(|text| {
         text.lines()
             .any(|line| line.starts_with("flags:") && !line.ends_with('0'))
