@@ -9,7 +9,7 @@ const BLOCK: usize = 65536;
 pub const LINE: usize = 200001;
 
 // The block's bytes from `at` up to `have` are still to be read.
-#[derive(Drop)]
+#[derive(Clone, Copy)]
 pub struct Input<'a> {
     rt: &'a HostRuntime,
     block: [u8; BLOCK],

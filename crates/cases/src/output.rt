@@ -5,6 +5,9 @@ use std::fmt::Display;
 // How much waits at most before a text is put behind it.
 const MUCH: usize = 32768;
 
+// The digits of hex.
+const DIGITS: [u8; 16] = *b"0123456789abcdef";
+
 #[derive(Drop)]
 pub struct Output<'a> {
     rt: &'a HostRuntime,
@@ -37,11 +40,22 @@ impl<'a> Output<'a> {
         self.waiting.print(n);
     }
 
-    // Puts the text of a value, once there is room for it.
-    pub(crate) fn put(&mut self, value: impl Display + Drop) {
+    // Writes out what waits once it is much.
+    fn make_room(&mut self) {
         if self.waiting.len() >= MUCH {
             self.flush();
         }
+    }
+
+    // Puts the text of a value, once there is room for it.
+    pub(crate) fn put(&mut self, value: impl Display + Drop) {
+        self.make_room();
         self.waiting.print(value);
+    }
+
+    // Puts a byte in hex, once there is room for it: through `put` it takes many times as long.
+    pub(crate) fn put_hex(&mut self, b: u8) {
+        self.make_room();
+        self.waiting.push(&[DIGITS[usize::from(b / 16)], DIGITS[usize::from(b % 16)]]);
     }
 }

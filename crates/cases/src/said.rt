@@ -94,7 +94,7 @@ impl Output<'_> {
             self.put("-");
         }
         for b in s {
-            self.put(format_args!("{b:02x}"));
+            self.put_hex(*b);
         }
     }
 
