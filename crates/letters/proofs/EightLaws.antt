@@ -1,23 +1,23 @@
 -- Texts that are alike as far as index i, and on by as many bytes as one number tells: eight bytes that are the same number are the same. Assumes nothing.
-use mathlib.Core.Path.{◌≡◌, refl, sym, ap₂, ◌∙◌}
+use mathlib.Core.Path.{◌≡◌, refl, sym, ◌∙◌}
 use mathlib.Core.List.{List, ◌∷◌}
-use Prim.Native.Nat.{ℕ, zero, suc, ◌+◌, ◌*◌, ◌-◌, ◌≤◌, ◌<◌, min, zero-le}
+use Prim.Native.Nat.{ℕ, zero, suc, ◌+◌, ◌*◌, ◌≤◌, ◌<◌, min, zero-le}
 use native.Mathlib.Numerals.{add-one, add-one-le, unary_clauses}
+use native.Mathlib.Decide.{dec_lt}
 use native.Mathlib.Omega.{arith}
 use mir.Syntax.{w8}
 use mir.Val.{Fits}
-use lib.ListN.{length, take, drop, get_or}
+use lib.ListN.{length, drop, get_or, drop_of_length-le}
 use lib.Seq.{drop-cons}
 use borrow.Author.Rules.{rules}
 use borrow.Author.Tests.{le-ltb}
 use Rattle.base.specs.Pick.{pick}
 use Rattle.letters.specs.Order.{order_of}
 use Rattle.letters.specs.OrderContracts.{Left, EightIs, low_first}
-use Rattle.base.proofs.Stores.{rest_is}
 use Rattle.std.specs.declared.cmp.Ordering.{Ordering}
+use Rattle.std.specs.declared.cmp.Ordering.TheVariants.{Less, Equal, Greater}
 use Rattle.std.specs.Ordering.{nat_cmp}
-use Rattle.std.specs.Cmp.Lexicographic.{slice_cmp}
-use Rattle.letters.proofs.OrderLaws.{order_by_slices}
+use Rattle.std.proofs.lemmas.Bool.Decides.{nat_tests}
 
 module _ {A : Type 0} {f : List ℕ → List ℕ → A} {a b : List ℕ} where
   pub left_start : Left A f a b 0
@@ -68,9 +68,48 @@ pub eight_is : {s : List ℕ} {i x₀ x₁ x₂ x₃ x₄ x₅ x₆ x₇ : ℕ} 
 unfolding low_first
 eight_is {s} {i} small e₀ e₁ e₂ e₃ e₄ e₅ e₆ e₇ = record { is = simp (unary_clauses, e₀, e₁, e₂, e₃, e₄, e₅, e₆, e₇); small = small }
 
--- what is left behind a place is compared as std's slices are
-pub left_by : {a b : List ℕ} {i : ℕ} → Left Ordering order_of a b i → (o : Ordering)
-    → o ≡ slice_cmp nat_cmp (take (length a - i) (drop i a)) (take (length b - i) (drop i b)) → o ≡ order_of a b
-left_by {a} {b} {i} c o e = e ∙ ap₂ (slice_cmp nat_cmp) (rest_is a i) (rest_is b i) ∙ order_by_slices (drop i a) (drop i b) ∙ c.rest
+-- two bytes that differ decide, whatever follows
+unlike_by : (x y : ℕ) (xs ys : List ℕ) → (x ≡ y → ⊥) → nat_cmp x y ≡ order_of (x ∷ xs) (y ∷ ys)
+unfolding order_of pick
+unlike_by x y xs ys u = grind (arith, nat_tests, u)
 
-pub ruleset eight_laws = (left_start, eight_is, order_eight, left_by, rules)
+module _ {a b : List ℕ} {i : ℕ} (c : Left Ordering order_of a b i) (n : ℕ) (e : n ≡ min (length a) (length b)) where
+  pub order_unlike : i < n → (get_or a i 0 ≡ get_or b i 0 → ⊥) → (r : Ordering) → r ≡ nat_cmp (get_or a i 0) (get_or b i 0) → r ≡ order_of a b
+  order_unlike h u r q =
+      let ha = order_a a b n e i h in
+      let hb = order_b a b n e i h in
+      q ∙ unlike_by (get_or a i 0) (get_or b i 0) (drop (suc i) a) (drop (suc i) b) u ∙ rw (drop-cons a i 0, drop-cons b i 0) at c.rest
+
+  module _ (h : n ≤ i) where
+    pub order_long : length b < length a → Greater ≡ order_of a b
+    unfolding order_of
+    order_long l =
+        let ha : i < length a = omega (arith, c.in_b) in
+        let hb : length b ≤ i = omega arith in
+        rw (drop-cons a i 0, drop_of_length-le b hb) at c.rest
+
+    pub order_short : length a < length b → Less ≡ order_of a b
+    unfolding order_of
+    order_short l =
+        let ha : length a ≤ i = omega arith in
+        let hb : i < length b = omega (arith, c.in_a) in
+        rw (drop_of_length-le a ha, drop-cons b i 0) at c.rest
+
+    pub order_end : length a ≤ length b → length b ≤ length a → Equal ≡ order_of a b
+    unfolding order_of
+    order_end l m =
+        let ha : length a ≤ i = omega arith in
+        let hb : length b ≤ i = omega arith in
+        rw (drop_of_length-le a ha, drop_of_length-le b hb) at c.rest
+
+    -- where one text ends the lengths decide
+    pub order_over : (r : Ordering) → r ≡ nat_cmp (length a) (length b) → r ≡ order_of a b
+    order_over r q = q ∙ elim (dec_lt (length a) (length b)) [
+      | yes l ↦ let s = order_short l in grind (arith, nat_tests, s)
+      | no l ↦ elim (dec_lt (length b) (length a)) [
+        | yes m ↦ let s = order_long m in grind (arith, nat_tests, s)
+        | no m ↦ let s = order_end (omega arith) (omega arith) in grind (arith, nat_tests, s)
+      ]
+    ]
+
+pub ruleset eight_laws = (left_start, eight_is, order_eight, order_next, order_unlike, order_over, rules)

@@ -50,9 +50,13 @@ fn alike_to(a: &[u8], b: &[u8], n: usize) -> usize
 pub fn compare(a: &[u8], b: &[u8]) -> Ordering
     ensures { result ≡ order_of a.now b.now }
 {
-    let i = alike_to(a, b, a.len().min(b.len()));
-    let (rest_of_a, rest_of_b) = (&a[i..], &b[i..]);
-    rest_of_a.cmp(&rest_of_b)
+    let n = a.len().min(b.len());
+    for i in alike_to(a, b, n)..n {
+        if a[i] != b[i] {
+            return a[i].cmp(&b[i]);
+        }
+    }
+    a.len().cmp(&b.len())
 }
 
 // Whether a and b are the same bytes.
